@@ -1,0 +1,5 @@
+pub mod Limits
+pub mod Words
+pub mod Refusals
+pub mod Upto
+pub mod Readers

@@ -1,0 +1,4 @@
+pub mod Form
+pub mod Legal
+pub mod Answers
+pub mod Steps

@@ -1,0 +1,12 @@
+// A sheet: its rows, its reader, the label of a row, and the check of its ranges.
+mod labels;
+mod legal;
+mod reader;
+mod row;
+
+pub use labels::label;
+pub use legal::is_legal;
+pub use reader::read;
+pub use reader::Reading;
+pub use row::Row;
+pub use row::Sheet;
