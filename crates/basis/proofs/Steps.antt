@@ -1,7 +1,7 @@
 -- Laws of steps: what is known where readers that follow each other accept, and of a step of which a part is told.
 -- Assumes nothing.
 use Prim.Native.Nat.{ℕ, _+_, _≤_, _<_}
-use mathlib.Core.Path.{_≡_, refl, ap₂}
+use mathlib.Core.Path.{_≡_, refl, sym, ap, ap₂, _∙_}
 use mathlib.Core.Bool.{Bool, true, false}
 use mathlib.Core.List.{List}
 use native.Mathlib.Omega.{arith}
@@ -68,6 +68,10 @@ pub marked-ok : (bs s : List ℕ) (at : ℕ) (u : Unit {0}) (n : ℕ) → marked
 marked-ok bs s at u n e =
     let (t, e₁) = step-passed (ok tt (length bs)) 1 0 (begins bs s) e in
     (t, cc)
+
+-- what a call answered, where its promise gives the step that it answers and a match has told which answer it was
+pub got : {R A : Type 0} (f : R → Step A) {r r′ : R} {x : Step A} → f r ≡ x → r ≡ r′ → x ≡ f r′
+got f e q = sym e ∙ ap f q
 
 -- what a told step says of the step
 pub told-ok : {A B : Type 0} (f : A → B) (x : Step A) {b : B} {n : ℕ} → told f x ≡ ok b n → (a : A) × (x ≡ ok a n) × (f a ≡ b)

@@ -1,37 +1,37 @@
--- A label of an accepted sheet: where its bytes are.
+-- A label of an accepted sheet: where its bytes are, and what the function that looks for it has shown.
+-- Assumes nothing.
 use Prim.Native.Nat.{ℕ, zero, suc, _+_, _-_, _≤_, _<_}
 use mathlib.Core.Path.{_≡_, refl, sym, ap, ap₂, _∙_}
 use mathlib.Core.List.{List, [], _∷_, map}
 use mathlib.Core.Bool.{Bool, true, false}
 use native.Mathlib.Omega.{arith}
 use native.Mathlib.Nat.{not-suc-le-zero, le-of-suc-le-suc}
-use lib.ListN.{length, getD, take, drop, length-map, List·getD-eq-default}
-use lib.Dec.{leb, ltb}
-use borrow.Author.Tests.{leb-true, le-leb}
-use Rattle.basis.specs.Readers.{Step, ok, refuse, after, told}
+use lib.ListN.{length, getD, take, drop}
+use lib.Dec.{ltb}
+use borrow.Author.Tests.{lt-ltb, le-ltb}
+use Rattle.basis.specs.Limits.{longestLabel, mostSeparation}
 use Rattle.basis.specs.Words.{pick}
-use Rattle.numbers.specs.Numbers.{upTo}
-use Rattle.basis.proofs.Steps.{never-ok, after-ok, ok-same}
-use Rattle.sheet.specs.Form.{Entry, Held, plain, label, entry, entries, body, sheet, labelHead}
-use Rattle.basis.specs.Readers.{marked, end, enough}
-use Rattle.basis.specs.Limits.{longestLabel, mostProcessors, mostRows, mostSeparation}
-use Rattle.sheet.specs.Answers.{labelOf, labelIn, reading}
+use Rattle.basis.specs.Refusals.{Outcome, accepted, refused, outcome}
+use Rattle.basis.specs.Readers.{Step, ok, refuse, after, enough, end}
 use Rattle.basis.specs.declared.refusal.Refusal.the-variants.{Accepted, Refused}
-use Rattle.sheet.proofs.Plain.{Part, plain-ok}
+use Rattle.basis.proofs.Steps.{never-ok, after-ok, ok-same, enough-ok}
+use Rattle.numbers.specs.Numbers.{upTo}
+use Rattle.sheet.specs.Form.{Entry, Held, plain, label, entry, entries, body, Head, head, sheet, labelHead}
+use Rattle.sheet.specs.Answers.{answer, handed, reading, Part, nowhere, rowsRead, partAfter, labelIn}
+use Rattle.sheet.specs.declared.reader.Reading.{Reading}
+use Rattle.sheet.proofs.Plain.{Plainly, plain-ok}
+
+-- the label of an entry
+abbrev pub labelOf : Entry → List ℕ
+labelOf e = e .label
 
 -- a label's length was read first, and its bytes are a part of the sheet's
-record Lies (s : List ℕ) (at : ℕ) (bs : List ℕ) : Type 0 where
+pub record Lies (s : List ℕ) (at : ℕ) (bs : List ℕ) : Type 0 where
   pub start : ℕ
   pub head : upTo longestLabel 6 6 s at ≡ ok (length bs) start
+  pub read : plain (length bs) s start ≡ ok bs (start + length bs)
   pub inside : start + length bs ≤ length s
   pub bytes : bs ≡ take (length bs) (drop start s)
-
-pub enough-ok : (k : ℕ) (s : List ℕ) (at : ℕ) (u : Unit {0}) (n : ℕ) → enough k s at ≡ ok u n → (at + k ≤ length s) × (at ≡ n)
-enough-ok k s at u n e = go (leb (at + k) (length s)) refl e
-  where
-    go : (t : Bool) → leb (at + k) (length s) ≡ t → pick t (ok tt at) (refuse 2 (length s)) ≡ ok u n → (at + k ≤ length s) × (at ≡ n)
-    go true et e₁ = (leb-true (at + k) (length s) et, cc)
-    go false et e₁ = absurd (never-ok refl e₁)
 
 label-lies : (s : List ℕ) (at : ℕ) (bs : List ℕ) (n : ℕ) → label s at ≡ ok bs n → Lies s at bs
 unfolding label
@@ -43,6 +43,7 @@ label-lies s at bs n e =
     record {
       start = st;
       head = e₁ ∙ ap (λ (j : ℕ). ok j st) (sym (r .long));
+      read = ap₂ (λ (i : ℕ) (j : ℕ). plain i s j) (r .long) em ∙ e₄ ∙ ap (ok bs) (omega (arith, r .next, r .long));
       inside = omega (arith, r .long);
       bytes = r .bytes ∙ ap₂ (λ (i : ℕ) (j : ℕ). take i (drop j s)) (sym (r .long)) (sym em);
     }
@@ -84,68 +85,66 @@ entries-length m (suc n) s at es f e =
     let (same, _) = ok-same e₄ in
     ap length (sym same) ∙ ap suc (entries-length m n s q gs l e₃)
 
--- a label that is found in an accepted sheet
-record Found (s : List ℕ) (i : ℕ) (h : Held) : Type 0 where
-  pub start : ℕ
-  pub long : ℕ
-  pub head : labelHead i s 0 ≡ ok long start
-  pub inside : start + long ≤ length s
-  pub bytes : getD (map labelOf (h .entries)) i [] ≡ take long (drop start s)
+-- a sheet that was read, by its parts
+pub record Whole (s : List ℕ) (h : Held) : Type 0 where
+  pub top : Head
+  pub from : ℕ
+  pub to : ℕ
+  pub before : head s 0 ≡ ok top from
+  pub all : entries (top .processors) (top .count) s from ≡ ok (h .entries) to
+  pub done : (u : Unit {0}) × (z : ℕ) × (end s to ≡ ok u z)
+  pub wide : top .processors ≡ h .processors
+  pub many : top .count ≡ length (h .entries)
 
-found : (s : List ℕ) (i : ℕ) (h : Held) (n : ℕ) → sheet s 0 ≡ ok h n → i < length (h .entries) → Found s i h
-unfolding sheet body labelHead
-found s i h n e l =
-    after-ok (mark s 0) _ e λ u z m₁ m₂.
-    after-ok (upTo mostProcessors 4 4 s z) _ m₂ λ m a e₁ e₂.
-    after-ok (upTo mostRows 5 5 s a) _ e₂ λ k b e₃ e₄.
-    after-ok (entries m k s b) _ e₄ λ es d e₅ e₆.
-    after-ok (end s d) _ e₆ λ v w e₇ e₈.
-    let (same, _) = ok-same e₈ in
-    let esame : es ≡ h .entries = ap (λ (x : Held). x .entries) same in
-    let (fs, p, x, q, f₁, f₂, f₃) = entries-at m k i s b es d e₅ (omega (arith, entries-length m k s b es d e₅, ap length esame)) in
-    let (c, lab) = entry-label m s p x q f₂ in
-    let r = label-lies s p (labelOf x) c lab in
+pub whole : (s : List ℕ) (h : Held) (n : ℕ) → sheet s 0 ≡ ok h n → Whole s h
+unfolding sheet body
+whole s h n e =
+    after-ok (head s 0) _ e λ top from e₁ e₂.
+    after-ok (entries (top .processors) (top .count) s from) _ e₂ λ es to e₃ e₄.
+    after-ok (end s to) _ e₄ λ u z e₅ e₆.
+    let (same, _) = ok-same e₆ in
+    let entries-same : es ≡ h .entries = ap (λ (x : Held). x .entries) same in
     record {
-      start = r .start;
-      long = length (labelOf x);
-      head = simp (m₁, e₁, e₃, f₁) (r .head);
-      inside = r .inside;
-      bytes = ap (λ (y : List Entry). getD (map labelOf y) i []) (sym esame) ∙ f₃ ∙ r .bytes;
+      top = top;
+      from = from;
+      to = to;
+      before = e₁;
+      all = e₃ ∙ ap (λ (x : List Entry). ok x to) entries-same;
+      done = (u, z, e₅);
+      wide = ap (λ (x : Held). x .processors) same;
+      many = sym (entries-length _ _ _ _ _ _ e₃) ∙ ap length entries-same;
     }
 
--- no label past the last row
-none-there : (h : Held) (n i : ℕ) → length (h .entries) ≤ i → labelIn (ok h n) i ≡ []
-none-there h n i l = List·getD-eq-default (map labelOf (h .entries)) [] (omega (arith, length-map (h .entries) labelOf))
+-- a label that is found in an accepted sheet
+pub record Found (s : List ℕ) (i : ℕ) (h : Held) : Type 0 where
+  pub at : ℕ
+  pub label : List ℕ
+  pub is : getD (map labelOf (h .entries)) i [] ≡ label
+  pub lies : Lies s at label
+  pub head : labelHead i s 0 ≡ ok (length label) (lies .start)
 
--- a sheet that is accepted
-accepted : {R : Type 0} (x : Step Held) → reading x .refusal ≡ Accepted → ((h : Held) (n : ℕ) → x ≡ ok h n → R) → R
-accepted (ok h n) e k = k h n refl
-accepted (refuse j p) e k = let z : _≡_ {A = ℕ} 0 1 = cc in absurd (omega arith)
+pub found : (s : List ℕ) (i : ℕ) (h : Held) (n : ℕ) → sheet s 0 ≡ ok h n → i < length (h .entries) → Found s i h
+unfolding labelHead
+found s i h n e l =
+    let w = whole s h n e in
+    let (fs, p, x, q, f₁, f₂, f₃) = entries-at (w .top .processors) (w .top .count) i s (w .from) (h .entries) (w .to) (w .all) (omega (arith, w .many)) in
+    let (c, lab) = entry-label (w .top .processors) s p x q f₂ in
+    let r = label-lies s p (labelOf x) c lab in
+    record { at = p; label = labelOf x; is = f₃; lies = r; head = simp (w .before, f₁) (r .head) }
 
--- what is answered, by what was read and what was found
-module _ (s : List ℕ) (i : ℕ) where
-  pub label-refused : (k p : ℕ) → reading (sheet s 0) .refusal ≡ Refused k p → labelIn (sheet s 0) i ≡ []
-  label-refused k p e = go (sheet s 0) e
+-- what is known of the rows where the reader has answered
+module _ (s : List ℕ) (r : Reading) (e : answer r ≡ reading s) where
+  pub rows-none : (k p : ℕ) → r .refusal ≡ Refused k p → rowsRead (sheet s 0) ≡ 0
+  rows-none k p q = go (sheet s 0) (sym (ap outcome q) ∙ ap (λ (a : Outcome × _). a .0) e)
     where
-      go : (x : Step Held) → reading x .refusal ≡ Refused k p → labelIn x i ≡ []
-      go (ok h n) e₁ = let z : _≡_ {A = ℕ} 0 1 = cc in absurd (omega arith)
-      go (refuse j q) e₁ = refl
+      go : (x : Step Held) → refused k p ≡ handed x .0 → rowsRead x ≡ 0
+      go (ok h n) z = let y : _≡_ {A = ℕ} 0 1 = cc in absurd (omega arith)
+      go (refuse j q) z = refl
 
-  module _ (yes : reading (sheet s 0) .refusal ≡ Accepted) where
-    pub label-past : reading (sheet s 0) .sheet .count ≤ i → labelIn (sheet s 0) i ≡ []
-    label-past l =
-        accepted (sheet s 0) yes λ h n e.
-        ap (λ (x : Step Held). labelIn x i) e ∙ none-there h n i (rw e at l)
-
-    pub label-there : (k st : ℕ) → i < reading (sheet s 0) .sheet .count → labelHead i s 0 ≡ ok k st → (st + k ≤ length s) × (take k (drop st s) ≡ labelIn (sheet s 0) i)
-    label-there k st l g =
-        accepted (sheet s 0) yes λ h n e.
-        let f = found s i h n e (rw e at l) in
-        let (ek, es) = ok-same (sym g ∙ f .head) in (
-          omega (arith, f .inside),
-          ap₂ (λ (a : ℕ) (b : ℕ). take a (drop b s)) ek es ∙ sym (f .bytes) ∙ ap (λ (x : Step Held). labelIn x i) (sym e),
-        )
-
-    pub label-must : (k p : ℕ) → i < reading (sheet s 0) .sheet .count → labelHead i s 0 ≡ refuse k p → ⊥
-    label-must k p l g =
-        accepted (sheet s 0) yes λ h n e. never-ok g (found s i h n e (rw e at l) .head)
+  -- the sheet that was read
+  pub read-so : {R : Type 0} → r .refusal ≡ Accepted → ((h : Held) (n : ℕ) → sheet s 0 ≡ ok h n → length (h .entries) ≡ r .sheet .count → R) → R
+  read-so {R} q k = go (sheet s 0) refl (sym (ap outcome q) ∙ ap (λ (a : Outcome × _). a .0) e) (ap (λ (a : Outcome × _). a .1 .count) e)
+    where
+      go : (x : Step Held) → sheet s 0 ≡ x → accepted ≡ handed x .0 → r .sheet .count ≡ handed x .1 .count → R
+      go (ok h n) es z c = k h n es (sym c)
+      go (refuse j p) es z c = let y : _≡_ {A = ℕ} 0 1 = cc in absurd (omega arith)

@@ -1,6 +1,7 @@
 pub mod Found
-pub mod Goods
+pub mod Heads
 pub mod Plain
 pub mod Legality
 pub mod Rows
+pub mod Shown
 pub mod Skips

@@ -44,12 +44,12 @@ module _ (s : List ℕ) (at end : ℕ) where
       ap (λ (k : ℕ). told nothing (plain k s at)) e ∙ ap (ok tt) (omega arith)
 
 -- the bytes that were read
-pub record Part (s : List ℕ) (at k : ℕ) (bs : List ℕ) (n : ℕ) : Type 0 where
+pub record Plainly (s : List ℕ) (at k : ℕ) (bs : List ℕ) (n : ℕ) : Type 0 where
   pub next : n ≡ at + k
   pub long : length bs ≡ k
   pub bytes : bs ≡ take k (drop at s)
 
-pub plain-ok : (k : ℕ) (s : List ℕ) (at : ℕ) (bs : List ℕ) (n : ℕ) → plain k s at ≡ ok bs n → Part s at k bs n
+pub plain-ok : (k : ℕ) (s : List ℕ) (at : ℕ) (bs : List ℕ) (n : ℕ) → plain k s at ≡ ok bs n → Plainly s at k bs n
 unfolding plain
 plain-ok zero s at bs n e =
     let eb : [] ≡ bs = cc in

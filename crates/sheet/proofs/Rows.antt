@@ -13,10 +13,10 @@ use Rattle.basis.proofs.Steps.{told-ok, told-no}
 use Rattle.sheet.specs.Form.{Entry, entry, entries, body}
 use Rattle.basis.specs.Limits.{mostRows}
 use Rattle.sheet.specs.Form.{rowOf}
-use Rattle.sheet.specs.Answers.{noRows, filled, reading}
+use Rattle.sheet.specs.Answers.{noRows, filled, handed}
 use Rattle.sheet.specs.declared.row.Row.{Row}
-use Rattle.sheet.specs.declared.reader.Reading.{Reading}
-use Rattle.basis.specs.declared.refusal.Refusal.the-variants.{Accepted}
+use Rattle.sheet.specs.declared.row.Sheet.{Sheet}
+use Rattle.basis.specs.Refusals.{Outcome, accepted}
 
 pub rowsOf : List Entry → List Row
 rowsOf es = map rowOf es
@@ -53,6 +53,10 @@ rows-no m k s at f p h = simp (told-no rowOf (entry m s at) h)
 rows-none : (m : ℕ) (s : List ℕ) (at : ℕ) → told rowsOf (entries m 0 s at) ≡ ok [] at
 unfolding entries told rowsOf
 rows-none m s at = refl
+
+-- an accepted answer
+answered : ℕ → ℕ → List Row → Outcome × Sheet
+answered m k rs = (accepted, record { processors = m; count = k; rows = rs })
 
 -- the loop's state: i rows of n are in arr, and next is the place of the next
 pub record Filled (m n : ℕ) (s : List ℕ) (at : ℕ) (arr : List Row) (next i : ℕ) : Type 0 where
@@ -119,11 +123,10 @@ module _ (m n : ℕ) (s : List ℕ) (at : ℕ) (arr : List Row) (next i : ℕ) (
   body-over h l = simp (told-ok rowsOf (entries m n s at) (all-read h) .1, lt-ltb _ _ l)
 
   -- a whole body
-  pub body-whole : n ≤ i → length s ≤ next → reading (body m n s at) ≡ record { refusal = Accepted; sheet = record { processors = m; count = n; rows = arr } }
-  unfolding body rowsOf
+  pub body-whole : n ≤ i → length s ≤ next → handed (body m n s at) ≡ (accepted, record { processors = m; count = n; rows = arr })
+  unfolding body rowsOf answered
   body-whole h l =
       let (es, ee, er) = told-ok rowsOf (entries m n s at) (all-read h) in
       let count : length es ≡ n =
       sym (length-map es rowOf) ∙ ap length er ∙ length-take-le i arr (omega (arith, f .long, f .within)) ∙ omega (arith, f .within) in
-      simp (ee, le-ltb _ _ l)
-      (ap₂ (λ (k : ℕ) (rs : List Row). record { refusal = Accepted; sheet = record { processors = m; count = k; rows = rs } }) count (ap filled er ∙ whole h))
+      simp (ee, le-ltb _ _ l) (ap₂ (answered m) count (ap filled er ∙ whole h))

@@ -74,19 +74,28 @@ body m n = do
   end
   give (record { processors = m; entries = es })
 
--- A whole sheet: mark, processors, number of rows, the rows.
-unfoldable pub sheet : Reader Held
-sheet = do
+-- What stands before the rows.
+pub record Head : Type 0 where
+  pub processors : ℕ
+  pub count : ℕ
+
+-- The mark, processors m, rows n.
+unfoldable pub head : Reader Head
+head = do
   marked markBytes
   m ← upTo mostProcessors 4 4
   n ← upTo mostRows 5 5
-  body m n
+  give (record { processors = m; count = n })
+
+-- A whole sheet.
+unfoldable pub sheet : Reader Held
+sheet = do
+  h ← head
+  body (h .processors) (h .count)
 
 -- The length of row i's label, before its first byte: what stands after the rows above it.
 unfoldable pub labelHead : ℕ → Reader ℕ
 labelHead i = do
-  marked markBytes
-  m ← upTo mostProcessors 4 4
-  n ← upTo mostRows 5 5
-  entries m i
+  h ← head
+  entries (h .processors) i
   upTo longestLabel 6 6

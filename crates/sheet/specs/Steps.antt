@@ -2,6 +2,9 @@
 use Prim.Native.Nat.{ℕ}
 use mathlib.Core.List.{List}
 use Rattle.basis.specs.Readers.{Step, ok, refuse}
+use Rattle.sheet.specs.Form.{Head}
+use Rattle.sheet.specs.declared.head.HeadRead.{HeadRead}
+use Rattle.sheet.specs.declared.head.HeadRead.the-variants as head-variants
 use Rattle.sheet.specs.declared.row.Row.{Row}
 use Rattle.sheet.specs.declared.row.Passed.{Passed}
 use Rattle.sheet.specs.declared.row.Passed.the-variants as passed-variants
@@ -17,6 +20,11 @@ passedStep (passed-variants.Refused number place) = refuse number place
 abbrev pub rowStep : RowRead → Step Row
 rowStep (row-variants.Is r n) = ok r n
 rowStep (row-variants.Refused number place) = refuse number place
+
+-- The step that reading what stands before the rows stands for.
+abbrev pub headStep : HeadRead → Step Head
+headStep (head-variants.Is m n next) = ok (record { processors = m; count = n }) next
+headStep (head-variants.Refused number place) = refuse number place
 
 -- Nothing of a value.
 abbrev pub nothing : {A : Type 0} → A → Unit {0}

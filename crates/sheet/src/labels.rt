@@ -6,11 +6,10 @@ ghost use Rattle.sheet.specs.Form.{entries, labelHead};
 ghost use Rattle.sheet.specs.Steps.{passedStep, nothing};
 ghost use Rattle.sheet.specs.Answers.{shown, part, labelIn};
 use basis::LONGEST_LABEL;
-use basis::MOST_PROCESSORS;
-use basis::MOST_ROWS;
 use basis::Refusal;
+use crate::head::read_head;
+use crate::head::HeadRead;
 use crate::reader::read;
-use crate::reader::MARK;
 use crate::row::read_row;
 use crate::row::Passed;
 use crate::row::RowRead;
@@ -40,19 +39,12 @@ fn skip_rows(bytes: &[u8], at: usize, processors: u64, count: usize) -> Passed
 fn find_label(bytes: &[u8], row: usize) -> Number
     ensures { λ r. ⌜ step r ≡ labelHead row (now (bytes .entry)) 0 ⌝ }
 {
-    if basis::begins_with(bytes, &MARK) {
-        match numbers::read_up_to(bytes, 4, MOST_PROCESSORS, 4, 4) {
-            Number::Refused(k, p) => Number::Refused(k, p),
-            Number::Is(processors, a) => match numbers::read_up_to(bytes, a, MOST_ROWS as u64, 5, 5) {
-                Number::Refused(k, p) => Number::Refused(k, p),
-                Number::Is(_, b) => match skip_rows(bytes, b, processors, row) {
-                    Passed::Refused(k, p) => Number::Refused(k, p),
-                    Passed::To(d) => numbers::read_up_to(bytes, d, LONGEST_LABEL, 6, 6),
-                },
-            },
-        }
-    } else {
-        Number::Refused(1, 0)
+    match read_head(bytes) {
+        HeadRead::Refused(k, p) => Number::Refused(k, p),
+        HeadRead::Is(processors, _, next) => match skip_rows(bytes, next, processors, row) {
+            Passed::Refused(k, p) => Number::Refused(k, p),
+            Passed::To(at) => numbers::read_up_to(bytes, at, LONGEST_LABEL, 6, 6),
+        },
     }
 }
 

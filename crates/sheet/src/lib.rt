@@ -1,4 +1,5 @@
 // A sheet: its rows, its reader, the label of a row, and the check of its ranges.
+mod head;
 mod labels;
 mod legal;
 mod reader;

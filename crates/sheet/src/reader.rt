@@ -5,17 +5,14 @@ ghost use Rattle.basis.specs.Limits.{mostRows};
 ghost use Rattle.basis.specs.Readers.{refuse};
 ghost use Rattle.sheet.specs.Form.{body};
 ghost use Rattle.sheet.specs.Answers.{answer, handed, reading};
-use basis::MOST_PROCESSORS;
 use basis::MOST_ROWS;
 use basis::Refusal;
+use crate::head::read_head;
+use crate::head::HeadRead;
 use crate::row::read_row;
 use crate::row::Row;
 use crate::row::RowRead;
 use crate::row::Sheet;
-use numbers::Number;
-
-// The sheet's mark.
-pub(crate) const MARK: [u8; 4] = *b"GSH\x01";
 
 // What the reader answers: accepted with the sheet, or refused with a sheet of zeros beside it.
 pub struct Reading {
@@ -88,15 +85,8 @@ fn read_body(bytes: &[u8], at: usize, processors: u64, count: u64) -> Reading
 pub fn read(bytes: &[u8]) -> Reading
     ensures { λ r. ⌜ answer r ≡ reading (now (bytes .entry)) ⌝ }
 {
-    if basis::begins_with(bytes, &MARK) {
-        match numbers::read_up_to(bytes, 4, MOST_PROCESSORS, 4, 4) {
-            Number::Refused(k, p) => refused(k, p),
-            Number::Is(processors, a) => match numbers::read_up_to(bytes, a, MOST_ROWS as u64, 5, 5) {
-                Number::Refused(k, p) => refused(k, p),
-                Number::Is(count, b) => read_body(bytes, b, processors, count),
-            },
-        }
-    } else {
-        refused(1, 0)
+    match read_head(bytes) {
+        HeadRead::Refused(k, p) => refused(k, p),
+        HeadRead::Is(processors, count, next) => read_body(bytes, next, processors, count),
     }
 }

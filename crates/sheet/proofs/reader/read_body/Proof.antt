@@ -2,7 +2,7 @@ use borrow.Author.Needs.{needs}
 use native.Mathlib.Omega.{arith}
 use Prim.Native.Nat.{_-_}
 use mathlib.Core.Path.{_≡_, refl, sym, ap, _∙_}
-use Rattle.sheet.specs.Answers.{reading}
+use Rattle.sheet.specs.Answers.{handed}
 use Rattle.sheet.specs.Steps.{rowStep}
 use Rattle.sheet.proofs.Rows.{Filled, none-yet, one-more, row-no, body-over, body-whole}
 use Rattle.sheet.proofs.reader.read_body.Statement.{statement}
@@ -32,7 +32,7 @@ returns c =
     let turn = k .before .before .before in
     let l = turn .before in
     c .refused .ensures
-    ∙ ap reading (sym (row-no _ _ _ _ _ _ _ (l .before .before .pre) (l .loop .inv .0) _ _ (search needs) (sym (k .before .before .read-row .ensures) ∙ ap rowStep (k .k .given .1))))
+    ∙ ap handed (sym (row-no _ _ _ _ _ _ _ (l .before .before .pre) (l .loop .inv .0) _ _ (search needs) (sym (k .before .before .read-row .ensures) ∙ ap rowStep (k .k .given .1))))
 
 enum-known-r : tie.Need-enum-known-r Inv-loop μ-loop
 enum-known-r c = search needs
@@ -62,7 +62,7 @@ refused-requires-2 c κs = search needs
 returns-2 : tie.Need-returns-2 Inv-loop μ-loop
 returns-2 c =
     let l = c .before .before .before in
-    c .refused2 .ensures ∙ ap reading (sym (body-over _ _ _ _ _ _ _ (l .before .before .pre) (l .loop .inv .0) (search needs) (c .before .if1 .taken)))
+    c .refused2 .ensures ∙ ap handed (sym (body-over _ _ _ _ _ _ _ (l .before .before .pre) (l .loop .inv .0) (search needs) (c .before .if1 .taken)))
 
 returns-3 : tie.Need-returns-3 Inv-loop μ-loop
 returns-3 c =

@@ -4,11 +4,11 @@ use native.Mathlib.Nat.{add-sub-cancel-left}
 use mathlib.Core.Path.{_≡_, sym, ap, _∙_}
 use denote.Ref.{now}
 use borrow.Author.Tests.{le-leb, lt-leb}
+
 use Rattle.basis.specs.Readers.{ok, told}
-use Rattle.numbers.specs.Numbers.{upTo}
-use Rattle.numbers.proofs.Answers.{got}
+use Rattle.numbers.specs.Numbers.{step, upTo}
 use Rattle.numbers.proofs.Bounds.{bounded}
-use Rattle.basis.proofs.Steps.{told-ok, told-no}
+use Rattle.basis.proofs.Steps.{got, told-ok, told-no}
 use Rattle.sheet.specs.Form.{plain, label}
 use Rattle.basis.specs.Limits.{longestLabel}
 use Rattle.sheet.specs.Steps.{passedStep, nothing}
@@ -27,7 +27,7 @@ enum-known-count c = search needs
 
 -- the length was read
 counted : (c : tie.After-count) → upTo longestLabel 6 6 (now (c .before .before .before .before .args .bytes)) (c .before .before .before .before .args .at) ≡ ok (c .count .given .0 .0) (c .count .given .0 .1 .0)
-counted c = got (c .before .before .read-up-to .ensures) (c .count .given .1)
+counted c = got step (c .before .before .read-up-to .ensures) (c .count .given .1)
 
 add-end : tie.Need-add-end
 add-end c = omega (arith, bounded longestLabel 6 6 _ _ _ _ (counted (c .before)))
@@ -47,7 +47,7 @@ enum-known-next c = search needs
 
 returns-2 : tie.Need-returns-2
 unfolding label told
-returns-2 c = simp (got (c .before .before .before .read-up-to .ensures) (c .before .k .given .1))
+returns-2 c = simp (got step (c .before .before .before .read-up-to .ensures) (c .before .k .given .1))
 
 returns-3 : tie.Need-returns-3
 unfolding label told

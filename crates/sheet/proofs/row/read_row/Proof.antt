@@ -1,8 +1,8 @@
 use borrow.Author.Needs.{needs}
 use lib.ListN.{length}
+use Rattle.numbers.specs.Numbers.{step}
 use Rattle.basis.specs.Readers.{told}
-use Rattle.numbers.proofs.Answers.{got}
-use Rattle.basis.proofs.Steps.{told-ok, told-no}
+use Rattle.basis.proofs.Steps.{got, told-ok, told-no}
 use Rattle.sheet.specs.Form.{label, entry}
 use Rattle.sheet.proofs.row.read_row.Statement.{statement}
 use Rattle.sheet.proofs.row.read_row.Tie as tie
@@ -57,7 +57,7 @@ unfolding entry told
 returns c =
     let v0 = c .before in
     simp (
-    told-no length (label _ _) (got (v0 .before .before .read-label .ensures) (v0 .k .given .1))
+    told-no length (label _ _) (got step (v0 .before .before .read-label .ensures) (v0 .k .given .1))
     )
 
 returns-2 : tie.Need-returns-2
@@ -66,8 +66,8 @@ returns-2 c =
     let v1 = c .before in
     let v0 = v1 .before .before .before .before in
     simp (
-      told-ok length (label _ _) (got (v0 .before .before .read-label .ensures) (v0 .a .given .1)) .1,
-      got (v1 .before .before .read-up-to .ensures) (v1 .k2 .given .1),
+      told-ok length (label _ _) (got step (v0 .before .before .read-label .ensures) (v0 .a .given .1)) .1,
+      got step (v1 .before .before .read-up-to .ensures) (v1 .k2 .given .1),
     )
 
 returns-3 : tie.Need-returns-3
@@ -77,9 +77,9 @@ returns-3 c =
     let v1 = v2 .before .before .before .before in
     let v0 = v1 .before .before .before .before in
     simp (
-      told-ok length (label _ _) (got (v0 .before .before .read-label .ensures) (v0 .a .given .1)) .1,
-      got (v1 .before .before .read-up-to .ensures) (v1 .threads .given .1),
-      got (v2 .before .before .read-up-to2 .ensures) (v2 .k3 .given .1),
+      told-ok length (label _ _) (got step (v0 .before .before .read-label .ensures) (v0 .a .given .1)) .1,
+      got step (v1 .before .before .read-up-to .ensures) (v1 .threads .given .1),
+      got step (v2 .before .before .read-up-to2 .ensures) (v2 .k3 .given .1),
     )
 
 returns-4 : tie.Need-returns-4
@@ -90,10 +90,10 @@ returns-4 c =
     let v1 = v2 .before .before .before .before in
     let v0 = v1 .before .before .before .before in
     simp (
-      told-ok length (label _ _) (got (v0 .before .before .read-label .ensures) (v0 .a .given .1)) .1,
-      got (v1 .before .before .read-up-to .ensures) (v1 .threads .given .1),
-      got (v2 .before .before .read-up-to2 .ensures) (v2 .separation .given .1),
-      got (v3 .before .before .read-up-to3 .ensures) (v3 .k4 .given .1),
+      told-ok length (label _ _) (got step (v0 .before .before .read-label .ensures) (v0 .a .given .1)) .1,
+      got step (v1 .before .before .read-up-to .ensures) (v1 .threads .given .1),
+      got step (v2 .before .before .read-up-to2 .ensures) (v2 .separation .given .1),
+      got step (v3 .before .before .read-up-to3 .ensures) (v3 .k4 .given .1),
     )
 
 returns-5 : tie.Need-returns-5
@@ -105,11 +105,11 @@ returns-5 c =
     let v1 = v2 .before .before .before .before in
     let v0 = v1 .before .before .before .before in
     simp (
-      told-ok length (label _ _) (got (v0 .before .before .read-label .ensures) (v0 .a .given .1)) .1,
-      got (v1 .before .before .read-up-to .ensures) (v1 .threads .given .1),
-      got (v2 .before .before .read-up-to2 .ensures) (v2 .separation .given .1),
-      got (v3 .before .before .read-up-to3 .ensures) (v3 .deadline .given .1),
-      got (v4 .before .before .read-up-to4 .ensures) (v4 .k5 .given .1),
+      told-ok length (label _ _) (got step (v0 .before .before .read-label .ensures) (v0 .a .given .1)) .1,
+      got step (v1 .before .before .read-up-to .ensures) (v1 .threads .given .1),
+      got step (v2 .before .before .read-up-to2 .ensures) (v2 .separation .given .1),
+      got step (v3 .before .before .read-up-to3 .ensures) (v3 .deadline .given .1),
+      got step (v4 .before .before .read-up-to4 .ensures) (v4 .k5 .given .1),
     )
 
 returns-6 : tie.Need-returns-6
@@ -121,11 +121,11 @@ returns-6 c =
     let v1 = v2 .before .before .before .before in
     let v0 = v1 .before .before .before .before in
     simp (
-      told-ok length (label _ _) (got (v0 .before .before .read-label .ensures) (v0 .a .given .1)) .1,
-      got (v1 .before .before .read-up-to .ensures) (v1 .threads .given .1),
-      got (v2 .before .before .read-up-to2 .ensures) (v2 .separation .given .1),
-      got (v3 .before .before .read-up-to3 .ensures) (v3 .deadline .given .1),
-      got (v4 .before .before .read-up-to4 .ensures) (v4 .budget .given .1),
+      told-ok length (label _ _) (got step (v0 .before .before .read-label .ensures) (v0 .a .given .1)) .1,
+      got step (v1 .before .before .read-up-to .ensures) (v1 .threads .given .1),
+      got step (v2 .before .before .read-up-to2 .ensures) (v2 .separation .given .1),
+      got step (v3 .before .before .read-up-to3 .ensures) (v3 .deadline .given .1),
+      got step (v4 .before .before .read-up-to4 .ensures) (v4 .budget .given .1),
     )
 
 pub read-row-spec : {M : Type 1} → statement M
