@@ -3,6 +3,7 @@ pub mod Marks
 pub mod Refusals
 pub mod Steps
 pub mod Sums
+pub mod Tame
 pub mod Tests
 pub mod Upto
 pub mod Words

@@ -1,0 +1,147 @@
+-- Tame readers: how far a reader goes and how far it looks, that its refusals are the table's, and that what it does not look at does not count.
+-- Assumes nothing.
+use Prim.Native.Nat.{ℕ, zero, suc, _+_, _≤_, _<_}
+use mathlib.Core.Path.{_≡_, refl, sym, ap, ap₂, _∙_}
+use mathlib.Core.Bool.{Bool, true, false}
+use mathlib.Core.List.{List, [], _∷_}
+use native.Mathlib.Omega.{arith}
+use lib.ListN.{length, getD}
+use lib.Dec.{ltb, leb, eqb}
+use borrow.Author.Tests.{lt-ltb, le-leb}
+use Rattle.basis.specs.Words.{pick, both}
+use Rattle.basis.specs.Readers.{Step, ok, refuse, Reader, after, _>>=_, give, enough, end, begins, marked}
+use Rattle.basis.proofs.Steps.{never-ok, ok-same, refuse-same, after-ok, step-passed, enough-ok, end-ok, marked-ok}
+use Rattle.basis.proofs.Words.{both-left, both-right}
+
+-- a refusal of the bytes s: a number from 1 to 9 and a place in them, which is 0 for 1 and the length for 2
+pub record Listed (s : List ℕ) (number place : ℕ) : Type 0 where
+  pub at-least : 1 ≤ number
+  pub at-most : number ≤ 9
+  pub inside : place ≤ length s
+  pub one : number ≡ 1 → place ≡ 0
+  pub two : number ≡ 2 → place ≡ length s
+
+-- two inputs have l bytes or more, and the first l are the same
+pub record Agree (l : ℕ) (s t : List ℕ) : Type 0 where
+  pub left : l ≤ length s
+  pub right : l ≤ length t
+  pub same : (i : ℕ) → i < l → getD s i 0 ≡ getD t i 0
+
+-- r looks at b bytes at most and goes on by c at most
+pub record Tame {A : Type 0} (r : Reader A) (b c : ℕ) : Type 0 where
+  pub ends : (s : List ℕ) (at : ℕ) (a : A) (n : ℕ) → at ≤ length s → r s at ≡ ok a n → (n ≤ at + c) × (n ≤ length s)
+  pub refuses : (s : List ℕ) (at k p : ℕ) → at ≤ length s → r s at ≡ refuse k p → Listed s k p
+  pub alike : (l : ℕ) (s t : List ℕ) → Agree l s t → (at : ℕ) → at + b ≤ l → r s at ≡ r t at
+
+-- a number that is not 1 or 2, at a place in the bytes
+pub listed : (s : List ℕ) (k p : ℕ) → 3 ≤ k → k ≤ 9 → p ≤ length s → Listed s k p
+listed s k p a b c = record { at-least = omega arith; at-most = b; inside = c; one = λ e. absurd (omega arith); two = λ e. absurd (omega arith) }
+
+-- the bytes end
+pub listed-two : (s : List ℕ) → Listed s 2 (length s)
+listed-two s = record { at-least = omega arith; at-most = omega arith; inside = omega arith; one = λ e. absurd (omega arith); two = λ e. refl }
+
+pub listed-as : (s : List ℕ) {k p j q : ℕ} → k ≡ j → p ≡ q → Listed s k p → Listed s j q
+listed-as s e f r = record {
+  at-least = omega (arith, r .at-least);
+  at-most = omega (arith, r .at-most);
+  inside = omega (arith, r .inside);
+  one = λ g. omega (arith, r .one (omega arith));
+  two = λ g. omega (arith, r .two (omega arith));
+}
+
+-- a step that is refused where a test fails
+pub refused-listed : {A : Type 0} (s : List ℕ) (x : Step A) (t : Bool) (j q : ℕ) {k p : ℕ} → Listed s j q → (t ≡ true → x ≡ refuse k p → Listed s k p)
+    → pick t x (refuse j q) ≡ refuse k p → Listed s k p
+refused-listed s x true j q h f e = f refl e
+refused-listed s x false j q h f e = let (a, b) = refuse-same e in listed-as s a b h
+
+pub tame-give : {A : Type 0} (a : A) → Tame (give a) 0 0
+tame-give a = record {
+  ends = λ s at x n l e. let (_, en) = ok-same e in (omega arith, omega arith);
+  refuses = λ s at k p l e. absurd (never-ok e refl);
+  alike = λ l s t h at k. refl;
+}
+
+pub tame-more : {A : Type 0} {r : Reader A} {b c : ℕ} (b′ c′ : ℕ) → b ≤ b′ → c ≤ c′ → Tame r b c → Tame r b′ c′
+tame-more b′ c′ h k T = record {
+  ends = λ s at a n l e. let (x, y) = T .ends s at a n l e in (omega arith, y);
+  refuses = T .refuses;
+  alike = λ l s t g at j. T .alike l s t g at (omega arith);
+}
+
+-- one reader after another
+module _ {A B : Type 0} (r : Reader A) (f : A → Reader B) {b c b′ c′ : ℕ} (T : Tame r b c)
+    (U : (s : List ℕ) (at : ℕ) (a : A) (n : ℕ) → at ≤ length s → r s at ≡ ok a n → Tame (f a) b′ c′) (h : b ≤ c + b′) where
+  then-refuses : (s : List ℕ) (at k p : ℕ) → at ≤ length s → (x : Step A) → r s at ≡ x → after x (λ a n. f a s n) ≡ refuse k p → Listed s k p
+  then-refuses s at k p l (ok a n) e q = U s at a n l e .refuses s n k p (T .ends s at a n l e .1) q
+  then-refuses s at k p l (refuse j i) e q = let (ek, ep) = refuse-same q in T .refuses s at k p l (e ∙ ap₂ (λ (x : ℕ) (y : ℕ). refuse x y) ek ep)
+
+  then-alike : (l : ℕ) (s t : List ℕ) → Agree l s t → (at : ℕ) → at + (c + b′) ≤ l → (x : Step A) → r s at ≡ x → r t at ≡ x
+      → after x (λ a n. f a s n) ≡ after x (λ a n. f a t n)
+  then-alike l s t g at k (ok a n) e q =
+      let i : at ≤ length s = omega (arith, g .left) in
+      U s at a n i e .alike l s t g n (omega (arith, T .ends s at a n i e .0))
+  then-alike l s t g at k (refuse j p) e q = refl
+
+  pub tame-then : Tame (r >>= f) (c + b′) (c + c′)
+  tame-then = record {
+    ends = λ s at z n l e.
+        after-ok (r s at) _ e λ a m e₁ e₂.
+        let (x, y) = T .ends s at a m l e₁ in
+        let (u, v) = U s at a m l e₁ .ends s m z n y e₂ in
+        (omega arith, v);
+    refuses = λ s at k p l e. then-refuses s at k p l (r s at) refl e;
+    alike = λ l s t g at k.
+        let e : r s at ≡ r t at = T .alike l s t g at (omega arith) in
+        then-alike l s t g at k (r s at) refl (sym e) ∙ ap (λ (x : Step A). after x (λ a n. f a t n)) e;
+  }
+
+pub tame-enough : (k : ℕ) → Tame (enough k) k 0
+tame-enough k = record {
+  ends = λ s at u n l e. let (h, en) = enough-ok k s at u n e in (omega arith, omega arith);
+  refuses = λ s at j p l e. refused-listed s (ok tt at) (leb (at + k) (length s)) 2 (length s) (listed-two s) (λ t q. absurd (never-ok q refl)) e;
+  alike = λ l s t g at h. simp (le-leb (at + k) (length s) (omega (arith, g .left)), le-leb (at + k) (length t) (omega (arith, g .right)));
+}
+
+end-place : (at : ℕ) (t : Bool) {u : Unit {0}} {n : ℕ} → pick t (refuse 9 at) (ok (tt {0}) at) ≡ ok u n → at ≡ n
+end-place at true q = absurd (never-ok refl q)
+end-place at false q = ok-same q .1
+
+end-refuses : (s : List ℕ) (at k p : ℕ) → at ≤ length s → (t : Bool) → pick t (refuse 9 at) (ok (tt {0}) at) ≡ refuse k p → Listed s k p
+end-refuses s at k p l true e = let (a, b) = refuse-same {A = Unit {0}} e in listed-as s a b (listed s 9 at (omega arith) (omega arith) l)
+end-refuses s at k p l false e = absurd (never-ok e refl)
+
+pub tame-end : Tame end 1 0
+tame-end = record {
+  ends = λ s at u n l e. let en = end-place at (ltb at (length s)) e in (omega arith, omega arith);
+  refuses = λ s at k p l e. end-refuses s at k p l (ltb at (length s)) e;
+  alike = λ l s t g at h. simp (lt-ltb at (length s) (omega (arith, g .left)), lt-ltb at (length t) (omega (arith, g .right)));
+}
+
+-- a mark that is there is whole, and depends on its own bytes alone
+pub begins-long : (bs s : List ℕ) → begins bs s ≡ true → length bs ≤ length s
+unfolding begins
+begins-long [] s e = omega arith
+begins-long (b ∷ bs) [] e = let z : _≡_ {A = ℕ} 0 1 = cc in absurd (omega arith)
+begins-long (b ∷ bs) (x ∷ s) e = omega (arith, begins-long bs s (both-right (eqb x b) (begins bs s) e))
+
+begins-alike : (bs s t : List ℕ) → length bs ≤ length s → length bs ≤ length t → ((i : ℕ) → i < length bs → getD s i 0 ≡ getD t i 0) → begins bs s ≡ begins bs t
+unfolding begins
+begins-alike [] s t h k e = refl
+begins-alike (b ∷ bs) [] t h k e = absurd (omega arith)
+begins-alike (b ∷ bs) (x ∷ s) [] h k e = absurd (omega arith)
+begins-alike (b ∷ bs) (x ∷ s) (y ∷ t) h k e =
+    ap₂ both (ap (λ (z : ℕ). eqb z b) (e 0 (omega arith))) (begins-alike bs s t (omega arith) (omega arith) (λ i l. e (suc i) (omega arith)))
+
+pub tame-marked : (bs : List ℕ) → Tame (marked bs) (length bs) (length bs)
+tame-marked bs = record {
+  ends = λ s at u n l e. let (is, en) = marked-ok bs s at u n e in (omega arith, omega (arith, begins-long bs s is));
+  refuses = λ s at k p l e. refused-listed s (ok tt (length bs)) (begins bs s) 1 0 (first s) (λ t q. absurd (never-ok q refl)) e;
+  alike = λ l s t g at h.
+      ap (λ (x : Bool). pick x (ok tt (length bs)) (refuse 1 0))
+      (begins-alike bs s t (omega (arith, g .left)) (omega (arith, g .right)) (λ i k. g .same i (omega arith)));
+}
+  where
+    first : (s : List ℕ) → Listed s 1 0
+    first s = record { at-least = omega arith; at-most = omega arith; inside = omega arith; one = λ e. refl; two = λ e. absurd (omega arith) }
