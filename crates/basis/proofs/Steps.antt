@@ -64,6 +64,9 @@ end-ok s at u n e =
     let (t, _) = step-not-stopped (ok tt at) 9 at (ltb at (length s)) e in
     ltb-false at (length s) t
 
+pub end-stays : (s : List ℕ) (at : ℕ) (u : Unit {0}) (n : ℕ) → end s at ≡ ok u n → at ≡ n
+end-stays s at u n e = ok-same (step-not-stopped (ok tt at) 9 at (ltb at (length s)) e .1) .1
+
 pub marked-ok : (bs s : List ℕ) (at : ℕ) (u : Unit {0}) (n : ℕ) → marked bs s at ≡ ok u n → (begins bs s ≡ true) × (length bs ≡ n)
 marked-ok bs s at u n e =
     let (t, e₁) = step-passed (ok tt (length bs)) 1 0 (begins bs s) e in

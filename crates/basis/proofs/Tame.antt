@@ -9,8 +9,8 @@ use lib.ListN.{length, getD}
 use lib.Dec.{ltb, leb, eqb}
 use borrow.Author.Tests.{lt-ltb, le-leb}
 use Rattle.basis.specs.Words.{pick, both}
-use Rattle.basis.specs.Readers.{Step, ok, refuse, Reader, after, _>>=_, give, enough, end, begins, marked}
-use Rattle.basis.proofs.Steps.{never-ok, ok-same, refuse-same, after-ok, step-passed, enough-ok, end-ok, marked-ok}
+use Rattle.basis.specs.Readers.{Step, ok, refuse, Reader, after, _>>=_, give, refuse-at, here, byte, enough, end, begins, marked}
+use Rattle.basis.proofs.Steps.{never-ok, ok-same, refuse-same, after-ok, passed, byte-ok, enough-ok, end-stays, marked-ok}
 use Rattle.basis.proofs.Words.{both-left, both-right}
 
 -- a refusal of the bytes s: a number from 1 to 9 and a place in them, which is 0 for 1 and the length for 2
@@ -104,17 +104,13 @@ tame-enough k = record {
   alike = λ l s t g at h. simp (le-leb (at + k) (length s) (omega (arith, g .left)), le-leb (at + k) (length t) (omega (arith, g .right)));
 }
 
-end-place : (at : ℕ) (t : Bool) {u : Unit {0}} {n : ℕ} → pick t (refuse 9 at) (ok (tt {0}) at) ≡ ok u n → at ≡ n
-end-place at true q = absurd (never-ok refl q)
-end-place at false q = ok-same q .1
-
 end-refuses : (s : List ℕ) (at k p : ℕ) → at ≤ length s → (t : Bool) → pick t (refuse 9 at) (ok (tt {0}) at) ≡ refuse k p → Listed s k p
 end-refuses s at k p l true e = let (a, b) = refuse-same {A = Unit {0}} e in listed-as s a b (listed s 9 at (omega arith) (omega arith) l)
 end-refuses s at k p l false e = absurd (never-ok e refl)
 
 pub tame-end : Tame end 1 0
 tame-end = record {
-  ends = λ s at u n l e. let en = end-place at (ltb at (length s)) e in (omega arith, omega arith);
+  ends = λ s at u n l e. let en = end-stays s at u n e in (omega arith, omega arith);
   refuses = λ s at k p l e. end-refuses s at k p l (ltb at (length s)) e;
   alike = λ l s t g at h. simp (lt-ltb at (length s) (omega (arith, g .left)), lt-ltb at (length t) (omega (arith, g .right)));
 }
@@ -145,3 +141,43 @@ tame-marked bs = record {
   where
     first : (s : List ℕ) → Listed s 1 0
     first s = record { at-least = omega arith; at-most = omega arith; inside = omega arith; one = λ e. refl; two = λ e. absurd (omega arith) }
+
+pub tame-byte : Tame byte 1 1
+tame-byte = record {
+  ends = λ s at b n l e. let (h, _, en) = byte-ok s at b n e in (omega arith, omega arith);
+  refuses = λ s at k p l e. refused-listed s (ok (getD s at 0) (at + 1)) (ltb at (length s)) 2 (length s) (listed-two s) (λ t q. absurd (never-ok q refl)) e;
+  alike = λ l s t g at h. simp (lt-ltb at (length s) (omega (arith, g .left)), lt-ltb at (length t) (omega (arith, g .right)), g .same at (omega arith));
+}
+
+-- a choice between readers, each of which does not tell two inputs apart
+pub pick-alike : {A : Type 0} (b : Bool) (r q : Reader A) (s t : List ℕ) (n : ℕ) → r s n ≡ r t n → q s n ≡ q t n → pick b r q s n ≡ pick b r q t n
+pick-alike true r q s t n e f = e
+pick-alike false r q s t n e f = f
+
+-- a byte that is tested, refused by j at its place, and followed by a reader
+module _ {A : Type 0} (test : ℕ → Bool) (r : ℕ → Reader A) (j : ℕ) {b c : ℕ} (U : (x : ℕ) → Tame (r x) b c) (low : 3 ≤ j) (high : j ≤ 9) where
+  tested-refuses : (s : List ℕ) (at k p : ℕ) → at ≤ length s → (y : Step ℕ) → byte s at ≡ y → after y (λ x n. pick (test x) (r x) (refuse-at j at) s n) ≡ refuse k p → Listed s k p
+  tested-refuses s at k p l (ok x n) e q = go (test x) q
+    where
+      go : (t : Bool) → pick t (r x) (refuse-at j at) s n ≡ refuse k p → Listed s k p
+      go true q₁ = U x .refuses s n k p (tame-byte .ends s at x n l e .1) q₁
+      go false q₁ = let (ek, ep) = refuse-same q₁ in listed-as s ek ep (listed s j at low high l)
+  tested-refuses s at k p l (refuse i n) e q = let (ek, ep) = refuse-same {A = A} q in listed-as s ek ep (tame-byte .refuses s at i n l e)
+
+  pub tame-tested : Tame (here >>= (λ place. byte >>= (λ x. pick (test x) (r x) (refuse-at j place)))) (1 + b) (1 + c)
+  tame-tested = record {
+    ends = λ s at a n l e.
+        after-ok (byte s at) _ e λ x m e₁ e₂.
+        let (_, e₃) = passed (r x) j at s m (test x) e₂ in
+        let (g, h) = tame-byte .ends s at x m l e₁ in
+        let (u, v) = U x .ends s m a n h e₃ in
+        (omega arith, v);
+    refuses = λ s at k p l e. tested-refuses s at k p l (byte s at) refl e;
+    alike = λ l s t g at k.
+        let x : ℕ = getD t at 0 in
+        let es : byte s at ≡ ok x (at + 1) = simp (lt-ltb at (length s) (omega (arith, g .left)), g .same at (omega arith)) in
+        let et : byte t at ≡ ok x (at + 1) = simp (lt-ltb at (length t) (omega (arith, g .right))) in
+        ap (λ (y : Step ℕ). after y (λ z n. pick (test z) (r z) (refuse-at j at) s n)) es
+        ∙ pick-alike (test x) (r x) (refuse-at j at) s t (at + 1) (U x .alike l s t g (at + 1) (omega arith)) refl
+        ∙ sym (ap (λ (y : Step ℕ). after y (λ z n. pick (test z) (r z) (refuse-at j at) t n)) et);
+  }

@@ -14,7 +14,7 @@ use Rattle.basis.specs.Limits.{mostGroups}
 use Rattle.basis.specs.Words.{pick}
 use Rattle.basis.specs.Readers.{Step, ok, refuse, Reader, after, _>>=_, byte, refuse-at, give}
 use Rattle.basis.proofs.Steps.{never-ok, ok-same, refuse-same}
-use Rattle.basis.proofs.Tame.{Listed, Agree, Tame, listed, listed-two, listed-as}
+use Rattle.basis.proofs.Tame.{Listed, Agree, Tame, listed, listed-two, listed-as, pick-alike}
 use Rattle.basis.proofs.Words.{lt-or-le}
 use Rattle.numbers.specs.Numbers.{groups, number, upTo, spelt, spell, width}
 use Rattle.numbers.proofs.Laws.{one-less, ends, over, low, last, more}
@@ -99,10 +99,6 @@ groups-refuses (suc g) first least s at k p l e =
     several ih (refuse j i) e₁ q = let (a, b) = refuse-same {A = ℕ} q in listed-as s (sym a) (sym b) (ih j i e₁)
 
 -- ---- what it looks at
-
-pick-alike : {A : Type 0} (b : Bool) (r q : Reader A) (s t : List ℕ) (n : ℕ) → r s n ≡ r t n → q s n ≡ q t n → pick b r q s n ≡ pick b r q t n
-pick-alike true r q s t n e f = e
-pick-alike false r q s t n e f = f
 
 groups-alike : (g first least l : ℕ) (s t : List ℕ) → Agree l s t → (at : ℕ) → at + g ≤ l → groups g first least s at ≡ groups g first least t at
 unfolding groups

@@ -14,7 +14,7 @@ use Rattle.basis.specs.Words.{pick}
 use Rattle.basis.specs.Refusals.{Outcome, accepted, refused, outcome}
 use Rattle.basis.specs.Readers.{Step, ok, refuse, after, enough, end}
 use Rattle.basis.specs.declared.refusal.Refusal.the-variants.{Accepted, Refused}
-use Rattle.basis.proofs.Steps.{never-ok, after-ok, ok-same, enough-ok}
+use Rattle.basis.proofs.Steps.{never-ok, after-ok, ok-same, enough-ok, end-ok, end-stays}
 use Rattle.numbers.specs.Numbers.{upTo}
 use Rattle.sheet.specs.Form.{Entry, Held, plain, label, entry, entries, body, Head, head, sheet, labelHead}
 use Rattle.sheet.specs.Answers.{answer, handed, reading, Part, nowhere, rowsRead, partAfter, labelIn}
@@ -114,6 +114,16 @@ whole s h n e =
       wide = ap (λ (x : Held). x .processors) same;
       many = sym (entries-length _ _ _ _ _ _ e₃) ∙ ap length entries-same;
     }
+
+-- it ends where its bytes end
+pub whole-length : (s : List ℕ) (h : Held) (n : ℕ) → sheet s 0 ≡ ok h n → length s ≤ n
+unfolding sheet body
+whole-length s h n e =
+    after-ok (head s 0) _ e λ top from e₁ e₂.
+    after-ok (entries (top .processors) (top .count) s from) _ e₂ λ es to e₃ e₄.
+    after-ok (end s to) _ e₄ λ u z e₅ e₆.
+    let (_, en) = ok-same e₆ in
+    omega (arith, end-ok s to u z e₅, end-stays s to u z e₅)
 
 -- a label that is found in an accepted sheet
 pub record Found (s : List ℕ) (i : ℕ) (h : Held) : Type 0 where
