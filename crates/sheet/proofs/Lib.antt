@@ -1,7 +1,12 @@
+pub mod Accepted
+pub mod Answered
+pub mod Cases
+pub mod Entries
 pub mod Found
 pub mod Heads
-pub mod Plain
 pub mod Legality
+pub mod Naming
+pub mod Plain
 pub mod Reach
 pub mod Rows
 pub mod Shown

@@ -1,9 +1,6 @@
+-- `read_row` meets its promise: each way out is a law of `entry`. Assumes nothing.
 use borrow.Author.Needs.{needs}
-use lib.ListN.{length}
-use Rattle.numbers.specs.Numbers.{step}
-use Rattle.basis.specs.Readers.{told}
-use Rattle.basis.proofs.Steps.{got, told-ok, told-no}
-use Rattle.sheet.specs.Form.{label, entry}
+use Rattle.sheet.proofs.Entries.{no-label, no-threads, no-separation, no-deadline, no-budget, whole-row}
 use Rattle.sheet.proofs.row.read_row.Statement.{statement}
 use Rattle.sheet.proofs.row.read_row.Tie as tie
 
@@ -53,80 +50,22 @@ enum-known-budget : tie.Need-enum-known-budget
 enum-known-budget c = search needs
 
 returns : tie.Need-returns
-unfolding entry told
-returns c =
-    let v0 = c .before in
-    simp (
-    told-no length (label _ _) (got step (v0 .before .before .read-label .ensures) (v0 .k .given .1))
-    )
+returns c = search no-label
 
 returns-2 : tie.Need-returns-2
-unfolding entry told
-returns-2 c =
-    let v1 = c .before in
-    let v0 = v1 .before .before .before .before in
-    simp (
-      told-ok length (label _ _) (got step (v0 .before .before .read-label .ensures) (v0 .a .given .1)) .1,
-      got step (v1 .before .before .read-up-to .ensures) (v1 .k2 .given .1),
-    )
+returns-2 c = search no-threads
 
 returns-3 : tie.Need-returns-3
-unfolding entry told
-returns-3 c =
-    let v2 = c .before in
-    let v1 = v2 .before .before .before .before in
-    let v0 = v1 .before .before .before .before in
-    simp (
-      told-ok length (label _ _) (got step (v0 .before .before .read-label .ensures) (v0 .a .given .1)) .1,
-      got step (v1 .before .before .read-up-to .ensures) (v1 .threads .given .1),
-      got step (v2 .before .before .read-up-to2 .ensures) (v2 .k3 .given .1),
-    )
+returns-3 c = search no-separation
 
 returns-4 : tie.Need-returns-4
-unfolding entry told
-returns-4 c =
-    let v3 = c .before in
-    let v2 = v3 .before .before .before .before in
-    let v1 = v2 .before .before .before .before in
-    let v0 = v1 .before .before .before .before in
-    simp (
-      told-ok length (label _ _) (got step (v0 .before .before .read-label .ensures) (v0 .a .given .1)) .1,
-      got step (v1 .before .before .read-up-to .ensures) (v1 .threads .given .1),
-      got step (v2 .before .before .read-up-to2 .ensures) (v2 .separation .given .1),
-      got step (v3 .before .before .read-up-to3 .ensures) (v3 .k4 .given .1),
-    )
+returns-4 c = search no-deadline
 
 returns-5 : tie.Need-returns-5
-unfolding entry told
-returns-5 c =
-    let v4 = c .before in
-    let v3 = v4 .before .before .before .before in
-    let v2 = v3 .before .before .before .before in
-    let v1 = v2 .before .before .before .before in
-    let v0 = v1 .before .before .before .before in
-    simp (
-      told-ok length (label _ _) (got step (v0 .before .before .read-label .ensures) (v0 .a .given .1)) .1,
-      got step (v1 .before .before .read-up-to .ensures) (v1 .threads .given .1),
-      got step (v2 .before .before .read-up-to2 .ensures) (v2 .separation .given .1),
-      got step (v3 .before .before .read-up-to3 .ensures) (v3 .deadline .given .1),
-      got step (v4 .before .before .read-up-to4 .ensures) (v4 .k5 .given .1),
-    )
+returns-5 c = search no-budget
 
 returns-6 : tie.Need-returns-6
-unfolding entry told
-returns-6 c =
-    let v4 = c .before in
-    let v3 = v4 .before .before .before .before in
-    let v2 = v3 .before .before .before .before in
-    let v1 = v2 .before .before .before .before in
-    let v0 = v1 .before .before .before .before in
-    simp (
-      told-ok length (label _ _) (got step (v0 .before .before .read-label .ensures) (v0 .a .given .1)) .1,
-      got step (v1 .before .before .read-up-to .ensures) (v1 .threads .given .1),
-      got step (v2 .before .before .read-up-to2 .ensures) (v2 .separation .given .1),
-      got step (v3 .before .before .read-up-to3 .ensures) (v3 .deadline .given .1),
-      got step (v4 .before .before .read-up-to4 .ensures) (v4 .budget .given .1),
-    )
+returns-6 c = search whole-row
 
 pub read-row-spec : {M : Type 1} → statement M
 read-row-spec =
