@@ -18,10 +18,6 @@ use Rattle.basis.proofs.Steps.{never-ok}
 use Rattle.basis.proofs.Words.{lt-or-le}
 use Rattle.numbers.proofs.Laws.{one-less, ends, over, low, last, more}
 
-
-
-
-
 pub spelt-one : (g v : ℕ) → v < 128 → spelt (suc g) v ≡ v ∷ []
 unfolding spelt
 spelt-one g v h = simp (lt-ltb v 128 h)

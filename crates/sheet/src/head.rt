@@ -22,7 +22,13 @@ pub(crate) fn read_head(bytes: &[u8]) -> HeadRead
     if basis::begins_with(bytes, &MARK) {
         match numbers::read_up_to(bytes, 4, MOST_PROCESSORS, 4, 4) {
             Number::Refused(k, p) => HeadRead::Refused(k, p),
-            Number::Is(processors, a) => match numbers::read_up_to(bytes, a, MOST_ROWS as u64, 5, 5) {
+            Number::Is(processors, a) => match numbers::read_up_to(
+                bytes,
+                a,
+                MOST_ROWS as u64,
+                5,
+                5,
+            ) {
                 Number::Refused(k, p) => HeadRead::Refused(k, p),
                 Number::Is(count, b) => HeadRead::Is(processors, count, b),
             },

@@ -5,14 +5,14 @@ ghost use Rattle.numbers.specs.Numbers.{step};
 ghost use Rattle.sheet.specs.Form.{entries, labelHead};
 ghost use Rattle.sheet.specs.Steps.{passedStep, nothing};
 ghost use Rattle.sheet.specs.Answers.{shown, part, labelIn};
-use basis::LONGEST_LABEL;
-use basis::Refusal;
-use crate::head::read_head;
 use crate::head::HeadRead;
+use crate::head::read_head;
 use crate::reader::read;
-use crate::row::read_row;
 use crate::row::Passed;
 use crate::row::RowRead;
+use crate::row::read_row;
+use basis::LONGEST_LABEL;
+use basis::Refusal;
 use numbers::Number;
 
 // Past so many rows.

@@ -1,11 +1,11 @@
 // Whether a sheet that is handed over is in the ranges.
 ghost use mathlib.Core.Path.{_≡_};
 ghost use Rattle.sheet.specs.Legal.{legalRow, legal};
+use crate::row::Row;
+use crate::row::Sheet;
 use basis::MOST_PROCESSORS;
 use basis::MOST_ROWS;
 use basis::MOST_SEPARATION;
-use crate::row::Row;
-use crate::row::Sheet;
 
 // Whether a row is in the ranges, on so many processors.
 fn is_legal_row(processors: u64, row: Row) -> bool

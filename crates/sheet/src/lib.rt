@@ -7,7 +7,7 @@ mod row;
 
 pub use labels::label;
 pub use legal::is_legal;
-pub use reader::read;
 pub use reader::Reading;
+pub use reader::read;
 pub use row::Row;
 pub use row::Sheet;

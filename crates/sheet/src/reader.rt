@@ -5,14 +5,14 @@ ghost use Rattle.basis.specs.Limits.{mostRows};
 ghost use Rattle.basis.specs.Readers.{refuse};
 ghost use Rattle.sheet.specs.Form.{body};
 ghost use Rattle.sheet.specs.Answers.{answer, handed, reading};
-use basis::MOST_ROWS;
-use basis::Refusal;
-use crate::head::read_head;
 use crate::head::HeadRead;
-use crate::row::read_row;
+use crate::head::read_head;
 use crate::row::Row;
 use crate::row::RowRead;
 use crate::row::Sheet;
+use crate::row::read_row;
+use basis::MOST_ROWS;
+use basis::Refusal;
 
 // What the reader answers: accepted with the sheet, or refused with a sheet of zeros beside it.
 pub struct Reading {

@@ -4,7 +4,6 @@ use native.Mathlib.Nat.{add-sub-cancel-left}
 use mathlib.Core.Path.{_≡_, sym, ap, _∙_}
 use denote.Ref.{now}
 use borrow.Author.Tests.{le-leb, lt-leb}
-
 use Rattle.basis.specs.Readers.{ok, told}
 use Rattle.numbers.specs.Numbers.{step, upTo}
 use Rattle.numbers.proofs.Bounds.{bounded}
