@@ -1,0 +1,51 @@
+-- Sheets A to F, as the paper's table has them: rows as (threads, T, D, C).
+use Prim.Native.Nat.{ℕ}
+use mathlib.Core.List.{List, [], _∷_}
+use lib.ListN.{length}
+use Rattle.sheet.specs.Answers.{filled}
+use Rattle.sheet.specs.declared.row.Row.{Row}
+use Rattle.sheet.specs.declared.row.Sheet.{Sheet}
+
+-- A row by its four numbers.
+abbrev pub row : ℕ → ℕ → ℕ → ℕ → Row
+row threads T D C = record { threads = threads; separation = T; deadline = D; budget = C }
+
+-- The sheet by value of m processors and these rows, with zeros past them.
+abbrev pub sheetOf : ℕ → List Row → Sheet
+sheetOf m rs = record { processors = m; count = length rs; rows = filled rs }
+
+abbrev pub rowsA : List Row
+rowsA = row 2 5 5 2 ∷ row 3 10 10 3 ∷ []
+
+abbrev pub rowsB : List Row
+rowsB = row 3 4 4 2 ∷ row 2 8 8 2 ∷ row 1 8 8 3 ∷ []
+
+abbrev pub rowsC : List Row
+rowsC = row 2 2 2 1 ∷ row 1 4 4 3 ∷ []
+
+abbrev pub rowsD : List Row
+rowsD = row 2 2 2 1 ∷ row 1 4 4 2 ∷ []
+
+abbrev pub rowsE : List Row
+rowsE = row 4 6 6 2 ∷ row 4 6 6 2 ∷ []
+
+abbrev pub rowsF : List Row
+rowsF = row 1 1 1 1 ∷ []
+
+abbrev pub sheetA : Sheet
+sheetA = sheetOf 4 rowsA
+
+abbrev pub sheetB : Sheet
+sheetB = sheetOf 4 rowsB
+
+abbrev pub sheetC : Sheet
+sheetC = sheetOf 2 rowsC
+
+abbrev pub sheetD : Sheet
+sheetD = sheetOf 2 rowsD
+
+abbrev pub sheetE : Sheet
+sheetE = sheetOf 4 rowsE
+
+abbrev pub sheetF : Sheet
+sheetF = sheetOf 1 rowsF

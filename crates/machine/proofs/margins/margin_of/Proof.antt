@@ -1,0 +1,27 @@
+-- `margin_of` meets its promise. Assumes nothing.
+use borrow.Author.Needs.{needs}
+use Rattle.machine.proofs.Answered.{margin-fits, margin-none, margin-some}
+use Rattle.machine.proofs.margins.margin_of.Statement.{statement}
+use Rattle.machine.proofs.margins.margin_of.Tie as tie
+
+returns : tie.Need-returns
+returns c = search margin-none
+
+add-spent : tie.Need-add-spent
+add-spent c = search needs
+
+cast-margin : tie.Need-cast-margin
+cast-margin c = search needs
+
+cast-margin-2 : tie.Need-cast-margin-2
+cast-margin-2 c = search needs
+
+sub-margin : tie.Need-sub-margin
+sub-margin c = search margin-fits
+
+returns-2 : tie.Need-returns-2
+returns-2 c = search margin-some
+
+pub margin-of-spec : {M : Type 1} → statement M
+margin-of-spec =
+    tie.close (tie.spec returns add-spent cast-margin cast-margin-2 sub-margin returns-2)
