@@ -37,8 +37,8 @@ module _ (h : Sheet) (k : ℕ) (l : Legal h) (b : k < h .count) where
     X-small = omega (arith, l .rows k b, n)
 
     module _ (a : Duration) (ea : a .0 ≡ L .0 - rowAt h k .budget) where
-      pub window-fits : Fits w64 (a .0 + 1)
-      window-fits = omega (arith, l .rows k b, n)
+      pub window-fits : (m : ℕ) → m ≤ mostSeparation → Fits w64 (a .0 + m)
+      window-fits m e = omega (arith, l .rows k b, n)
 
       pub window-is : (w : Duration) → w .0 ≡ a .0 + 1 → w ≡ X h k L
       unfolding X

@@ -67,13 +67,13 @@ module _ (row : Row) (s : Duration) (f : Spans row s) (n : ℕ) (en : n ≡ s .0
   pub periods-fit : Fits w64 (n * row .separation)
   periods-fit = omega (arith, periods-within, f .most-span)
 
-  module _ (j p r l : Duration) (ej : j .0 ≡ n * row .budget) (ep : p .0 ≡ n * row .separation) (er : r .0 ≡ s .0 - p .0) (el : l .0 ≡ min (row .budget) (r .0)) where
-    pub work-fits : Fits w64 (j .0 + l .0)
-    work-fits = omega (arith, work-within, f .most-span, f .most-budget, f .most-separation)
+  module _ (j l : Duration) (ej : j .0 ≡ n * row .budget) where
+    pub work-fits : (z : ℕ) → l .0 ≡ min (row .budget) z → Fits w64 (j .0 + l .0)
+    work-fits z e = omega (arith, work-within, f .most-span, f .most-budget, f .most-separation)
 
-    pub work-is : (w : Duration) → w .0 ≡ j .0 + l .0 → w ≡ W row s
+    pub work-is : (p r w : Duration) → p .0 ≡ n * row .separation → r .0 ≡ s .0 - p .0 → l .0 ≡ min (row .budget) (r .0) → w .0 ≡ j .0 + l .0 → w ≡ W row s
     unfolding W
-    work-is w ew = same w (W row s) (rw (← en) (omega arith))
+    work-is p r w ep er el ew = same w (W row s) (rw (← en) (omega arith))
 
   pub work-small : W row s .0 ≤ 3 * mostSeparation
   unfolding W

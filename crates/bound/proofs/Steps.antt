@@ -100,8 +100,8 @@ module _ (h : Sheet) (R : ℕ → Duration) (k : ℕ) (r : Ready h R k) (L : Dur
       next-fits = omega (arith, further-small, length-small h R k r L len)
 
       module _ (e : Duration) (ee : e .0 ≡ L .0 + f .0) where
-        pub one-more-fits : Fits w64 (e .0 + 1)
-        one-more-fits = omega (arith, further-small, length-small h R k r L len)
+        pub one-more-fits : (m : ℕ) → m ≤ mostSeparation → Fits w64 (e .0 + m)
+        one-more-fits m l = omega (arith, further-small, length-small h R k r L len)
 
         pub next-skips : (z : Duration) → z .0 ≡ e .0 + 1 → Skips h R k L z
         next-skips z ez = record { further = omega arith; fails = fails } where

@@ -29,7 +29,7 @@ plus-requires : tie.Need-plus-requires
 plus-requires c κs = search next-fits
 
 plus-requires-2 : tie.Need-plus-requires-2
-plus-requires-2 c κs = search one-more-fits
+plus-requires-2 c κs = search (one-more-fits, needs)
 
 returns : tie.Need-returns
 returns c = search next-skips

@@ -14,7 +14,7 @@ minus-requires : tie.Need-minus-requires
 minus-requires c κs = search needs
 
 plus-requires : tie.Need-plus-requires
-plus-requires c κs = search window-fits
+plus-requires c κs = search (window-fits, needs)
 
 returns : tie.Need-returns
 returns c = search window-is
