@@ -9,13 +9,15 @@ use Rattle.bound.specs.Quantities.{slots, plus, minus, lesser, times, in
 use Rattle.bound.specs.declared.quantity.Duration.{Duration}
 use Rattle.bound.specs.declared.quantity.Amount.{Amount}
 
--- A row's separation, deadline and budget, as durations.
+-- T, a row's separation, as a duration.
 abbrev pub T : Row → Duration
 T row = slots (row .separation)
 
+-- D, its deadline.
 abbrev pub D : Row → Duration
 D row = slots (row .deadline)
 
+-- C, its budget.
 abbrev pub C : Row → Duration
 C row = slots (row .budget)
 

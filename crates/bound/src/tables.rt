@@ -5,6 +5,7 @@ use basis::MOST_ROWS;
 use sheet::Row;
 use sheet::Sheet;
 
+// The rows of sheet A.
 const A: [Row; 2] = [
     Row {
         threads: 2,
@@ -20,6 +21,7 @@ const A: [Row; 2] = [
     },
 ];
 
+// The rows of sheet B.
 const B: [Row; 3] = [
     Row {
         threads: 3,
@@ -41,6 +43,7 @@ const B: [Row; 3] = [
     },
 ];
 
+// The rows of sheet C.
 const C: [Row; 2] = [
     Row {
         threads: 2,
@@ -56,6 +59,7 @@ const C: [Row; 2] = [
     },
 ];
 
+// The rows of sheet D.
 const D: [Row; 2] = [
     Row {
         threads: 2,
@@ -71,6 +75,7 @@ const D: [Row; 2] = [
     },
 ];
 
+// The rows of sheet E.
 const E: [Row; 2] = [
     Row {
         threads: 4,
@@ -86,6 +91,7 @@ const E: [Row; 2] = [
     },
 ];
 
+// The rows of sheet F.
 const F: [Row; 1] = [Row {
     threads: 1,
     separation: 1,
