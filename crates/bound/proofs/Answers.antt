@@ -16,7 +16,7 @@ use Rattle.sheet.specs.declared.row.Sheet.{Sheet}
 use Rattle.sheet.proofs.Legality.{legal-is}
 use Rattle.bound.specs.Test.{Test, passes}
 use Rattle.bound.specs.Bound.{Word, bound, none, unreached, word, wordIn, resultOf, allUnreached, holds, Answer, answer, judged, notLegal, boundsBy, boundsOf}
-use Rattle.bound.specs.Tables.{sheetA, sheetB, sheetC, sheetD, sheetE, sheetF}
+use Rattle.bound.specs.Tables.{fixedSheet}
 use Rattle.bound.specs.declared.results.Result.{Result}
 use Rattle.bound.specs.declared.results.Result.the-variants.{Unreached, Bound, NoBound}
 use Rattle.bound.specs.declared.results.Judged.{Judged}
@@ -55,29 +55,9 @@ answer-one-to-one a b e =
 pub bounds-same : (h : Sheet) (a b : Results) → answer a ≡ boundsOf h → answer b ≡ boundsOf h → a ≡ b
 bounds-same h a b e f = answer-one-to-one a b (e ∙ sym f)
 
--- `sheet_a`
-pub sheet-a-same : (a b : Sheet) → a ≡ sheetA → b ≡ sheetA → a ≡ b
-sheet-a-same a b e f = e ∙ sym f
-
--- `sheet_b`
-pub sheet-b-same : (a b : Sheet) → a ≡ sheetB → b ≡ sheetB → a ≡ b
-sheet-b-same a b e f = e ∙ sym f
-
--- `sheet_c`
-pub sheet-c-same : (a b : Sheet) → a ≡ sheetC → b ≡ sheetC → a ≡ b
-sheet-c-same a b e f = e ∙ sym f
-
--- `sheet_d`
-pub sheet-d-same : (a b : Sheet) → a ≡ sheetD → b ≡ sheetD → a ≡ b
-sheet-d-same a b e f = e ∙ sym f
-
--- `sheet_e`
-pub sheet-e-same : (a b : Sheet) → a ≡ sheetE → b ≡ sheetE → a ≡ b
-sheet-e-same a b e f = e ∙ sym f
-
--- `sheet_f`
-pub sheet-f-same : (a b : Sheet) → a ≡ sheetF → b ≡ sheetF → a ≡ b
-sheet-f-same a b e f = e ∙ sym f
+-- `fixed_sheet`
+pub fixed-sheet-same : (n : ℕ) (a b : Sheet) → a ≡ fixedSheet n → b ≡ fixedSheet n → a ≡ b
+fixed-sheet-same n a b e f = e ∙ sym f
 
 -- ---- what an answer tells of a row
 

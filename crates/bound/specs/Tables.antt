@@ -1,8 +1,8 @@
 -- Sheets A to F, as the table of document 01 has them: rows as (threads, T, D, C).
 use Prim.Native.Nat.{ℕ}
 use mathlib.Core.List.{List, [], _∷_}
-use lib.ListN.{length}
-use Rattle.sheet.specs.Answers.{filled}
+use lib.ListN.{length, getD}
+use Rattle.sheet.specs.Answers.{filled, noSheet}
 use Rattle.sheet.specs.declared.row.Row.{Row}
 use Rattle.sheet.specs.declared.row.Sheet.{Sheet}
 
@@ -61,3 +61,11 @@ sheetE = sheetOf 4 rowsE
 -- Sheet F.
 abbrev pub sheetF : Sheet
 sheetF = sheetOf 1 rowsF
+
+-- The six, in their order.
+abbrev pub fixedSheets : List Sheet
+fixedSheets = sheetA ∷ sheetB ∷ sheetC ∷ sheetD ∷ sheetE ∷ sheetF ∷ []
+
+-- The fixed sheet of a number; past the six there is none, all zero.
+unfoldable pub fixedSheet : ℕ → Sheet
+fixedSheet n = getD fixedSheets n noSheet

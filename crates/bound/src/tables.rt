@@ -1,6 +1,7 @@
 // Sheets A to F: constant arrays of row values, each handed out as a sheet.
 ghost use mathlib.Core.Path.{_≡_};
-ghost use Rattle.bound.specs.Tables.{sheetA, sheetB, sheetC, sheetD, sheetE, sheetF};
+ghost use Rattle.sheet.specs.Answers.{noSheet};
+ghost use Rattle.bound.specs.Tables.{sheetA, sheetB, sheetC, sheetD, sheetE, sheetF, fixedSheet};
 use basis::MOST_ROWS;
 use sheet::Row;
 use sheet::Sheet;
@@ -108,7 +109,7 @@ const NONE: Row = Row {
 };
 
 // Sheet A.
-pub fn sheet_a() -> Sheet
+fn sheet_a() -> Sheet
     ensures { λ r. ⌜ r ≡ sheetA ⌝ }
 {
     let mut rows = [NONE; MOST_ROWS];
@@ -122,7 +123,7 @@ pub fn sheet_a() -> Sheet
 }
 
 // Sheet B.
-pub fn sheet_b() -> Sheet
+fn sheet_b() -> Sheet
     ensures { λ r. ⌜ r ≡ sheetB ⌝ }
 {
     let mut rows = [NONE; MOST_ROWS];
@@ -137,7 +138,7 @@ pub fn sheet_b() -> Sheet
 }
 
 // Sheet C.
-pub fn sheet_c() -> Sheet
+fn sheet_c() -> Sheet
     ensures { λ r. ⌜ r ≡ sheetC ⌝ }
 {
     let mut rows = [NONE; MOST_ROWS];
@@ -151,7 +152,7 @@ pub fn sheet_c() -> Sheet
 }
 
 // Sheet D.
-pub fn sheet_d() -> Sheet
+fn sheet_d() -> Sheet
     ensures { λ r. ⌜ r ≡ sheetD ⌝ }
 {
     let mut rows = [NONE; MOST_ROWS];
@@ -165,7 +166,7 @@ pub fn sheet_d() -> Sheet
 }
 
 // Sheet E.
-pub fn sheet_e() -> Sheet
+fn sheet_e() -> Sheet
     ensures { λ r. ⌜ r ≡ sheetE ⌝ }
 {
     let mut rows = [NONE; MOST_ROWS];
@@ -179,7 +180,7 @@ pub fn sheet_e() -> Sheet
 }
 
 // Sheet F.
-pub fn sheet_f() -> Sheet
+fn sheet_f() -> Sheet
     ensures { λ r. ⌜ r ≡ sheetF ⌝ }
 {
     let mut rows = [NONE; MOST_ROWS];
@@ -189,4 +190,41 @@ pub fn sheet_f() -> Sheet
         count: 1,
         rows,
     }
+}
+
+// No sheet: all zero.
+fn no_sheet() -> Sheet
+    ensures { λ r. ⌜ r ≡ noSheet ⌝ }
+{
+    let rows = [NONE; MOST_ROWS];
+    Sheet {
+        processors: 0,
+        count: 0,
+        rows,
+    }
+}
+
+// The fixed sheet of a number: 0 is A, and so on to 5, which is F; any other is no sheet.
+pub fn fixed_sheet(number: usize) -> Sheet
+    ensures { λ r. ⌜ r ≡ fixedSheet number ⌝ }
+{
+    if number == 0 {
+        return sheet_a();
+    }
+    if number == 1 {
+        return sheet_b();
+    }
+    if number == 2 {
+        return sheet_c();
+    }
+    if number == 3 {
+        return sheet_d();
+    }
+    if number == 4 {
+        return sheet_e();
+    }
+    if number == 5 {
+        return sheet_f();
+    }
+    no_sheet()
 }
