@@ -1,0 +1,56 @@
+-- The checks of each call, in their order: the number and the place of the first that fails.
+use Prim.Native.Nat.{ℕ, _%_}
+use mathlib.Core.Bool.{Bool}
+use mathlib.Core.List.{List}
+use lib.ListN.{length, getD}
+use lib.Dec.{ltb, leb, eqb}
+use Rattle.basis.specs.Words.{pick}
+use Rattle.basis.specs.Refusals.{Outcome, accepted, refused, orElse, firstOf}
+use Rattle.sheet.specs.Legal.{rowAt, legal}
+use Rattle.sheet.specs.declared.row.Row.{Row}
+use Rattle.sheet.specs.declared.row.Sheet.{Sheet}
+use Rattle.machine.specs.declared.state.RowState.{RowState}
+use Rattle.machine.specs.declared.state.State.{State}
+use Rattle.machine.specs.States.{recordAt, legalState}
+
+-- A test that has to hold, and the number where it does not; its place is none.
+abbrev pub needed : Bool → ℕ → Outcome
+needed test number = pick test accepted (refused number 0)
+
+-- 12 for a release over C, then 13 for one that is too soon: since is below T.
+unfoldable pub checkRow : Row → RowState → ℕ → ℕ → Outcome
+checkRow row s release k =
+    pick (eqb release 0) accepted
+    (pick (ltb (row .budget) release) (refused 12 k)
+    (pick (ltb (s .since) (row .separation)) (refused 13 k) accepted))
+
+-- The check of row k's release.
+abbrev pub checkAt : Sheet → State → List ℕ → ℕ → Outcome
+checkAt h t releases k = checkRow (rowAt h k) (recordAt t k) (getD releases k 0) k
+
+-- The checks of the releases, from the top.
+unfoldable pub checkReleases : Sheet → State → List ℕ → Outcome
+checkReleases h t releases = firstOf (h .count) (checkAt h t releases)
+
+-- 10, then 16: what is checked of a sheet and a state.
+unfoldable pub checkState : Sheet → State → Outcome
+checkState h t = orElse (needed (legal h) 10) (needed (legalState h t) 16)
+
+-- 11 where the list is not as long as it has to be, then 15 where the code buffer is shorter than the list.
+unfoldable pub checkRoom : Bool → ℕ → ℕ → Outcome
+checkRoom long entries room = orElse (needed long 11) (needed (leb entries room) 15)
+
+-- A slot's checks: 10, 16, 11, 15, then rows from the top.
+unfoldable pub checkSlot : Sheet → State → List ℕ → ℕ → Outcome
+checkSlot h t releases room =
+    orElse (checkState h t)
+    (orElse (checkRoom (eqb (length releases) (h .count)) (length releases) room) (checkReleases h t releases))
+
+-- A run's checks before its first slot: 10, 16, 11, 15.
+unfoldable pub checkRun : Sheet → State → List ℕ → ℕ → Outcome
+checkRun h t releases room =
+    orElse (checkState h t) (checkRoom (eqb (length releases % h .count) 0) (length releases) room)
+
+-- The margin's checks: 10, 16, 14.
+unfoldable pub checkMargin : Sheet → State → ℕ → Outcome
+checkMargin h t row = orElse (checkState h t) (needed (ltb row (h .count)) 14)

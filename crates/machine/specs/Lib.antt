@@ -1,0 +1,5 @@
+pub mod States
+pub mod Slot
+pub mod Checks
+pub mod Answers
+pub mod Methods

@@ -1,0 +1,61 @@
+-- What the methods inside a slot answer: releases, placement and ageing, each by itself.
+use Prim.Native.Nat.{ℕ, zero, suc}
+use mathlib.Core.List.{List}
+use lib.ListN.{getD}
+use lib.Dec.{eqb}
+use Rattle.basis.specs.Words.{pick}
+use Rattle.basis.specs.Upto.{upto}
+use Rattle.sheet.specs.Legal.{rowAt}
+use Rattle.sheet.specs.declared.row.Row.{Row}
+use Rattle.sheet.specs.declared.row.Sheet.{Sheet}
+use Rattle.machine.specs.declared.state.RowState.{RowState}
+use Rattle.machine.specs.declared.state.State.{State}
+use Rattle.machine.specs.declared.steps.Placed.{Placed}
+use Rattle.machine.specs.declared.steps.Aged.{Aged}
+use Rattle.machine.specs.States.{stateOf, recordAt, hasJob}
+use Rattle.machine.specs.Slot.{released, fits, freeBelow, freeAt, worked, aged, missed, ended}
+
+-- Step 1 of every row.
+unfoldable pub releasedState : Sheet → State → List ℕ → State
+releasedState h t releases = stateOf (upto (h .count) (λ k. released (getD releases k 0) (recordAt t k)) (t .rows))
+
+-- Steps 2 and 3 of a row, with so many processors free: what it leaves free, its record, and its code so far.
+unfoldable pub placedRow : Row → RowState → ℕ → Placed
+placedRow row s free =
+    record {
+      free = freeBelow free row s;
+      after = worked (fits free row s) s;
+      code = pick (hasJob s) (pick (fits free row s) 2 1) 0;
+    }
+
+-- The placement of row k.
+abbrev pub placedAt : Sheet → State → ℕ → Placed
+placedAt h t k = placedRow (rowAt h k) (recordAt t k) (freeAt (h .processors) (rowAt h) (recordAt t) k)
+
+-- Steps 2 and 3 of every row.
+unfoldable pub placedState : Sheet → State → State
+placedState h t = stateOf (upto (h .count) (λ k. placedAt h t k .after) (t .rows))
+
+-- The codes so far: no job, waited or ran.
+unfoldable pub placedCodes : Sheet → State → List ℕ → List ℕ
+placedCodes h t codes = upto (h .count) (λ k. placedAt h t k .code) codes
+
+-- Steps 4 and 5 of a row, with its code so far: its record, and its code.
+unfoldable pub agedRow : Row → RowState → ℕ → Aged
+agedRow row s code =
+    record {
+      after = ended row (aged row s);
+      code = pick (hasJob s) (pick (missed row (aged row s)) 4 code) (pick (eqb code 0) 0 3);
+    }
+
+-- The ageing of row k.
+abbrev pub agedAt : Sheet → State → List ℕ → ℕ → Aged
+agedAt h t codes k = agedRow (rowAt h k) (recordAt t k) (getD codes k 0)
+
+-- Steps 4 and 5 of every row.
+unfoldable pub agedState : Sheet → State → List ℕ → State
+agedState h t codes = stateOf (upto (h .count) (λ k. agedAt h t codes k .after) (t .rows))
+
+-- The codes of the slot.
+unfoldable pub agedCodes : Sheet → State → List ℕ → List ℕ
+agedCodes h t codes = upto (h .count) (λ k. agedAt h t codes k .code) codes

@@ -1,0 +1,60 @@
+-- The state of a box: a record for each row, the fresh state, and the states that are legal for a sheet.
+use Prim.Native.Nat.{ℕ}
+use mathlib.Core.Bool.{Bool, true}
+use mathlib.Core.List.{List}
+use lib.ListN.{getD, replicate}
+use lib.Dec.{ltb, leb, eqb}
+use Rattle.basis.specs.Limits.{mostRows}
+use Rattle.basis.specs.Words.{pick, both, within, allOf}
+use Rattle.basis.specs.Upto.{upto}
+use Rattle.sheet.specs.Legal.{rowAt}
+use Rattle.sheet.specs.declared.row.Row.{Row}
+use Rattle.sheet.specs.declared.row.Sheet.{Sheet}
+use Rattle.machine.specs.declared.state.RowState.{RowState}
+use Rattle.machine.specs.declared.state.State.{State}
+
+-- A record that is all zero.
+abbrev pub noRecord : RowState
+noRecord = record { remaining = 0; since = 0 }
+
+-- The state of these records.
+abbrev pub stateOf : List RowState → State
+stateOf records = record { rows = records }
+
+-- The record of row k.
+abbrev pub recordAt : State → ℕ → RowState
+recordAt t k = getD (t .rows) k noRecord
+
+-- The state of which every record is zero.
+abbrev pub noState : State
+noState = stateOf (replicate mostRows noRecord)
+
+-- A row has a job where something remains.
+abbrev pub hasJob : RowState → Bool
+hasJob s = ltb 0 (s .remaining)
+
+-- Fresh: a row without a job, T slots since release.
+abbrev pub freshRecord : Row → RowState
+freshRecord row = record { remaining = 0; since = row .separation }
+
+-- The fresh state: each row is fresh, and the records past them are zero.
+unfoldable pub freshState : Sheet → State
+freshState h = stateOf (upto (h .count) (λ k. freshRecord (rowAt h k)) (replicate mostRows noRecord))
+
+-- A record is legal for its row: since is 1..T; remaining is 0..C; where remaining is not 0, since is below D.
+unfoldable pub legalRecord : Row → RowState → Bool
+legalRecord row s =
+    both (within 1 (row .separation) (s .since))
+    (both (leb (s .remaining) (row .budget)) (pick (hasJob s) (ltb (s .since) (row .deadline)) true))
+
+-- A record is all zero.
+unfoldable pub isZero : RowState → Bool
+isZero s = both (eqb (s .remaining) 0) (eqb (s .since) 0)
+
+-- Record k is legal for a sheet: for its row, and past row n it is zero.
+unfoldable pub legalAt : Sheet → State → ℕ → Bool
+legalAt h t k = pick (ltb k (h .count)) (legalRecord (rowAt h k) (recordAt t k)) (isZero (recordAt t k))
+
+-- A state is legal for a sheet: each of its records is.
+unfoldable pub legalState : Sheet → State → Bool
+legalState h t = allOf mostRows (legalAt h t)

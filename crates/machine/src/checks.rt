@@ -1,0 +1,115 @@
+// The checks of each call, in their order.
+ghost use mathlib.Core.Path.{_≡_};
+ghost use Prim.Native.Nat.{_≤_};
+ghost use lib.ListN.{length};
+ghost use Rattle.basis.specs.Limits.{mostRows};
+ghost use Rattle.basis.specs.Refusals.{outcome};
+ghost use Rattle.machine.specs.Checks.{checkRow, checkReleases, checkState, checkSlot, checkRun, checkMargin};
+use basis::Refusal;
+use crate::state::RowState;
+use crate::state::State;
+use sheet::Row;
+use sheet::Sheet;
+
+// Whether a row may be released for so many slots: 12 before 13.
+fn check_row(row: Row, s: RowState, release: u64, place: usize) -> Refusal
+    ensures { λ r. ⌜ outcome r ≡ checkRow row s release place ⌝ }
+{
+    if release == 0 {
+        return Refusal::Accepted;
+    }
+    if row.budget < release {
+        return Refusal::Refused(12, place);
+    }
+    if s.since < row.separation {
+        return Refusal::Refused(13, place);
+    }
+    Refusal::Accepted
+}
+
+impl State {
+    // 10, then 16.
+    pub(crate) fn check_state(self, sheet: Sheet) -> Refusal
+        ensures { λ r. ⌜ outcome r ≡ checkState sheet self ⌝ }
+    {
+        let sheet_fine = sheet::is_legal(sheet);
+        if !sheet_fine {
+            return Refusal::Refused(10, 0);
+        }
+        let state_fine = self.is_legal(sheet);
+        if !state_fine {
+            return Refusal::Refused(16, 0);
+        }
+        Refusal::Accepted
+    }
+
+    // The releases of a slot, rows from the top.
+    pub(crate) fn check_releases(self, sheet: Sheet, releases: &[u64]) -> Refusal
+        requires { ⌜ (sheet .count ≤ mostRows) × (sheet .count ≤ length (now releases)) ⌝ }
+        ensures { λ r. ⌜ outcome r ≡ checkReleases sheet self (now (releases .entry)) ⌝ }
+    {
+        let n = sheet.count as usize;
+        let mut i: usize = 0;
+        while i < n {
+            let row = sheet.rows[i];
+            let s = self.rows[i];
+            let refusal = check_row(row, s, releases[i], i);
+            if let Refusal::Refused(number, place) = refusal {
+                return Refusal::Refused(number, place);
+            }
+            i += 1;
+        }
+        Refusal::Accepted
+    }
+
+    // 10, 16, 11, 15, then the releases.
+    pub(crate) fn check_slot(self, sheet: Sheet, releases: &[u64], room: usize) -> Refusal
+        ensures { λ r. ⌜ outcome r ≡ checkSlot sheet self (now (releases .entry)) room ⌝ }
+    {
+        let refusal = self.check_state(sheet);
+        if let Refusal::Refused(number, place) = refusal {
+            return Refusal::Refused(number, place);
+        }
+        let n = sheet.count as usize;
+        if releases.len() != n {
+            return Refusal::Refused(11, 0);
+        }
+        if room < releases.len() {
+            return Refusal::Refused(15, 0);
+        }
+        self.check_releases(sheet, releases)
+    }
+
+    // 10, 16, 11, 15 over the whole list.
+    pub(crate) fn check_run(self, sheet: Sheet, releases: &[u64], room: usize) -> Refusal
+        ensures { λ r. ⌜ outcome r ≡ checkRun sheet self (now (releases .entry)) room ⌝ }
+    {
+        let refusal = self.check_state(sheet);
+        if let Refusal::Refused(number, place) = refusal {
+            return Refusal::Refused(number, place);
+        }
+        let n = sheet.count as usize;
+        if releases.len() % n != 0 {
+            return Refusal::Refused(11, 0);
+        }
+        if room < releases.len() {
+            return Refusal::Refused(15, 0);
+        }
+        Refusal::Accepted
+    }
+
+    // 10, 16, 14.
+    pub(crate) fn check_margin(self, sheet: Sheet, row: usize) -> Refusal
+        ensures { λ r. ⌜ outcome r ≡ checkMargin sheet self row ⌝ }
+    {
+        let refusal = self.check_state(sheet);
+        if let Refusal::Refused(number, place) = refusal {
+            return Refusal::Refused(number, place);
+        }
+        let n = sheet.count as usize;
+        if n <= row {
+            return Refusal::Refused(14, 0);
+        }
+        Refusal::Accepted
+    }
+}

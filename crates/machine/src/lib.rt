@@ -1,0 +1,16 @@
+// The slot machine: its state, the fresh state, one slot, a run of slots, and the margin of a row.
+mod checks;
+mod margins;
+mod runs;
+mod slots;
+mod start;
+mod state;
+mod steps;
+
+pub use margins::Margin;
+pub use runs::Ran;
+pub use slots::Slotted;
+pub use start::fresh;
+pub use start::Started;
+pub use state::RowState;
+pub use state::State;

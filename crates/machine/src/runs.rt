@@ -1,0 +1,71 @@
+// A run of slots.
+ghost use mathlib.Core.Path.{_≡_};
+ghost use mathlib.Core.Bool.{true};
+ghost use Prim.Native.Nat.{_≤_, _*_};
+ghost use lib.ListN.{length};
+ghost use Rattle.basis.specs.Refusals.{accepted};
+ghost use Rattle.sheet.specs.Legal.{legal};
+ghost use Rattle.machine.specs.States.{legalState};
+ghost use Rattle.machine.specs.Answers.{ran, notBegun, course, run};
+use basis::Refusal;
+use crate::state::State;
+use sheet::Sheet;
+
+// What a run answers: the slots done, the first refusal if there is one, and the state after those slots.
+pub struct Ran {
+    pub done: u64,
+    pub refusal: Refusal,
+    pub state: State,
+}
+
+impl State {
+    // So many slots one after another, to the first that is refused.
+    fn run_slots(self, sheet: Sheet, releases: &[u64], codes: &mut [u8], slots: usize) -> Ran
+        requires { ⌜ (legal sheet ≡ true) × (legalState sheet self ≡ true)
+            × (slots * sheet .count ≤ length (now releases)) × (slots * sheet .count ≤ length (now codes)) ⌝ }
+        ensures { λ r. ⌜ ran r (now (codes .exit)) ≡ course sheet (now (releases .entry)) (notBegun accepted self (now (codes .entry))) slots ⌝ }
+    {
+        let n = sheet.count as usize;
+        let mut state = self;
+        let mut done: usize = 0;
+        while done < slots {
+            let at = done * n;
+            let end = at + n;
+            let refusal = state.check_releases(sheet, &releases[at..end]);
+            if let Refusal::Refused(number, place) = refusal {
+                return Ran {
+                    done: done as u64,
+                    refusal: Refusal::Refused(number, place),
+                    state,
+                };
+            }
+            let after = state.next(sheet, &releases[at..end], &mut codes[at..]);
+            state = after;
+            done += 1;
+        }
+        Ran {
+            done: done as u64,
+            refusal: Refusal::Accepted,
+            state,
+        }
+    }
+
+    // A run: its checks, then slot by slot.
+    pub fn run(self, sheet: Sheet, releases: &[u64], codes: &mut [u8]) -> Ran
+        ensures { λ r. ⌜ ran r (now (codes .exit)) ≡ run sheet self (now (releases .entry)) (now (codes .entry)) ⌝ }
+    {
+        let refusal = self.check_run(sheet, releases, codes.len());
+        match refusal {
+            Refusal::Refused(number, place) => Ran {
+                done: 0,
+                refusal: Refusal::Refused(number, place),
+                state: self,
+            },
+            Refusal::Accepted => {
+                let n = sheet.count as usize;
+                let slots = releases.len() / n;
+                self.run_slots(sheet, releases, codes, slots)
+            }
+        }
+    }
+}

@@ -1,0 +1,48 @@
+// One slot.
+ghost use mathlib.Core.Path.{_≡_};
+ghost use Prim.Native.Nat.{_≤_};
+ghost use lib.ListN.{length};
+ghost use Rattle.basis.specs.Limits.{mostRows};
+ghost use Rattle.machine.specs.Answers.{nextState, nextCodes, slotted, slot};
+use basis::Refusal;
+use crate::state::State;
+use sheet::Sheet;
+
+// What a slot answers: accepted with the next state, or refused with the state as it came.
+pub struct Slotted {
+    pub refusal: Refusal,
+    pub state: State,
+}
+
+impl State {
+    // The state after a slot whose checks have passed; its codes are written.
+    pub(crate) fn next(self, sheet: Sheet, releases: &[u64], codes: &mut [u8]) -> State
+        requires { ⌜ (sheet .count ≤ mostRows) × (sheet .count ≤ length (now releases)) × (sheet .count ≤ length (now codes)) ⌝ }
+        ensures { λ r. ⌜ (r ≡ nextState sheet self (now (releases .entry)))
+            × (now (codes .exit) ≡ nextCodes sheet self (now (releases .entry)) (now (codes .entry))) ⌝ }
+    {
+        let begun = self.released(sheet, releases);
+        let placed = begun.placed(sheet, codes);
+        placed.aged(sheet, codes)
+    }
+
+    // One slot: the next state, and a code for each row.
+    pub fn slot(self, sheet: Sheet, releases: &[u64], codes: &mut [u8]) -> Slotted
+        ensures { λ r. ⌜ slotted r (now (codes .exit)) ≡ slot sheet self (now (releases .entry)) (now (codes .entry)) ⌝ }
+    {
+        let refusal = self.check_slot(sheet, releases, codes.len());
+        match refusal {
+            Refusal::Refused(number, place) => Slotted {
+                refusal: Refusal::Refused(number, place),
+                state: self,
+            },
+            Refusal::Accepted => {
+                let state = self.next(sheet, releases, codes);
+                Slotted {
+                    refusal: Refusal::Accepted,
+                    state,
+                }
+            }
+        }
+    }
+}
