@@ -15,9 +15,13 @@ use Rattle.machine.specs.declared.steps.Aged.{Aged}
 use Rattle.machine.specs.States.{stateOf, recordAt, hasJob}
 use Rattle.machine.specs.Slot.{released, fits, freeBelow, freeAt, worked, aged, missed, ended}
 
+-- Step 1 of row k.
+abbrev pub releasedAt : State → List ℕ → ℕ → RowState
+releasedAt t releases k = released (getD releases k 0) (recordAt t k)
+
 -- Step 1 of every row.
 unfoldable pub releasedState : Sheet → State → List ℕ → State
-releasedState h t releases = stateOf (upto (h .count) (λ k. released (getD releases k 0) (recordAt t k)) (t .rows))
+releasedState h t releases = stateOf (upto (h .count) (releasedAt t releases) (t .rows))
 
 -- Steps 2 and 3 of a row, with so many processors free: what it leaves free, its record, and its code so far.
 unfoldable pub placedRow : Row → RowState → ℕ → Placed
@@ -32,13 +36,20 @@ placedRow row s free =
 abbrev pub placedAt : Sheet → State → ℕ → Placed
 placedAt h t k = placedRow (rowAt h k) (recordAt t k) (freeAt (h .processors) (rowAt h) (recordAt t) k)
 
+-- Its record, and its code so far.
+abbrev pub placedRecord : Sheet → State → ℕ → RowState
+placedRecord h t k = placedAt h t k .after
+
+abbrev pub placedCode : Sheet → State → ℕ → ℕ
+placedCode h t k = placedAt h t k .code
+
 -- Steps 2 and 3 of every row.
 unfoldable pub placedState : Sheet → State → State
-placedState h t = stateOf (upto (h .count) (λ k. placedAt h t k .after) (t .rows))
+placedState h t = stateOf (upto (h .count) (placedRecord h t) (t .rows))
 
 -- The codes so far: no job, waited or ran.
 unfoldable pub placedCodes : Sheet → State → List ℕ → List ℕ
-placedCodes h t codes = upto (h .count) (λ k. placedAt h t k .code) codes
+placedCodes h t codes = upto (h .count) (placedCode h t) codes
 
 -- Steps 4 and 5 of a row, with its code so far: its record, and its code.
 unfoldable pub agedRow : Row → RowState → ℕ → Aged
@@ -52,10 +63,17 @@ agedRow row s code =
 abbrev pub agedAt : Sheet → State → List ℕ → ℕ → Aged
 agedAt h t codes k = agedRow (rowAt h k) (recordAt t k) (getD codes k 0)
 
+-- Its record, and its code.
+abbrev pub agedRecord : Sheet → State → List ℕ → ℕ → RowState
+agedRecord h t codes k = agedAt h t codes k .after
+
+abbrev pub agedCode : Sheet → State → List ℕ → ℕ → ℕ
+agedCode h t codes k = agedAt h t codes k .code
+
 -- Steps 4 and 5 of every row.
 unfoldable pub agedState : Sheet → State → List ℕ → State
-agedState h t codes = stateOf (upto (h .count) (λ k. agedAt h t codes k .after) (t .rows))
+agedState h t codes = stateOf (upto (h .count) (agedRecord h t codes) (t .rows))
 
 -- The codes of the slot.
 unfoldable pub agedCodes : Sheet → State → List ℕ → List ℕ
-agedCodes h t codes = upto (h .count) (λ k. agedAt h t codes k .code) codes
+agedCodes h t codes = upto (h .count) (agedCode h t codes) codes

@@ -33,13 +33,13 @@ noState = stateOf (replicate mostRows noRecord)
 abbrev pub hasJob : RowState → Bool
 hasJob s = ltb 0 (s .remaining)
 
--- Fresh: a row without a job, T slots since release.
-abbrev pub freshRecord : Row → RowState
-freshRecord row = record { remaining = 0; since = row .separation }
+-- Fresh: each row without a job, T slots since release.
+abbrev pub freshAt : Sheet → ℕ → RowState
+freshAt h k = record { remaining = 0; since = rowAt h k .separation }
 
 -- The fresh state: each row is fresh, and the records past them are zero.
 unfoldable pub freshState : Sheet → State
-freshState h = stateOf (upto (h .count) (λ k. freshRecord (rowAt h k)) (replicate mostRows noRecord))
+freshState h = stateOf (upto (h .count) (freshAt h) (replicate mostRows noRecord))
 
 -- A record is legal for its row: since is 1..T; remaining is 0..C; where remaining is not 0, since is below D.
 unfoldable pub legalRecord : Row → RowState → Bool

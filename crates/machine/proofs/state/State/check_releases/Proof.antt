@@ -1,0 +1,85 @@
+-- `check_releases` meets its promise: none of the rows so far is refused. Assumes nothing.
+use borrow.Author.Needs.{needs}
+use Prim.Native.Nat.{_≤_, _-_}
+use mathlib.Core.Path.{_≡_, refl}
+use lib.ListN.{length}
+use Rattle.basis.specs.Limits.{mostRows}
+use Rattle.basis.specs.Refusals.{accepted, firstOf}
+use Rattle.machine.specs.Checks.{checkAt}
+use Rattle.machine.proofs.Turns.{check-more, check-found, check-done}
+use Rattle.machine.proofs.state.State.check_releases.Statement.{statement}
+use Rattle.machine.proofs.state.State.check_releases.Tie as tie
+
+abbrev Inv-loop : tie.InvT-loop
+Inv-loop releases self sheet n i₀ i = (i ≤ n) × (n ≤ mostRows) × (n ≤ length releases) × (firstOf i (checkAt sheet self releases) ≡ accepted)
+
+abbrev μ-loop : tie.MeasureT-loop
+μ-loop releases self sheet n i₀ i = n - i
+
+loop-holds : tie.Need-loop-holds Inv-loop μ-loop
+unfolding firstOf
+loop-holds c = (search needs, search needs, search needs, refl)
+
+mul-row : tie.Need-mul-row Inv-loop μ-loop
+mul-row c = search needs
+
+element-copy-out-row : tie.Need-element-copy-out-row Inv-loop μ-loop
+element-copy-out-row c = search needs
+
+mul-s : tie.Need-mul-s Inv-loop μ-loop
+mul-s c = search needs
+
+element-copy-out-s : tie.Need-element-copy-out-s Inv-loop μ-loop
+element-copy-out-s c = search needs
+
+mul-check-row : tie.Need-mul-check-row Inv-loop μ-loop
+mul-check-row c = search needs
+
+shared-slice-read-check-row : tie.Need-shared-slice-read-check-row Inv-loop μ-loop
+shared-slice-read-check-row c = search needs
+
+check-row-requires : tie.Need-check-row-requires Inv-loop μ-loop
+check-row-requires c κs = search needs
+
+enum-known-refusal : tie.Need-enum-known-refusal Inv-loop μ-loop
+enum-known-refusal c = search needs
+
+returns : tie.Need-returns Inv-loop μ-loop
+returns c = search check-found
+
+enum-told : tie.Need-enum-told Inv-loop μ-loop
+enum-told c = search needs
+
+add-i : tie.Need-add-i Inv-loop μ-loop
+add-i c = search needs
+
+loop-less : tie.Need-loop-less Inv-loop μ-loop
+loop-less c = search needs
+
+loop-again : tie.Need-loop-again Inv-loop μ-loop
+loop-again c = (search needs, search needs, search needs, search check-more)
+
+returns-2 : tie.Need-returns-2 Inv-loop μ-loop
+returns-2 c = search check-done
+
+pub check-releases-spec : {M : Type 1} → statement M
+check-releases-spec =
+    tie.close
+    (tie.spec
+    Inv-loop
+    μ-loop
+    loop-holds
+    mul-row
+    element-copy-out-row
+    mul-s
+    element-copy-out-s
+    mul-check-row
+    shared-slice-read-check-row
+    check-row-requires
+    enum-known-refusal
+    returns
+    enum-told
+    add-i
+    loop-less
+    loop-again
+    returns-2)

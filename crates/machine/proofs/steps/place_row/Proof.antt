@@ -1,0 +1,25 @@
+-- `place_row` meets its promise. Assumes nothing.
+use borrow.Author.Needs.{needs}
+use Rattle.basis.proofs.Tests.{tests}
+use Rattle.machine.specs.Slot.{fits, freeBelow, worked}
+use Rattle.machine.specs.Methods.{placedRow}
+use Rattle.machine.proofs.steps.place_row.Statement.{statement}
+use Rattle.machine.proofs.steps.place_row.Tie as tie
+
+returns : tie.Need-returns
+unfolding placedRow fits freeBelow worked
+returns c = search tests
+
+returns-2 : tie.Need-returns-2
+unfolding placedRow fits freeBelow worked
+returns-2 c = search tests
+
+sub-t11 : tie.Need-sub-t11
+sub-t11 c = search needs
+
+returns-3 : tie.Need-returns-3
+unfolding placedRow fits freeBelow worked
+returns-3 c = search tests
+
+pub place-row-spec : {M : Type 1} → statement M
+place-row-spec = tie.close (tie.spec returns returns-2 sub-t11 returns-3)
