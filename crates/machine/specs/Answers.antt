@@ -75,23 +75,29 @@ notBegun o t codes = record { done = 0; outcome = o; state = t; codes = codes }
 abbrev pub entriesOf : ℕ → ℕ → List ℕ → List ℕ
 entriesOf n j releases = take n (drop (j * n) releases)
 
--- A slot's answer after the slots done: its codes follow theirs; a refused slot is not done, and leaves all as they left it.
-abbrev pub followed : ℕ → Course → Outcome × (State × List ℕ) → Course
-followed at c (accepted, (t, codes)) =
-    record { done = c .done + 1; outcome = accepted; state = t; codes = take at (c .codes) ++ codes }
-followed at c (refused number place, came) =
-    record { done = c .done; outcome = refused number place; state = c .state; codes = c .codes }
+-- A slot's answer, with the codes of the slots before it in front.
+abbrev pub behind : List ℕ → Outcome × (State × List ℕ) → Outcome × (State × List ℕ)
+behind front (o, (t, codes)) = (o, (t, front ++ codes))
 
--- Slot j, after the slots before it.
-unfoldable pub oneMore : Sheet → List ℕ → ℕ → Course → Course
-oneMore h releases j c =
-    followed (j * h .count) c (slot h (c .state) (entriesOf (h .count) j releases) (drop (j * h .count) (c .codes)))
+-- Slot j of a list: on its own entries and its own part of the code buffer.
+unfoldable pub slotAt : Sheet → State → List ℕ → List ℕ → ℕ → Outcome × (State × List ℕ)
+slotAt h t releases codes j =
+    behind (take (j * h .count) codes) (slot h t (entriesOf (h .count) j releases) (drop (j * h .count) codes))
+
+-- The course with a slot's answer: an accepted slot is done, a refused one is not.
+abbrev pub followed : ℕ → Outcome × (State × List ℕ) → Course
+followed done (accepted, (t, codes)) = record { done = done + 1; outcome = accepted; state = t; codes = codes }
+followed done (refused number place, (t, codes)) = record { done = done; outcome = refused number place; state = t; codes = codes }
+
+-- Slot j after a course, where nothing in it was refused.
+unfoldable pub onward : Sheet → List ℕ → ℕ → Course → Course
+onward h releases j c =
+    pick (isAccepted (c .outcome)) (followed (c .done) (slotAt h (c .state) releases (c .codes) j)) c
 
 -- So many slots one after another, to the first that is refused.
 unfoldable pub course : Sheet → List ℕ → Course → ℕ → Course
 course h releases c zero = c
-course h releases c (suc j) =
-    pick (isAccepted (course h releases c j .outcome)) (oneMore h releases j (course h releases c j)) (course h releases c j)
+course h releases c (suc j) = onward h releases j (course h releases c j)
 
 -- A run whose checks before its first slot gave this outcome.
 abbrev pub runBy : Outcome → Sheet → State → List ℕ → List ℕ → Course

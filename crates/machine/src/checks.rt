@@ -33,14 +33,14 @@ impl State {
         ensures { λ r. ⌜ outcome r ≡ checkState sheet self ⌝ }
     {
         let sheet_fine = sheet::is_legal(sheet);
-        if !sheet_fine {
-            return Refusal::Refused(10, 0);
-        }
-        let state_fine = self.is_legal(sheet);
-        if !state_fine {
+        if sheet_fine {
+            let state_fine = self.is_legal(sheet);
+            if state_fine {
+                return Refusal::Accepted;
+            }
             return Refusal::Refused(16, 0);
         }
-        Refusal::Accepted
+        Refusal::Refused(10, 0)
     }
 
     // The releases of a slot, rows from the top.

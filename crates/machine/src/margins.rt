@@ -30,8 +30,8 @@ fn margin_of(row: Row, s: RowState) -> Margin
     if remaining <= 0 {
         return Margin::NoJob;
     }
-    let rest = deadline as i64 - since as i64;
-    let margin = rest - remaining as i64;
+    let spent = since + remaining;
+    let margin = deadline as i64 - spent as i64;
     Margin::Is(margin)
 }
 

@@ -1,13 +1,14 @@
 // A run of slots.
 ghost use mathlib.Core.Path.{_≡_};
 ghost use mathlib.Core.Bool.{true};
-ghost use Prim.Native.Nat.{_≤_, _*_};
+ghost use Prim.Native.Nat.{_+_, _*_, _≤_};
 ghost use lib.ListN.{length};
 ghost use Rattle.basis.specs.Refusals.{accepted};
 ghost use Rattle.sheet.specs.Legal.{legal};
 ghost use Rattle.machine.specs.States.{legalState};
-ghost use Rattle.machine.specs.Answers.{ran, notBegun, course, run};
+ghost use Rattle.machine.specs.Answers.{slotted, slotAt, ran, notBegun, course, run};
 use basis::Refusal;
+use crate::slots::Slotted;
 use crate::state::State;
 use sheet::Sheet;
 
@@ -19,27 +20,50 @@ pub struct Ran {
 }
 
 impl State {
+    // Slot j of a run whose checks have passed.
+    fn slot_at(self, sheet: Sheet, releases: &[u64], codes: &mut [u8], j: usize) -> Slotted
+        requires { ⌜ (legal sheet ≡ true) × (legalState sheet self ≡ true)
+            × (j * sheet .count + sheet .count ≤ length (now releases)) × (j * sheet .count + sheet .count ≤ length (now codes)) ⌝ }
+        ensures { λ r. ⌜ slotted r (now (codes .exit)) ≡ slotAt sheet self (now (releases .entry)) (now (codes .entry)) j ⌝ }
+    {
+        let n = sheet.count as usize;
+        let at = j * n;
+        let end = at + n;
+        let refusal = self.check_releases(sheet, &releases[at..end]);
+        match refusal {
+            Refusal::Refused(number, place) => Slotted {
+                refusal: Refusal::Refused(number, place),
+                state: self,
+            },
+            Refusal::Accepted => {
+                let state = self.next(sheet, &releases[at..end], &mut codes[at..]);
+                Slotted {
+                    refusal: Refusal::Accepted,
+                    state,
+                }
+            }
+        }
+    }
+
     // So many slots one after another, to the first that is refused.
     fn run_slots(self, sheet: Sheet, releases: &[u64], codes: &mut [u8], slots: usize) -> Ran
         requires { ⌜ (legal sheet ≡ true) × (legalState sheet self ≡ true)
             × (slots * sheet .count ≤ length (now releases)) × (slots * sheet .count ≤ length (now codes)) ⌝ }
         ensures { λ r. ⌜ ran r (now (codes .exit)) ≡ course sheet (now (releases .entry)) (notBegun accepted self (now (codes .entry))) slots ⌝ }
     {
-        let n = sheet.count as usize;
         let mut state = self;
         let mut done: usize = 0;
         while done < slots {
-            let at = done * n;
-            let end = at + n;
-            let refusal = state.check_releases(sheet, &releases[at..end]);
+            let slotted = state.slot_at(sheet, releases, codes, done);
+            let refusal = slotted.refusal;
+            let after = slotted.state;
             if let Refusal::Refused(number, place) = refusal {
                 return Ran {
                     done: done as u64,
                     refusal: Refusal::Refused(number, place),
-                    state,
+                    state: after,
                 };
             }
-            let after = state.next(sheet, &releases[at..end], &mut codes[at..]);
             state = after;
             done += 1;
         }

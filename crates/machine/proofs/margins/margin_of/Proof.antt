@@ -1,37 +1,28 @@
+-- `margin_of` meets its promise. Assumes nothing.
 use borrow.Author.Needs.{needs}
+use Rattle.machine.proofs.Differences.{difference-fits}
+use Rattle.machine.proofs.Answered.{margin-none, margin-some}
 use Rattle.machine.proofs.margins.margin_of.Statement.{statement}
 use Rattle.machine.proofs.margins.margin_of.Tie as tie
-use Rattle.machine.proofs.margins.margin_of.Reads as reads
-use Rattle.machine.proofs.margins.margin_of.Lts as lts
 
--- src/margins.rt:31:9
 returns : tie.Need-returns
-returns c = ?
+returns c = search margin-none
 
--- src/margins.rt:33:16
-cast-rest : tie.Need-cast-rest
-cast-rest c = search needs
+add-spent : tie.Need-add-spent
+add-spent c = search needs
 
--- src/margins.rt:33:34
-cast-rest-2 : tie.Need-cast-rest-2
-cast-rest-2 c = search needs
-
--- src/margins.rt:33:16
-sub-rest : tie.Need-sub-rest
-sub-rest c = ?
-
--- src/margins.rt:34:25
 cast-margin : tie.Need-cast-margin
 cast-margin c = search needs
 
--- src/margins.rt:34:18
-sub-margin : tie.Need-sub-margin
-sub-margin c = ?
+cast-margin-2 : tie.Need-cast-margin-2
+cast-margin-2 c = search needs
 
--- src/margins.rt:23:1
+sub-margin : tie.Need-sub-margin
+sub-margin c = difference-fits _ _ (search needs) (search needs)
+
 returns-2 : tie.Need-returns-2
-returns-2 c = ?
+returns-2 c = search margin-some
 
 pub margin-of-spec : {M : Type 1} → statement M
 margin-of-spec =
-    tie.close (tie.spec returns cast-rest cast-rest-2 sub-rest cast-margin sub-margin returns-2)
+    tie.close (tie.spec returns add-spent cast-margin cast-margin-2 sub-margin returns-2)

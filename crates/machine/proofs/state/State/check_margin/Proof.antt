@@ -1,0 +1,28 @@
+-- `check_margin` meets its promise. Assumes nothing.
+use borrow.Author.Needs.{needs}
+use Rattle.machine.proofs.Checked.{margin-refused, margin-14, margin-in-order}
+use Rattle.machine.proofs.state.State.check_margin.Statement.{statement}
+use Rattle.machine.proofs.state.State.check_margin.Tie as tie
+
+check-state-requires : tie.Need-check-state-requires
+check-state-requires c κs = search needs
+
+enum-known-refusal : tie.Need-enum-known-refusal
+enum-known-refusal c = search needs
+
+returns : tie.Need-returns
+returns c = search margin-refused
+
+enum-told : tie.Need-enum-told
+enum-told c = search needs
+
+returns-2 : tie.Need-returns-2
+returns-2 c = search margin-14
+
+returns-3 : tie.Need-returns-3
+returns-3 c = search margin-in-order
+
+pub check-margin-spec : {M : Type 1} → statement M
+check-margin-spec =
+    tie.close
+    (tie.spec check-state-requires enum-known-refusal returns enum-told returns-2 returns-3)
