@@ -8,10 +8,11 @@ use lib.ListN.{length, getD, take, drop}
 use lib.Dec.{ltb, leb, eqb}
 use lib.IntN.{ℤ, pos, _-ℤ_}
 use native.Mathlib.Omega.{arith}
-use native.Mathlib.Nat.{div-add-mod'}
+use native.Mathlib.Nat.{div-add-mod', mul-le-mul}
 use borrow.Author.Tests.{lt-ltb, le-ltb, ltb-true, leb-true, eqb-true}
 use mir.Syntax.{w64}
-use mir.Val.{toZ}
+use mir.Val.{Fits, SFits, toZ, ofZ}
+use mir.ValLaws.{toZ-ofZ}
 use Rattle.basis.specs.Limits.{mostRows, mostSeparation}
 use Rattle.basis.specs.Refusals.{Outcome, accepted, refused, outcome, orElse}
 use Rattle.basis.specs.declared.refusal.Refusal.{Refusal}
@@ -26,7 +27,7 @@ use Rattle.machine.specs.States.{recordAt, hasJob, noState, freshState, 
 use Rattle.machine.specs.Checks.{needed, checkReleases, checkState, checkRoom, checkSlot, checkRun, checkMargin}
 use Rattle.machine.specs.Answers.{fresh, nextState, nextCodes, slot, notBegun, course, run, Course, Told, no-job, margin-is, refused-by, marginOf, marginAt, margin}
 use Rattle.machine.proofs.Checked.{both-accepted, needed-holds, Ready, ready}
-use Rattle.machine.proofs.Differences.{themselves, less, less-twice}
+use Rattle.machine.proofs.Differences.{themselves, difference-fits, less-twice}
 use Rattle.machine.proofs.Legals.{LegalRecord, LegalState, legal-state-is}
 
 -- `fresh`
@@ -123,12 +124,16 @@ pub margin-none : (row : Row) (s : RowState) → s .remaining ≤ 0 → no-job �
 unfolding marginAt
 margin-none row s l = rw (le-ltb _ _ l)
 
+pub margin-fits : (row : Row) (s : RowState) → row .deadline ≤ mostSeparation → s .since ≤ mostSeparation → s .remaining ≤ mostSeparation
+    → SFits w64 (toZ w64 (row .deadline) -ℤ toZ w64 (s .since + s .remaining))
+margin-fits row s a b c = difference-fits (row .deadline) (s .since + s .remaining) a (omega arith)
+
 pub margin-some : (row : Row) (s : RowState) → row .deadline ≤ mostSeparation → s .since ≤ mostSeparation → s .remaining ≤ mostSeparation → 0 < s .remaining
-    → margin-is (toZ w64 (row .deadline) -ℤ toZ w64 (s .since + s .remaining)) ≡ marginAt row s
+    → margin-is (toZ w64 (ofZ w64 (toZ w64 (row .deadline) -ℤ toZ w64 (s .since + s .remaining)))) ≡ marginAt row s
 unfolding marginAt marginOf
 margin-some row s a b c l =
     rw (lt-ltb _ _ l)
-    (ap margin-is (themselves _ _ a (omega arith) ∙ sym (less-twice (row .deadline) (s .since) (s .remaining))))
+    (ap margin-is (toZ-ofZ w64 _ (margin-fits row s a b c) ∙ themselves (row .deadline) (s .since + s .remaining) a (omega arith) ∙ sym (less-twice (row .deadline) (s .since) (s .remaining))))
 
 -- `margin`
 module _ (h : Sheet) (t : State) (k : ℕ) (c : Refusal) (e : outcome c ≡ checkMargin h t k) where
@@ -151,6 +156,9 @@ module _ (h : Sheet) (t : State) (k : ℕ) (c : Refusal) (e : outcome c ≡ chec
 
     pub row-in-array : k < mostRows
     row-in-array = omega (arith, both-checked .1, ready h t (both-checked .0) .most-rows)
+
+    pub row-scaled : (size : ℕ) → size ≤ 4096 → Fits w64 (k * size)
+    row-scaled size l = record { fits = omega (arith, mul-le-mul {n₁ = k} {m₁ = size} {n₂ = mostRows} {m₂ = 4096} (omega (arith, row-in-array)) l) }
 
     pub small-deadline : rowAt h k .deadline ≤ mostSeparation
     small-deadline = omega (arith, row-is .most-deadline, row-is .most-separation)

@@ -1,8 +1,11 @@
 pub mod Answered
 pub mod Checked
+pub mod Courses
 pub mod Differences
 pub mod General
 pub mod Legals
 pub mod Placement
 pub mod Turns
 pub mod Whole
+pub mod Kept
+pub mod Records

@@ -1,7 +1,6 @@
 -- `margin_of` meets its promise. Assumes nothing.
 use borrow.Author.Needs.{needs}
-use Rattle.machine.proofs.Differences.{difference-fits}
-use Rattle.machine.proofs.Answered.{margin-none, margin-some}
+use Rattle.machine.proofs.Answered.{margin-fits, margin-none, margin-some}
 use Rattle.machine.proofs.margins.margin_of.Statement.{statement}
 use Rattle.machine.proofs.margins.margin_of.Tie as tie
 
@@ -18,7 +17,7 @@ cast-margin-2 : tie.Need-cast-margin-2
 cast-margin-2 c = search needs
 
 sub-margin : tie.Need-sub-margin
-sub-margin c = difference-fits _ _ (search needs) (search needs)
+sub-margin c = search margin-fits
 
 returns-2 : tie.Need-returns-2
 returns-2 c = search margin-some

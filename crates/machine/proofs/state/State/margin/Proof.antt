@@ -1,6 +1,6 @@
 -- `margin` meets its promise. Assumes nothing.
 use borrow.Author.Needs.{needs}
-use Rattle.machine.proofs.Answered.{row-in-array, small-deadline, small-since, small-remaining, margin-is-refused, margin-is-told}
+use Rattle.machine.proofs.Answered.{row-in-array, row-scaled, small-deadline, small-since, small-remaining, margin-is-refused, margin-is-told}
 use Rattle.machine.proofs.state.State.margin.Statement.{statement}
 use Rattle.machine.proofs.state.State.margin.Tie as tie
 
@@ -14,13 +14,13 @@ enum-told : tie.Need-enum-told
 enum-told c = search needs
 
 mul-numbers : tie.Need-mul-numbers
-mul-numbers c = search (needs, row-in-array)
+mul-numbers c = search (needs, row-scaled)
 
 element-copy-out-numbers : tie.Need-element-copy-out-numbers
 element-copy-out-numbers c = search row-in-array
 
 mul-s : tie.Need-mul-s
-mul-s c = search (needs, row-in-array)
+mul-s c = search (needs, row-scaled)
 
 element-copy-out-s : tie.Need-element-copy-out-s
 element-copy-out-s c = search row-in-array

@@ -1,57 +1,63 @@
+-- `run_slots` meets its promise: the slots so far are done, and none was refused. Assumes nothing.
+use borrow.Author.Needs.{needs}
+use Prim.Native.Nat.{_*_, _-_, _≤_}
+use mathlib.Core.Path.{_≡_, refl}
+use mathlib.Core.Bool.{true}
+use lib.ListN.{length}
+use Rattle.basis.specs.Refusals.{accepted}
+use Rattle.sheet.specs.Legal.{legal}
+use Rattle.machine.specs.States.{legalState}
+use Rattle.machine.specs.Answers.{notBegun, course}
+use Rattle.machine.proofs.Courses.{room-for, goes-on, stops, ends, legal-on}
 use Rattle.machine.proofs.state.State.run_slots.Statement.{statement}
 use Rattle.machine.proofs.state.State.run_slots.Tie as tie
-use Rattle.machine.proofs.state.State.run_slots.Reads as reads
-use Rattle.machine.proofs.state.State.run_slots.Lts as lts
-use Rattle.machine.proofs.state.State.slot_at.Reads as slot-at-reads
 
 abbrev Inv-loop : tie.InvT-loop
-Inv-loop sheet releases codes₀ slots state₀ done₀ codes state done = ?
+Inv-loop sheet releases codes₀ slots state₀ done₀ codes state done =
+    (done ≤ slots)
+    × (legal sheet ≡ true)
+    × (legalState sheet state ≡ true)
+    × (slots * sheet .count ≤ length releases)
+    × (slots * sheet .count ≤ length codes)
+    × (length codes ≡ length codes₀)
+    × (course sheet releases (notBegun accepted state₀ codes₀) done ≡ record { done = done; outcome = accepted; state = state; codes = codes })
 
 abbrev μ-loop : tie.MeasureT-loop
-μ-loop sheet releases codes₀ slots state₀ done₀ codes state done = ?
+μ-loop sheet releases codes₀ slots state₀ done₀ codes state done = slots - done
 
--- src/runs.rt:56:9
 loop-holds : tie.Need-loop-holds Inv-loop μ-loop
-loop-holds c = ?
+unfolding course
+loop-holds c = (search needs, search needs, search needs, search needs, search needs, refl, refl)
 
--- src/runs.rt:57:17
 slot-at-requires : tie.Need-slot-at-requires Inv-loop μ-loop
-slot-at-requires c κs = ?
+slot-at-requires c κs = (search needs, search needs, search room-for, search room-for)
 
--- src/runs.rt:60:37
 enum-known-refusal : tie.Need-enum-known-refusal Inv-loop μ-loop
-enum-known-refusal c = ?
+enum-known-refusal c = search needs
 
--- src/runs.rt:61:17
 same-length : tie.Need-same-length Inv-loop μ-loop
-same-length c = ?
+same-length c = search needs
 
--- src/runs.rt:61:17
 returns : tie.Need-returns Inv-loop μ-loop
-returns c = ?
+returns c = search stops
 
 enum-told : tie.Need-enum-told Inv-loop μ-loop
-enum-told c = ?
+enum-told c = search needs
 
--- src/runs.rt:68:13
 add-done : tie.Need-add-done Inv-loop μ-loop
-add-done c = ?
+add-done c = search needs
 
--- src/runs.rt:56:9
 loop-less : tie.Need-loop-less Inv-loop μ-loop
-loop-less c = ?
+loop-less c = search needs
 
--- src/runs.rt:56:9
 loop-again : tie.Need-loop-again Inv-loop μ-loop
-loop-again c = ?
+loop-again c = (search needs, search needs, search legal-on, search needs, search needs, search needs, search goes-on)
 
--- src/runs.rt:49:5
 same-length-2 : tie.Need-same-length-2 Inv-loop μ-loop
-same-length-2 c = ?
+same-length-2 c = search needs
 
--- src/runs.rt:49:5
 returns-2 : tie.Need-returns-2 Inv-loop μ-loop
-returns-2 c = ?
+returns-2 c = search ends
 
 pub run-slots-spec : {M : Type 1} → statement M
 run-slots-spec =
