@@ -1,4 +1,5 @@
 pub mod Answered
+pub mod Cases
 pub mod Checked
 pub mod Courses
 pub mod Differences
@@ -9,3 +10,4 @@ pub mod Turns
 pub mod Whole
 pub mod Kept
 pub mod Records
+pub mod Same
