@@ -24,7 +24,7 @@ use Rattle.machine.specs.declared.slots.Slotted.{Slotted}
 use Rattle.machine.specs.States.{legalState}
 use Rattle.machine.specs.Checks.{checkReleases, checkState, checkRoom, checkSlot}
 use Rattle.machine.proofs.Answered.{slot-shows}
-use Rattle.machine.proofs.Kept.{slot-keeps-legal}
+use Rattle.machine.proofs.Kept.{next-legal}
 use Rattle.machine.proofs.Legals.{legal-state-is, legal-state-says}
 use Rattle.machine.specs.Answers.{nextState, nextCodes, handed, slot, slotted, entriesOf, behind, slotAt, Course, followed, onward, course, notBegun}
 
@@ -137,7 +137,7 @@ module _ (h : Sheet) (t : State) (rel cs : List ℕ) (j : ℕ) (r : Slotted) (ds
   legal-on =
       let did = slot-did h t (entriesOf (h .count) j rel) (drop (j * h .count) cs) _ _ (own .0) in
       let shown = slot-shows h t (entriesOf (h .count) j rel) (length (drop (j * h .count) cs)) (did .0) in
-      let kept = slot-keeps-legal h t (entriesOf (h .count) j rel) (legal-is h (shown .in-order .sheet-legal)) (legal-state-is h t (shown .in-order .most-rows) (shown .in-order .state-legal)) (shown .releases) in
+      let kept = next-legal h t (entriesOf (h .count) j rel) (legal-is h (shown .in-order .sheet-legal)) (legal-state-is h t (shown .in-order .most-rows) (shown .in-order .state-legal)) (shown .releases) in
       ap (legalState h) (sym (did .1)) ∙ legal-state-says h (nextState h t (entriesOf (h .count) j rel)) (shown .in-order .most-rows) kept
 
 -- the last slot is done

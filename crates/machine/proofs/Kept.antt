@@ -60,9 +60,9 @@ module _ (row : Row) (a : RowState) (p : 1 ≤ a .since) (q : a .since ≤ row .
             in-time = λ j. rw ended-since (⊎-elim (λ l. l) (λ l. absurd (d (omega (arith, u (omega arith))))) (lt-or-le (a .since) (row .deadline)));
           }
 
-next-legal : (m : ℕ) (row : Row) (s : RowState) (ran : Bool) → LegalRow m row → BegunRecord row s → LegalRecord row (ended row (aged row (worked ran s)))
+row-legal : (m : ℕ) (row : Row) (s : RowState) (ran : Bool) → LegalRow m row → BegunRecord row s → LegalRecord row (ended row (aged row (worked ran s)))
 unfolding aged
-next-legal m row s ran w b =
+row-legal m row s ran w b =
     end-legal row (aged row (worked ran s))
     (older-some (row .separation) (worked ran s .since) (w .some-separation))
     (older-most (row .separation) (worked ran s .since))
@@ -79,20 +79,20 @@ module _ (h : Sheet) (t : State) (rel : List ℕ) (w : Legal h) (l : LegalState 
   unfolding nextState
   next-past k b = upto-past (h .count) (next (given h t rel)) (t .rows) noRecord k b
 
-  pub slot-keeps-legal : checkReleases h t rel ≡ accepted → LegalState h (nextState h t rel)
+  pub next-legal : checkReleases h t rel ≡ accepted → LegalState h (nextState h t rel)
   unfolding checkReleases given
-  slot-keeps-legal e =
+  next-legal e =
       record {
         rows = λ k b. rw (next-at k b)
-          (next-legal (h .processors) (rowAt h k) (begun (given h t rel) k) (runs (given h t rel) k) (w .rows k b)
+          (row-legal (h .processors) (rowAt h k) (begun (given h t rel) k) (runs (given h t rel) k) (w .rows k b)
           (begun-legal (h .processors) (rowAt h k) (recordAt t k) (getD rel k 0) k (w .rows k b) (l .rows k b) (first-at (h .count) (checkAt h t rel) e k b)));
         past = λ k b m. rw (next-past k b) (l .past k b m);
       }
 
 -- fresh is legal
-pub fresh-is-legal : (h : Sheet) → Legal h → LegalState h (freshState h)
+pub fresh-legal : (h : Sheet) → Legal h → LegalState h (freshState h)
 unfolding freshState isZero
-fresh-is-legal h w =
+fresh-legal h w =
     record {
       rows = λ k b. rw (upto-below (h .count) (freshAt h) (replicate mostRows noRecord) noRecord k b (rw length-replicate (w .most-rows)))
         (record { some-since = w .rows k b .some-separation; most-since = le-refl (rowAt h k .separation); most-remaining = omega arith; in-time = λ j. absurd (omega arith) });

@@ -1,9 +1,12 @@
+pub mod Agree
+pub mod Alike
 pub mod Answered
 pub mod Cases
 pub mod Checked
 pub mod Courses
 pub mod Differences
 pub mod General
+pub mod Laws
 pub mod Legals
 pub mod Placement
 pub mod Turns

@@ -1,0 +1,103 @@
+-- Two sheets: rows 0 to k decide for rows 0 to k, and rows past n decide nothing.
+-- Assumes nothing.
+use Prim.Native.Nat.{ℕ, zero, suc, _+_, _*_, _/_, _%_, _≤_, _<_}
+use mathlib.Core.Path.{_≡_, refl, sym, ap, ap₂, _∙_}
+use mathlib.Core.Bool.{Bool, true, false}
+use mathlib.Core.List.{List}
+use mathlib.Core.Logic.{⊎-elim}
+use lib.ListN.{length, getD, drop, replicate}
+use lib.Dec.{ltb, eqb}
+use native.Mathlib.Omega.{arith}
+use borrow.Author.Tests.{lt-ltb, le-ltb}
+use Rattle.basis.specs.Limits.{mostRows, mostProcessors}
+use Rattle.basis.specs.Words.{pick, both, within, allOf}
+use Rattle.basis.specs.Refusals.{Outcome, accepted, refused, firstOf, orElse, isAccepted}
+use Rattle.basis.specs.Upto.{upto}
+use Rattle.basis.proofs.Words.{all-same, lt-or-le}
+use Rattle.basis.proofs.First.{first-same}
+use Rattle.basis.proofs.Upto.{upto-below}
+use Rattle.sheet.specs.Legal.{rowAt, legalRow, legal}
+use Rattle.sheet.specs.Legal as sheets
+use Rattle.sheet.specs.declared.row.Row.{Row}
+use Rattle.sheet.specs.declared.row.Sheet.{Sheet}
+use Rattle.sheet.proofs.Legality.{legal-is}
+use Rattle.machine.specs.declared.state.RowState.{RowState}
+use Rattle.machine.specs.declared.state.State.{State}
+use Rattle.machine.specs.States.{noRecord, recordAt, stateOf, freshAt, freshState, legalAt, legalRecord, isZero, legalState}
+use Rattle.machine.specs.Slot.{released, freeAt, fits, worked, aged, ended, codeOf, Given, begun, free, runs, reached, next, code}
+use Rattle.machine.specs.Checks.{needed, checkRow, checkAt, checkReleases, checkState, checkRoom, checkSlot, checkRun, checkMargin}
+use Rattle.machine.specs.Answers.{fresh, given, nextState, nextCodes, handed, slot, slotAt, onward, course, run, marginAt, margin}
+use Rattle.machine.proofs.Answered.{slot-shows}
+use Rattle.machine.proofs.General.{upto-agree}
+use Rattle.machine.proofs.Legals.{legal-state-is, legal-state-long}
+use Rattle.machine.proofs.Placement.{free-agrees}
+
+-- what two slots are given is equal in m and in rows 0 to k
+pub record AgreeTo (k : ℕ) (g g′ : Given) : Type 0 where
+  pub processors : g .processors ≡ g′ .processors
+  pub rows : (i : ℕ) → i ≤ k → g .rows i ≡ g′ .rows i
+  pub records : (i : ℕ) → i ≤ k → g .records i ≡ g′ .records i
+  pub releases : (i : ℕ) → i ≤ k → g .releases i ≡ g′ .releases i
+
+-- then rows 0 to k begin, run, and end the slot alike
+module _ (k : ℕ) (g g′ : Given) (a : AgreeTo k g g′) (i : ℕ) (l : i ≤ k) where
+  begun-agrees : begun g i ≡ begun g′ i
+  begun-agrees = ap₂ released (a .releases i l) (a .records i l)
+
+module _ (k : ℕ) (g g′ : Given) (a : AgreeTo k g g′) (i : ℕ) (l : i ≤ k) where
+  pub free-agrees-to : free g i ≡ free g′ i
+  free-agrees-to =
+      free-agrees (g .processors) (g .rows) (g′ .rows) (begun g) (begun g′) i (λ j b. a .rows j (omega arith)) (λ j b. begun-agrees k g g′ a j (omega arith))
+      ∙ ap (λ (m : ℕ). freeAt m (g′ .rows) (begun g′) i) (a .processors)
+
+  pub runs-agrees : runs g i ≡ runs g′ i
+  runs-agrees = rw (free-agrees-to, a .rows i l, begun-agrees k g g′ a i l)
+
+  pub reached-agrees : reached g i ≡ reached g′ i
+  reached-agrees = rw (runs-agrees, a .rows i l, begun-agrees k g g′ a i l)
+
+  pub next-agrees : next g i ≡ next g′ i
+  next-agrees = ap₂ ended (a .rows i l) reached-agrees
+
+  pub code-agrees : code g i ≡ code g′ i
+  code-agrees = rw (runs-agrees, a .rows i l, begun-agrees k g g′ a i l)
+
+-- an accepted slot, and what it gives
+pub slot-outcome : (h : Sheet) (t : State) (rel cs : List ℕ) → slot h t rel cs .0 ≡ checkSlot h t rel (length cs)
+unfolding slot
+slot-outcome h t rel cs = go (checkSlot h t rel (length cs))
+  where
+    go : (o : Outcome) → handed {A = State × List ℕ} o (nextState h t rel, nextCodes h t rel cs) (t, cs) .0 ≡ o
+    go accepted = refl
+    go (refused a b) = refl
+
+module _ (h : Sheet) (t : State) (rel cs : List ℕ) (f : slot h t rel cs .0 ≡ accepted) where
+  passed : checkSlot h t rel (length cs) ≡ accepted
+  passed = sym (slot-outcome h t rel cs) ∙ f
+
+  pub slot-gives : slot h t rel cs ≡ (accepted, (nextState h t rel, nextCodes h t rel cs))
+  unfolding slot
+  slot-gives = rw passed
+
+  pub record-after : (i : ℕ) → i < h .count → recordAt (slot h t rel cs .1 .0) i ≡ next (given h t rel) i
+  unfolding nextState
+  record-after i l =
+      let shown = slot-shows h t rel (length cs) passed in
+      ap (λ (x : Outcome × (State × List ℕ)). recordAt (x .1 .0) i) slot-gives
+      ∙ upto-below (h .count) (next (given h t rel)) (t .rows) noRecord i l (legal-state-long h t (legal-state-is h t (shown .in-order .most-rows) (shown .in-order .state-legal)))
+
+  pub code-after : (i : ℕ) → i < h .count → getD (slot h t rel cs .1 .1) i 0 ≡ code (given h t rel) i
+  unfolding nextCodes
+  code-after i l =
+      let shown = slot-shows h t rel (length cs) passed in
+      ap (λ (x : Outcome × (State × List ℕ)). getD (x .1 .1) i 0) slot-gives
+      ∙ upto-below (h .count) (code (given h t rel)) cs 0 i l (omega (arith, shown .long, shown .roomy))
+
+-- two accepted slots that are given equal rows 0 to k: codes and next records of rows 0 to k are equal
+pub upper-rows-decide : (h h′ : Sheet) (t t′ : State) (rel rel′ cs cs′ : List ℕ) (k : ℕ) → AgreeTo k (given h t rel) (given h′ t′ rel′)
+    → slot h t rel cs .0 ≡ accepted → slot h′ t′ rel′ cs′ .0 ≡ accepted → k < h .count → k < h′ .count → (i : ℕ) → i ≤ k
+    → (getD (slot h t rel cs .1 .1) i 0 ≡ getD (slot h′ t′ rel′ cs′ .1 .1) i 0) × (recordAt (slot h t rel cs .1 .0) i ≡ recordAt (slot h′ t′ rel′ cs′ .1 .0) i)
+upper-rows-decide h h′ t t′ rel rel′ cs cs′ k a e e′ l l′ i b = (
+  code-after h t rel cs e i (omega arith) ∙ code-agrees k (given h t rel) (given h′ t′ rel′) a i b ∙ sym (code-after h′ t′ rel′ cs′ e′ i (omega arith)),
+  record-after h t rel cs e i (omega arith) ∙ next-agrees k (given h t rel) (given h′ t′ rel′) a i b ∙ sym (record-after h′ t′ rel′ cs′ e′ i (omega arith)),
+)
