@@ -78,7 +78,7 @@ pub room-for : (n j slots m : ℕ) → j < slots → slots * n ≤ m → j * n +
 room-for n j slots m l r = omega (arith, mul-le-mul-right {m = j + 1} {n = slots} n (omega arith))
 
 -- a course that has stopped stays
-idle : (h : Sheet) (rel : List ℕ) (j : ℕ) (c : Course) (a b : ℕ) → c .outcome ≡ refused a b → onward h rel j c ≡ c
+pub idle : (h : Sheet) (rel : List ℕ) (j : ℕ) (c : Course) (a b : ℕ) → c .outcome ≡ refused a b → onward h rel j c ≡ c
 unfolding onward
 idle h rel j c a b e = rw e
 

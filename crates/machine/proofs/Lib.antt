@@ -5,9 +5,11 @@ pub mod Cases
 pub mod Checked
 pub mod Courses
 pub mod Differences
+pub mod Done
 pub mod General
 pub mod Laws
 pub mod Legals
+pub mod Listed
 pub mod Placement
 pub mod Turns
 pub mod Whole
