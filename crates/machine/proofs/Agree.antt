@@ -72,24 +72,24 @@ slot-outcome h t rel cs = go (checkSlot h t rel (length cs))
     go (refused a b) = refl
 
 module _ (h : Sheet) (t : State) (rel cs : List ℕ) (f : slot h t rel cs .0 ≡ accepted) where
-  passed : checkSlot h t rel (length cs) ≡ accepted
-  passed = sym (slot-outcome h t rel cs) ∙ f
+  pub slot-passed : checkSlot h t rel (length cs) ≡ accepted
+  slot-passed = sym (slot-outcome h t rel cs) ∙ f
 
   pub slot-gives : slot h t rel cs ≡ (accepted, (nextState h t rel, nextCodes h t rel cs))
   unfolding slot
-  slot-gives = rw passed
+  slot-gives = rw slot-passed
 
   pub record-after : (i : ℕ) → i < h .count → recordAt (slot h t rel cs .1 .0) i ≡ next (given h t rel) i
   unfolding nextState
   record-after i l =
-      let shown = slot-shows h t rel (length cs) passed in
+      let shown = slot-shows h t rel (length cs) slot-passed in
       ap (λ (x : Outcome × (State × List ℕ)). recordAt (x .1 .0) i) slot-gives
       ∙ upto-below (h .count) (next (given h t rel)) (t .rows) noRecord i l (legal-state-long h t (legal-state-is h t (shown .in-order .most-rows) (shown .in-order .state-legal)))
 
   pub code-after : (i : ℕ) → i < h .count → getD (slot h t rel cs .1 .1) i 0 ≡ code (given h t rel) i
   unfolding nextCodes
   code-after i l =
-      let shown = slot-shows h t rel (length cs) passed in
+      let shown = slot-shows h t rel (length cs) slot-passed in
       ap (λ (x : Outcome × (State × List ℕ)). getD (x .1 .1) i 0) slot-gives
       ∙ upto-below (h .count) (code (given h t rel)) cs 0 i l (omega (arith, shown .long, shown .roomy))
 

@@ -13,6 +13,7 @@ pub mod Listed
 pub mod Placement
 pub mod Turns
 pub mod Whole
+pub mod Jobs
 pub mod Kept
 pub mod Records
 pub mod Same
