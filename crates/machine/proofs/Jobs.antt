@@ -28,9 +28,6 @@ use Rattle.machine.proofs.Records.{released-none, release-allowed, olde
 
 -- one slot of a row, by whether it ran: its code, and its record
 module _ (row : Row) (ran : Bool) (s : RowState) (young : s .since < row .separation) (job : 1 ≤ s .remaining) where
-  after : RowState
-  after = aged row (worked ran s)
-
   after-since : aged row (worked ran s) .since ≡ s .since + 1
   unfolding aged worked
   after-since = older-below (row .separation) (s .since) young

@@ -4,6 +4,7 @@ pub mod Answered
 pub mod Cases
 pub mod Checked
 pub mod Courses
+pub mod Deadlines
 pub mod Differences
 pub mod Done
 pub mod General

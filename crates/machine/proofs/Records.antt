@@ -90,3 +90,17 @@ release-allowed row s r k l e =
     go true ea b eb f = let z : _≡_ {A = ℕ} 0 1 = cc in absurd (omega arith)
     go false ea true eb f = let z : _≡_ {A = ℕ} 0 1 = cc in absurd (omega arith)
     go false ea false eb f = (ltb-false _ _ ea, ltb-false _ _ eb)
+
+-- a slot takes one at most
+pub worked-least : (ran : Bool) (s : RowState) → s .remaining ≤ worked ran s .remaining + 1
+unfolding worked
+worked-least true s = omega arith
+worked-least false s = omega arith
+
+pub worked-one : (ran : Bool) (s : RowState) → ran ≡ true → worked ran s .remaining ≡ s .remaining - 1
+unfolding worked
+worked-one ran s e = rw e
+
+pub worked-none : (ran : Bool) (s : RowState) → ran ≡ false → worked ran s .remaining ≡ s .remaining
+unfolding worked
+worked-none ran s e = rw e

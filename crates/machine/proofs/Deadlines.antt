@@ -1,0 +1,185 @@
+-- The margin of a row with a job: its value, its range, and what it says of the deadline.
+-- Assumes nothing.
+use Prim.Native.Nat.{ℕ, zero, suc, _+_, _-_, _≤_, _<_}
+use mathlib.Core.Path.{_≡_, refl, sym, ap, ap₂, subst, _∙_}
+use mathlib.Core.Bool.{Bool, true, false, cond}
+use mathlib.Core.List.{List}
+use lib.ListN.{length, getD}
+use lib.Dec.{ltb, le→leb, ltb→lt}
+use lib.IntN.{ℤ, pos, negsuc, subℕ, _-ℤ_}
+use lib.Signed.{_≤ℤ_, _<ℤ_}
+use native.Mathlib.Omega.{arith}
+use native.Mathlib.Numerals.{add-one}
+use native.Mathlib.Nat.{add-zero, add-suc}
+use borrow.Author.Tests.{lt-ltb, le-ltb, ltb-true, ltb-false}
+use Rattle.basis.specs.Words.{pick}
+use Rattle.basis.specs.Refusals.{Outcome, accepted}
+use Rattle.sheet.specs.Legal.{rowAt, LegalRow}
+use Rattle.sheet.specs.declared.row.Row.{Row}
+use Rattle.sheet.specs.declared.row.Sheet.{Sheet}
+use Rattle.machine.specs.declared.state.RowState.{RowState}
+use Rattle.machine.specs.declared.state.State.{State}
+use Rattle.machine.specs.States.{recordAt, hasJob}
+use Rattle.machine.specs.Slot.{worked, aged, ended, runs}
+use Rattle.machine.specs.Checks.{checkMargin}
+use Rattle.machine.specs.Answers.{given, slot, no-job, margin-is, marginOf, marginAt, margin}
+use Rattle.machine.proofs.Differences.{less, less-twice}
+use Rattle.machine.proofs.Jobs.{JobSlot, job-slot, job-finished, job-missed, job-left, job-older}
+use Rattle.machine.proofs.Legals.{LegalRecord}
+use Rattle.machine.proofs.Records.{worked-least, worked-one, worked-none}
+
+-- where the checks pass: a row with a job has the margin D - since - remaining, and a row without one has none
+pub margin-of-a-job : (h : Sheet) (t : State) (k : ℕ) → checkMargin h t k ≡ accepted → 1 ≤ recordAt t k .remaining
+    → margin h t k ≡ margin-is ((pos (rowAt h k .deadline) -ℤ pos (recordAt t k .since)) -ℤ pos (recordAt t k .remaining))
+unfolding margin marginAt marginOf
+margin-of-a-job h t k e j = rw (e, lt-ltb 0 (recordAt t k .remaining) j)
+
+pub margin-of-no-job : (h : Sheet) (t : State) (k : ℕ) → checkMargin h t k ≡ accepted → recordAt t k .remaining ≡ 0 → margin h t k ≡ no-job
+unfolding margin marginAt
+margin-of-no-job h t k e j = rw (e, j)
+
+-- differences in order
+difference-le : (a b c d : ℕ) → a + d ≤ c + b → subℕ a b ≤ℤ subℕ c d
+difference-le a b c d h = go (ltb a b) refl (ltb c d) refl
+  where
+    go : (x : Bool) → ltb a b ≡ x → (y : Bool) → ltb c d ≡ y → cond x (negsuc (b - suc a)) (pos (a - b)) ≤ℤ cond y (negsuc (d - suc c)) (pos (c - d))
+    go true e true f = record { le = le→leb (d - suc c) (b - suc a) (omega (arith, ltb-true a b e, ltb-true c d f)) }
+    go true e false f = record { le = tt }
+    go false e true f = absurd (omega (arith, ltb-false a b e, ltb-true c d f))
+    go false e false f = record { le = le→leb (a - b) (c - d) (omega (arith, ltb-false a b e, ltb-false c d f)) }
+
+-- the range: from 1 - C to D - 2
+module _ (m : ℕ) (row : Row) (s : RowState) (w : LegalRow m row) (l : LegalRecord row s) (job : 1 ≤ s .remaining) where
+  pub margin-least : (pos 1 -ℤ pos (row .budget)) ≤ℤ marginOf row s
+  unfolding marginOf
+  margin-least =
+      rw (less-twice (row .deadline) (s .since) (s .remaining), less 1 (row .budget))
+      (difference-le 1 (row .budget) (row .deadline) (s .since + s .remaining) (omega (arith, l .in-time job, l .most-remaining)))
+
+  pub margin-most : marginOf row s ≤ℤ (pos (row .deadline) -ℤ pos 2)
+  unfolding marginOf
+  margin-most =
+      rw (less-twice (row .deadline) (s .since) (s .remaining), less (row .deadline) 2)
+      (difference-le (row .deadline) (s .since + s .remaining) (row .deadline) 2 (omega (arith, l .some-since)))
+
+-- negative, and zero, as numbers
+negative-late : (row : Row) (s : RowState) → marginOf row s <ℤ pos 0 → row .deadline < s .since + s .remaining
+unfolding marginOf
+negative-late row s n = go (ltb (row .deadline) (s .since + s .remaining)) refl (rw less-twice at n)
+  where
+    go : (x : Bool) → ltb (row .deadline) (s .since + s .remaining) ≡ x
+        → cond x (negsuc (s .since + s .remaining - suc (row .deadline))) (pos (row .deadline - (s .since + s .remaining))) <ℤ pos 0 → row .deadline < s .since + s .remaining
+    go true e f = ltb-true _ _ e
+    go false e f = absurd (omega (arith, ltb→lt (row .deadline - (s .since + s .remaining)) 0 (f .lt)))
+
+zero-just : (row : Row) (s : RowState) → marginOf row s ≡ pos 0 → s .since + s .remaining ≡ row .deadline
+unfolding marginOf
+zero-just row s e = go (ltb (row .deadline) (s .since + s .remaining)) refl (sym (less-twice (row .deadline) (s .since) (s .remaining)) ∙ e)
+  where
+    go : (x : Bool) → ltb (row .deadline) (s .since + s .remaining) ≡ x
+        → cond x (negsuc (s .since + s .remaining - suc (row .deadline))) (pos (row .deadline - (s .since + s .remaining))) ≡ pos 0 → s .since + s .remaining ≡ row .deadline
+    go true f g = let z : _≡_ {A = ℕ} 0 1 = cc in absurd (omega arith)
+    go false f g = let z : row .deadline - (s .since + s .remaining) ≡ 0 = cc in omega (arith, ltb-false (row .deadline) (s .since + s .remaining) f)
+
+-- n accepted slots one after another, with any releases and any room for codes
+pub record Continuation (h : Sheet) (n : ℕ) : Type 0 where
+  pub state : ℕ → State
+  pub releases : ℕ → List ℕ
+  pub room : ℕ → List ℕ
+  pub codes : ℕ → List ℕ
+  pub each : (j : ℕ) → j < n → slot h (state j) (releases j) (room j) ≡ (accepted, (state (suc j), codes j))
+
+module _ (h : Sheet) (n : ℕ) (g : Continuation h n) (k : ℕ) (there : k < h .count) where
+  open Continuation g using (state, releases, room, codes, each)
+
+  -- the record of the row before slot i, and whether it runs in it
+  abbrev at : ℕ → RowState
+  at i = recordAt (state i) k
+
+  abbrev ran : ℕ → Bool
+  ran i = runs (given h (state i) (releases i)) k
+
+  abbrev row : Row
+  row = rowAt h k
+
+  -- a job that is not through by the slot before its deadline goes on
+  module _ (i : ℕ) (in-it : i < n) (job : 1 ≤ at i .remaining) where
+    one : JobSlot h (state i) (releases i) (state (suc i)) (codes i) k
+    one = job-slot h (state i) (releases i) (room i) (state (suc i)) (codes i) k (each i in-it) there job
+
+    missed-now : 1 ≤ worked (ran i) (at i) .remaining → at i .since + 1 ≡ row .deadline → getD (codes i) k 0 ≡ 4
+    missed-now left e = one .code-is ∙ job-missed row (ran i) (at i) (one .young) job left e
+
+    finished-now : worked (ran i) (at i) .remaining ≡ 0 → getD (codes i) k 0 ≡ 3
+    finished-now e = one .code-is ∙ job-finished row (ran i) (at i) (one .young) job e
+
+    still-there : 1 ≤ worked (ran i) (at i) .remaining → (at i .since + 1 ≡ row .deadline → ⊥) → at (suc i) .remaining ≡ worked (ran i) (at i) .remaining
+    still-there left d = ap (λ (s : RowState). s .remaining) (one .record-is) ∙ job-left row (ran i) (at i) (one .young) job left d
+
+    one-older : at (suc i) .since ≡ at i .since + 1
+    one-older = ap (λ (s : RowState). s .since) (one .record-is) ∙ job-older row (ran i) (at i) (one .young) job
+
+  from-next : (d i : ℕ) → getD (codes (i + suc d)) k 0 ≡ getD (codes (suc i + d)) k 0
+  from-next d i = let e : i + suc d ≡ suc i + d = omega arith in ap (λ (x : ℕ). getD (codes x) k 0) e
+
+  -- a job with more to run than slots to its deadline is missed at its deadline
+  late : (d i : ℕ) → i + d < n → 1 ≤ at i .remaining → at i .since + d + 1 ≡ row .deadline → row .deadline < at i .since + at i .remaining → getD (codes (i + d)) k 0 ≡ 4
+  late zero i b job e l =
+      rw add-zero (missed-now i (omega arith) job (omega (arith, worked-least (ran i) (at i))) (omega arith))
+  late (suc d) i b job e l =
+      let left : 1 ≤ worked (ran i) (at i) .remaining = omega (arith, worked-least (ran i) (at i)) in
+      let more = still-there i (omega arith) job left (λ f. omega arith) in
+      let older = one-older i (omega arith) job in
+      from-next d i
+      ∙ late d (suc i) (omega arith) (omega arith) (omega arith) (omega (arith, worked-least (ran i) (at i)))
+
+  -- a job that has just enough slots and runs in each is finished at its deadline
+  just : (d i : ℕ) → i + d < n → 1 ≤ at i .remaining → at i .since + d + 1 ≡ row .deadline → at i .since + at i .remaining ≡ row .deadline
+      → ((j : ℕ) → i ≤ j → j ≤ i + d → ran j ≡ true) → getD (codes (i + d)) k 0 ≡ 3
+  just zero i b job e l r = rw add-zero (finished-now i (omega arith) job (omega (arith, worked-one (ran i) (at i) (r i (omega arith) (omega arith)))))
+  just (suc d) i b job e l r =
+      let one-less = worked-one (ran i) (at i) (r i (omega arith) (omega arith)) in
+      let left : 1 ≤ worked (ran i) (at i) .remaining = omega arith in
+      let more = still-there i (omega arith) job left (λ f. omega arith) in
+      let older = one-older i (omega arith) job in
+      from-next d i
+      ∙ just d (suc i) (omega arith) (omega arith) (omega arith) (omega arith) (λ j a c. r j (omega arith) (omega arith))
+
+  -- a job that has just enough slots and waits in one of them is missed at its deadline
+  waited : (v d i : ℕ) → v ≤ d → i + d < n → 1 ≤ at i .remaining → at i .since + d + 1 ≡ row .deadline → row .deadline ≤ at i .since + at i .remaining
+      → ran (i + v) ≡ false → getD (codes (i + d)) k 0 ≡ 4
+  waited zero zero i a b job e l r =
+      let all = worked-none (ran i) (at i) (subst (λ (x : ℕ). ran x ≡ false) (add-zero i) r) in
+      rw add-zero (missed-now i (omega arith) job (omega arith) (omega arith))
+  waited zero (suc d) i a b job e l r =
+      let all = worked-none (ran i) (at i) (subst (λ (x : ℕ). ran x ≡ false) (add-zero i) r) in
+      let more = still-there i (omega arith) job (omega arith) (λ f. omega arith) in
+      let older = one-older i (omega arith) job in
+      from-next d i ∙ late d (suc i) (omega arith) (omega arith) (omega arith) (omega arith)
+  waited (suc v) zero i a b job e l r = absurd (omega arith)
+  waited (suc v) (suc d) i a b job e l r =
+      let left : 1 ≤ worked (ran i) (at i) .remaining = omega (arith, worked-least (ran i) (at i)) in
+      let more = still-there i (omega arith) job left (λ f. omega arith) in
+      let older = one-older i (omega arith) job in
+      let same : i + suc v ≡ suc i + v = omega arith in
+      from-next d i
+      ∙ waited v d (suc i) (omega arith) (omega arith) (omega arith) (omega arith) (omega (arith, worked-least (ran i) (at i))) (subst (λ (x : ℕ). ran x ≡ false) same r)
+
+  -- what the margin says before the first of the slots; since reaches the deadline in slot d
+  module _ (job : 1 ≤ at 0 .remaining) (d : ℕ) (reaches : at 0 .since + d + 1 ≡ row .deadline) (given-it : d < n) where
+    from-none : getD (codes d) k 0 ≡ getD (codes (0 + d)) k 0
+    from-none = let e : d ≡ 0 + d = omega arith in ap (λ (x : ℕ). getD (codes x) k 0) e
+
+    -- a negative margin: every continuation that reaches the deadline gives code 4 there
+    pub negative-is-missed : marginOf row (at 0) <ℤ pos 0 → getD (codes d) k 0 ≡ 4
+    negative-is-missed m = from-none ∙ late d 0 (omega arith) job reaches (negative-late row (at 0) m)
+
+    -- a margin of zero: one waiting slot, and it ends in 4
+    pub zero-waits-once : marginOf row (at 0) ≡ pos 0 → (v : ℕ) → v ≤ d → ran v ≡ false → getD (codes d) k 0 ≡ 4
+    zero-waits-once m v l r =
+        let same : v ≡ 0 + v = omega arith in
+        from-none ∙ waited v d 0 l (omega arith) job reaches (omega (arith, zero-just row (at 0) m)) (subst (λ (x : ℕ). ran x ≡ false) same r)
+
+    -- and running in every slot it ends in 3
+    pub zero-runs-on : marginOf row (at 0) ≡ pos 0 → ((v : ℕ) → v ≤ d → ran v ≡ true) → getD (codes d) k 0 ≡ 3
+    zero-runs-on m r = from-none ∙ just d 0 (omega arith) job reaches (zero-just row (at 0) m) (λ j a c. r j (omega arith))
