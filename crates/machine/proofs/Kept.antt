@@ -84,8 +84,8 @@ module _ (h : Sheet) (t : State) (rel : List ℕ) (w : Legal h) (l : LegalState 
   next-legal e =
       record {
         rows = λ k b. rw (next-at k b)
-          (row-legal (h .processors) (rowAt h k) (begun (given h t rel) k) (runs (given h t rel) k) (w .rows k b)
-          (begun-legal (h .processors) (rowAt h k) (recordAt t k) (getD rel k 0) k (w .rows k b) (l .rows k b) (first-at (h .count) (checkAt h t rel) e k b)));
+            (row-legal (h .processors) (rowAt h k) (begun (given h t rel) k) (runs (given h t rel) k) (w .rows k b)
+            (begun-legal (h .processors) (rowAt h k) (recordAt t k) (getD rel k 0) k (w .rows k b) (l .rows k b) (first-at (h .count) (checkAt h t rel) e k b)));
         past = λ k b m. rw (next-past k b) (l .past k b m);
       }
 
@@ -95,6 +95,6 @@ unfolding freshState isZero
 fresh-legal h w =
     record {
       rows = λ k b. rw (upto-below (h .count) (freshAt h) (replicate mostRows noRecord) noRecord k b (rw length-replicate (w .most-rows)))
-        (record { some-since = w .rows k b .some-separation; most-since = le-refl (rowAt h k .separation); most-remaining = omega arith; in-time = λ j. absurd (omega arith) });
+          (record { some-since = w .rows k b .some-separation; most-since = le-refl (rowAt h k .separation); most-remaining = omega arith; in-time = λ j. absurd (omega arith) });
       past = λ k b m. rw (upto-past (h .count) (freshAt h) (replicate mostRows noRecord) noRecord k b ∙ getD-replicate mostRows k noRecord noRecord m) refl;
     }

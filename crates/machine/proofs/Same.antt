@@ -31,8 +31,8 @@ fresh-same h a b e f = started-one-to-one a b (e ∙ sym f)
 pub slotted-one-to-one : (a b : Slotted) (cs ds : List ℕ) → slotted a cs ≡ slotted b ds → (a ≡ b) × (cs ≡ ds)
 slotted-one-to-one a b cs ds e = (
   ap₂ (λ (r : Refusal) (t : State). record { refusal = r; state = t })
-  (outcome-one-to-one (a .refusal) (b .refusal) (ap (λ (x : Outcome × (State × List ℕ)). x .0) e))
-  (ap (λ (x : Outcome × (State × List ℕ)). x .1 .0) e),
+      (outcome-one-to-one (a .refusal) (b .refusal) (ap (λ (x : Outcome × (State × List ℕ)). x .0) e))
+      (ap (λ (x : Outcome × (State × List ℕ)). x .1 .0) e),
   ap (λ (x : Outcome × (State × List ℕ)). x .1 .1) e,
 )
 

@@ -5,9 +5,9 @@ ghost use lib.ListN.{length};
 ghost use Rattle.basis.specs.Limits.{mostRows};
 ghost use Rattle.basis.specs.Refusals.{outcome};
 ghost use Rattle.machine.specs.Checks.{checkRow, checkReleases, checkState, checkSlot, checkRun, checkMargin};
-use basis::Refusal;
 use crate::state::RowState;
 use crate::state::State;
+use basis::Refusal;
 use sheet::Row;
 use sheet::Sheet;
 

@@ -10,7 +10,7 @@ mod steps;
 pub use margins::Margin;
 pub use runs::Ran;
 pub use slots::Slotted;
-pub use start::fresh;
 pub use start::Started;
+pub use start::fresh;
 pub use state::RowState;
 pub use state::State;

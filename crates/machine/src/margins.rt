@@ -3,9 +3,9 @@ ghost use mathlib.Core.Path.{_≡_};
 ghost use Prim.Native.Nat.{_≤_};
 ghost use Rattle.basis.specs.Limits.{mostSeparation};
 ghost use Rattle.machine.specs.Answers.{told, marginAt, margin};
-use basis::Refusal;
 use crate::state::RowState;
 use crate::state::State;
+use basis::Refusal;
 use sheet::Row;
 use sheet::Sheet;
 

@@ -7,9 +7,9 @@ ghost use Rattle.basis.specs.Refusals.{accepted};
 ghost use Rattle.sheet.specs.Legal.{legal};
 ghost use Rattle.machine.specs.States.{legalState};
 ghost use Rattle.machine.specs.Answers.{slotted, slotAt, ran, notBegun, course, run};
-use basis::Refusal;
 use crate::slots::Slotted;
 use crate::state::State;
+use basis::Refusal;
 use sheet::Sheet;
 
 // What a run answers: the slots done, the first refusal if there is one, and the state after those slots.

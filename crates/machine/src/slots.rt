@@ -4,8 +4,8 @@ ghost use Prim.Native.Nat.{_≤_};
 ghost use lib.ListN.{length};
 ghost use Rattle.basis.specs.Limits.{mostRows};
 ghost use Rattle.machine.specs.Answers.{nextState, nextCodes, slotted, slot};
-use basis::Refusal;
 use crate::state::State;
+use basis::Refusal;
 use sheet::Sheet;
 
 // What a slot answers: accepted with the next state, or refused with the state as it came.

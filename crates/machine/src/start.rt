@@ -4,10 +4,10 @@ ghost use Prim.Native.Nat.{_≤_};
 ghost use Rattle.basis.specs.Limits.{mostRows};
 ghost use Rattle.machine.specs.States.{noState, freshState};
 ghost use Rattle.machine.specs.Answers.{started, fresh};
-use basis::MOST_ROWS;
-use basis::Refusal;
 use crate::state::RowState;
 use crate::state::State;
+use basis::MOST_ROWS;
+use basis::Refusal;
 use sheet::Sheet;
 
 // What `fresh` answers: accepted with the state, or refused with all records zero.

@@ -71,7 +71,11 @@ fn place_row(row: Row, s: RowState, free: u64) -> Placed
 fn older(since: u64, separation: u64) -> u64
     ensures { λ r. ⌜ r ≡ older separation since ⌝ }
 {
-    if since < separation { since + 1 } else { separation }
+    if since < separation {
+        since + 1
+    } else {
+        separation
+    }
 }
 
 // The end of a row's slot: finished, missed, or neither.
