@@ -142,5 +142,5 @@ module _ (h : Sheet) (t : State) (rel cs : List ℕ) (j : ℕ) (r : Slotted) (ds
 
 -- the last slot is done
 pub ends : (h : Sheet) (rel : List ℕ) (first : Course) (j slots : ℕ) (t : State) (cs : List ℕ) → j ≤ slots → slots ≤ j
-    → course h rel first j ≡ record { done = j; outcome = accepted; state = t; codes = cs } → _≡_ {A = Course} (record { done = j; outcome = accepted; state = t; codes = cs }) (course h rel first slots)
-ends h rel first j slots t cs l m e = let s : j ≡ slots = omega arith in sym e ∙ ap (course h rel first) s
+    → course h rel first j ≡ record { done = j; outcome = accepted; state = t; codes = cs } → _≡_ {A = Course} (record { done = slots; outcome = accepted; state = t; codes = cs }) (course h rel first slots)
+ends h rel first j slots t cs l m e = let s : j ≡ slots = omega arith in ap (λ (n : ℕ). record { done = n; outcome = accepted; state = t; codes = cs }) (sym s) ∙ sym e ∙ ap (course h rel first) s
