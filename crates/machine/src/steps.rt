@@ -99,10 +99,10 @@ fn age_row(row: Row, s: RowState, code: u8) -> Aged
     ensures { λ r. ⌜ r ≡ agedRow row s code ⌝ }
 {
     let left = s.remaining;
-    let deadline = row.deadline;
+    let due = row.deadline;
     let since = older(s.since, row.separation);
-    let code = judge(left, since, deadline, code);
-    if since == deadline {
+    let code = judge(left, since, due, code);
+    if since == due {
         return Aged {
             after: RowState {
                 remaining: 0,
