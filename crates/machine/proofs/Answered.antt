@@ -1,12 +1,12 @@
 -- Each call's answer, from the answers of what it calls.
 -- Assumes nothing.
-use Prim.Native.Nat.{ℕ, zero, suc, _+_, _*_, _-_, _/_, _%_, _≤_, _<_}
-use mathlib.Core.Path.{_≡_, refl, sym, ap, ap₂, _∙_}
+use Prim.Native.Nat.{ℕ, _+_, _*_, _/_, _%_, _≤_, _<_}
+use mathlib.Core.Path.{_≡_, sym, ap, _∙_}
 use mathlib.Core.Bool.{Bool, true, false}
-use mathlib.Core.List.{List, _++_}
-use lib.ListN.{length, getD, take, drop}
-use lib.Dec.{ltb, leb, eqb}
-use lib.IntN.{ℤ, pos, _-ℤ_}
+use mathlib.Core.List.{List}
+use lib.ListN.{length}
+use lib.Dec.{leb, eqb}
+use lib.IntN.{_-ℤ_}
 use native.Mathlib.Omega.{arith}
 use native.Mathlib.Nat.{div-add-mod', mul-le-mul}
 use borrow.Author.Tests.{lt-ltb, le-ltb, ltb-true, leb-true, eqb-true}
@@ -14,21 +14,21 @@ use mir.Syntax.{w64}
 use mir.Val.{Fits, SFits, toZ, ofZ}
 use mir.ValLaws.{toZ-ofZ}
 use Rattle.basis.specs.Limits.{mostRows, mostSeparation}
-use Rattle.basis.specs.Refusals.{Outcome, accepted, refused, outcome, orElse}
+use Rattle.basis.specs.Refusals.{accepted, refused, outcome}
 use Rattle.basis.specs.declared.refusal.Refusal.{Refusal}
 use Rattle.basis.specs.declared.refusal.Refusal.the-variants.{Accepted, Refused}
-use Rattle.sheet.specs.Legal.{rowAt, legal, Legal, LegalRow}
+use Rattle.sheet.specs.Legal.{rowAt, legal, LegalRow}
 use Rattle.sheet.specs.declared.row.Row.{Row}
 use Rattle.sheet.specs.declared.row.Sheet.{Sheet}
 use Rattle.sheet.proofs.Legality.{legal-is, legal-told}
 use Rattle.machine.specs.declared.state.RowState.{RowState}
 use Rattle.machine.specs.declared.state.State.{State}
-use Rattle.machine.specs.States.{recordAt, hasJob, noState, freshState, legalState}
+use Rattle.machine.specs.States.{recordAt, noState, freshState, legalState}
 use Rattle.machine.specs.Checks.{needed, checkReleases, checkState, checkRoom, checkSlot, checkRun, checkMargin}
 use Rattle.machine.specs.Answers.{fresh, nextState, nextCodes, slot, notBegun, course, run, Course, Told, no-job, margin-is, refused-by, marginOf, marginAt, margin}
 use Rattle.machine.proofs.Checked.{both-accepted, needed-holds, Ready, ready}
 use Rattle.machine.proofs.Differences.{themselves, difference-fits, less-twice}
-use Rattle.machine.proofs.Legals.{LegalRecord, LegalState, legal-state-is}
+use Rattle.machine.proofs.Legals.{LegalRecord, legal-state-is}
 
 -- `fresh`
 module _ (h : Sheet) (fine : Bool) (e : fine ≡ legal h) where

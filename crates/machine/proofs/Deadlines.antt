@@ -1,26 +1,24 @@
 -- The margin of a row with a job: its value, its range, and what it says of the deadline.
 -- Assumes nothing.
 use Prim.Native.Nat.{ℕ, zero, suc, _+_, _-_, _≤_, _<_}
-use mathlib.Core.Path.{_≡_, refl, sym, ap, ap₂, subst, _∙_}
+use mathlib.Core.Path.{_≡_, refl, sym, ap, subst, _∙_}
 use mathlib.Core.Bool.{Bool, true, false, cond}
 use mathlib.Core.List.{List}
-use lib.ListN.{length, getD}
+use lib.ListN.{getD}
 use lib.Dec.{ltb, le→leb, ltb→lt}
-use lib.IntN.{ℤ, pos, negsuc, subℕ, _-ℤ_}
+use lib.IntN.{pos, negsuc, subℕ, _-ℤ_}
 use lib.Signed.{_≤ℤ_, _<ℤ_}
 use native.Mathlib.Omega.{arith}
-use native.Mathlib.Numerals.{add-one}
-use native.Mathlib.Nat.{add-zero, add-suc}
-use borrow.Author.Tests.{lt-ltb, le-ltb, ltb-true, ltb-false}
-use Rattle.basis.specs.Words.{pick}
-use Rattle.basis.specs.Refusals.{Outcome, accepted}
+use native.Mathlib.Nat.{add-zero}
+use borrow.Author.Tests.{lt-ltb, ltb-true, ltb-false}
+use Rattle.basis.specs.Refusals.{accepted}
 use Rattle.sheet.specs.Legal.{rowAt, LegalRow}
 use Rattle.sheet.specs.declared.row.Row.{Row}
 use Rattle.sheet.specs.declared.row.Sheet.{Sheet}
 use Rattle.machine.specs.declared.state.RowState.{RowState}
 use Rattle.machine.specs.declared.state.State.{State}
-use Rattle.machine.specs.States.{recordAt, hasJob}
-use Rattle.machine.specs.Slot.{worked, aged, ended, runs}
+use Rattle.machine.specs.States.{recordAt}
+use Rattle.machine.specs.Slot.{worked, runs}
 use Rattle.machine.specs.Checks.{checkMargin}
 use Rattle.machine.specs.Answers.{given, slot, no-job, margin-is, marginOf, marginAt, margin}
 use Rattle.machine.proofs.Differences.{less, less-twice}

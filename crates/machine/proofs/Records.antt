@@ -1,20 +1,20 @@
 -- What each step of a slot does to a row's record, as facts.
 -- Assumes nothing.
-use Prim.Native.Nat.{ℕ, zero, suc, _+_, _-_, _≤_, _<_}
+use Prim.Native.Nat.{ℕ, _+_, _-_, _≤_, _<_}
 use mathlib.Core.Path.{_≡_, refl, sym, ap, _∙_}
 use mathlib.Core.Bool.{Bool, true, false}
-use lib.Dec.{ltb, leb, eqb}
+use lib.Dec.{ltb, eqb}
 use mathlib.Core.Logic.{_⊎_, inl, inr, ⊎-elim}
 use native.Mathlib.Omega.{arith}
-use borrow.Author.Tests.{lt-ltb, le-ltb, eq-eqb, ne-eqb, ltb-true, ltb-false, eqb-true, eqb-false}
+use borrow.Author.Tests.{lt-ltb, le-ltb, eq-eqb, ne-eqb, ltb-false, eqb-true, eqb-false}
 use Rattle.basis.specs.Words.{pick, both}
-use Rattle.basis.specs.Refusals.{Outcome, accepted, refused}
-use Rattle.basis.proofs.Words.{lt-or-le, true-not-false}
+use Rattle.basis.specs.Refusals.{accepted, refused}
+use Rattle.basis.proofs.Words.{lt-or-le}
 use Rattle.sheet.specs.declared.row.Row.{Row}
 use Rattle.machine.specs.declared.state.RowState.{RowState}
 use Rattle.machine.specs.declared.steps.Aged.{Aged}
 use Rattle.machine.specs.States.{hasJob}
-use Rattle.machine.specs.Slot.{released, fits, worked, older, aged, missed, ended}
+use Rattle.machine.specs.Slot.{released, worked, older, aged, missed, ended}
 use Rattle.machine.specs.Checks.{checkRow}
 use Rattle.machine.specs.Methods.{judged, agedRow}
 

@@ -1,15 +1,14 @@
 -- Releases, placement and ageing one after another are the slot.
 -- Assumes nothing.
 use Prim.Native.Nat.{ℕ, _≤_, _<_}
-use mathlib.Core.Path.{_≡_, refl, sym, ap, ap₂, _∙_}
+use mathlib.Core.Path.{_≡_, refl, ap, ap₂, _∙_}
 use mathlib.Core.Bool.{Bool, true, false}
 use mathlib.Core.List.{List}
 use lib.ListN.{length, getD}
-use lib.Dec.{ltb, eqb}
+use lib.Dec.{eqb}
 use native.Mathlib.Omega.{arith}
 use Rattle.basis.specs.Limits.{mostRows}
 use Rattle.basis.specs.Words.{pick, both}
-use Rattle.basis.specs.Upto.{upto}
 use Rattle.basis.proofs.Upto.{length-upto, upto-below}
 use Rattle.sheet.specs.Legal.{rowAt}
 use Rattle.sheet.specs.declared.row.Row.{Row}
@@ -19,7 +18,7 @@ use Rattle.machine.specs.declared.state.State.{State}
 use Rattle.machine.specs.declared.steps.Placed.{Placed}
 use Rattle.machine.specs.declared.steps.Aged.{Aged}
 use Rattle.machine.specs.States.{noRecord, stateOf, recordAt, hasJob}
-use Rattle.machine.specs.Slot.{fits, freeAt, worked, older, aged, missed, ended, codeOf, begun, free, runs, next, code}
+use Rattle.machine.specs.Slot.{fits, worked, older, aged, missed, codeOf, begun, free, runs, next, code}
 use Rattle.machine.specs.Answers.{given, nextState, nextCodes}
 use Rattle.machine.specs.Methods.{releasedAt, releasedState, placedRow, placedAt, placedRecord, placedCode, placedState, placedCodes, judged, agedRow, agedAt, agedRecord, agedCode, agedState, agedCodes}
 use Rattle.machine.proofs.General.{upto-agree, upto-over}

@@ -1,5 +1,5 @@
 -- What the methods inside a slot answer: releases, placement and ageing, each by itself.
-use Prim.Native.Nat.{ℕ, zero, suc}
+use Prim.Native.Nat.{ℕ}
 use mathlib.Core.List.{List}
 use lib.ListN.{getD}
 use lib.Dec.{ltb, eqb}
@@ -13,7 +13,7 @@ use Rattle.machine.specs.declared.state.State.{State}
 use Rattle.machine.specs.declared.steps.Placed.{Placed}
 use Rattle.machine.specs.declared.steps.Aged.{Aged}
 use Rattle.machine.specs.States.{stateOf, recordAt, hasJob}
-use Rattle.machine.specs.Slot.{released, fits, freeBelow, freeAt, worked, aged, missed, ended}
+use Rattle.machine.specs.Slot.{released, fits, freeBelow, freeAt, worked, aged, ended}
 
 -- Step 1 of row k.
 abbrev pub releasedAt : State → List ℕ → ℕ → RowState
