@@ -7,3 +7,4 @@ pub mod Tame
 pub mod Tests
 pub mod Upto
 pub mod Words
+pub mod Workload

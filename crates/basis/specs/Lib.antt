@@ -3,3 +3,4 @@ pub mod Words
 pub mod Refusals
 pub mod Upto
 pub mod Readers
+pub mod Workload

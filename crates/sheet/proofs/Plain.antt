@@ -17,31 +17,30 @@ use Rattle.basis.specs.Readers.{enough}
 use Rattle.basis.specs.Limits.{longestLabel}
 use Rattle.sheet.specs.Steps.{nothing}
 
--- the bytes from at to the end of a label
-module _ (s : List ℕ) (at end : ℕ) where
-  one-more : at < end → plain (end - at) s at ≡ plain (suc (end - (at + 1))) s at
-  one-more h = ap (λ (k : ℕ). plain k s at) (omega arith)
+-- the loop over a label's bytes, which has come from at to i: a turn by the tests that it makes, and its end
+module _ (s : List ℕ) (at end i : ℕ) (long : end ≤ length s) (so-far : told nothing (plain (end - at) s at) ≡ told nothing (plain (end - i) s i)) where
+  one-left : i < end → told nothing (plain (end - at) s at) ≡ told nothing (plain (suc (end - (i + 1))) s i)
+  one-left h = so-far ∙ ap (λ (k : ℕ). told nothing (plain k s i)) (omega arith)
 
-  pub plain-low : at < end → at < length s → getD s at 0 < 0x21 → plain (end - at) s at ≡ refuse 6 at
-  unfolding plain
-  plain-low h l b = one-more h ∙ simp (lt-ltb _ _ l, lt-leb _ _ b)
-
-  pub plain-high : at < end → at < length s → 0x21 ≤ getD s at 0 → 0x7E < getD s at 0 → plain (end - at) s at ≡ refuse 6 at
-  unfolding plain
-  plain-high h l a b = one-more h ∙ simp (lt-ltb _ _ l, le-leb _ _ a, lt-leb _ _ b)
-
-  pub plain-more : at < end → at < length s → 0x21 ≤ getD s at 0 → getD s at 0 ≤ 0x7E
-      → told nothing (plain (end - at) s at) ≡ told nothing (plain (end - (at + 1)) s (at + 1))
-  unfolding plain
-  plain-more h l a b =
-      ap (told nothing) (one-more h)
-      ∙ simp (lt-ltb _ _ l, le-leb _ _ a, le-leb _ _ b) (told-after nothing (λ (bs : List ℕ). getD s at 0 ∷ bs) (plain (end - (at + 1)) s (at + 1)))
-
-  pub plain-none : end ≤ at → at ≤ end → told nothing (plain (end - at) s at) ≡ ok tt end
+  pub plain-low : i < end → getD s i 0 < 0x21 → refuse 6 i ≡ told nothing (plain (end - at) s at)
   unfolding plain told
-  plain-none h l =
-      let e : end - at ≡ 0 = omega arith in
-      ap (λ (k : ℕ). told nothing (plain k s at)) e ∙ ap (ok tt) (omega arith)
+  plain-low h b = sym (one-left h ∙ simp (lt-ltb i (length s) (omega arith), lt-leb _ _ b))
+
+  pub plain-high : i < end → 0x21 ≤ getD s i 0 → 0x7E < getD s i 0 → refuse 6 i ≡ told nothing (plain (end - at) s at)
+  unfolding plain told
+  plain-high h a b = sym (one-left h ∙ simp (lt-ltb i (length s) (omega arith), le-leb _ _ a, lt-leb _ _ b))
+
+  pub plain-more : i < end → 0x21 ≤ getD s i 0 → getD s i 0 ≤ 0x7E → told nothing (plain (end - at) s at) ≡ told nothing (plain (end - (i + 1)) s (i + 1))
+  unfolding plain
+  plain-more h a b =
+      one-left h
+      ∙ simp (lt-ltb i (length s) (omega arith), le-leb _ _ a, le-leb _ _ b) (told-after nothing (λ (bs : List ℕ). getD s i 0 ∷ bs) (plain (end - (i + 1)) s (i + 1)))
+
+  pub plain-all : end ≤ i → i ≤ end → ok tt end ≡ told nothing (plain (end - at) s at)
+  unfolding plain told
+  plain-all h l =
+      let e : end - i ≡ 0 = omega arith in
+      sym (so-far ∙ ap (λ (k : ℕ). told nothing (plain k s i)) e ∙ ap (ok tt) (omega arith))
 
 -- the bytes that were read
 pub record Plainly (s : List ℕ) (at k : ℕ) (bs : List ℕ) (n : ℕ) : Type 0 where

@@ -5,29 +5,30 @@ use mathlib.Core.List.{List, [], _∷_}
 use native.Mathlib.Omega.{arith}
 use lib.ListN.{length}
 use Rattle.basis.specs.Readers.{Step, ok, refuse, after, told}
-use Rattle.basis.proofs.Steps.{told-ok, told-no, told-after}
+use Rattle.basis.proofs.Steps.{got, told-ok, told-no, told-after}
 use Rattle.sheet.specs.Form.{Entry, entry, entries}
 use Rattle.sheet.specs.Form.{rowOf}
-use Rattle.sheet.specs.Steps.{nothing}
+use Rattle.sheet.specs.Steps.{rowStep, nothing}
+use Rattle.sheet.specs.declared.row.RowRead.{RowRead}
+use Rattle.sheet.specs.declared.row.RowRead.the-variants as row-variants
 use Rattle.sheet.specs.declared.row.Row.{Row}
 
-module _ (m n i : ℕ) (s : List ℕ) (at : ℕ) where
-  one-left : i < n → entries m (n - i) s at ≡ entries m (suc (n - (i + 1))) s at
-  one-left h = ap (λ (k : ℕ). entries m k s at) (omega arith)
+-- the loop that passes over n rows from at, and has come over i of them to next
+module _ (m n : ℕ) (s : List ℕ) (at i next : ℕ) (so-far : told nothing (entries m n s at) ≡ told nothing (entries m (n - i) s next)) where
+  one-left : i < n → told nothing (entries m n s at) ≡ told nothing (entries m (suc (n - (i + 1))) s next)
+  one-left h = so-far ∙ ap (λ (k : ℕ). told nothing (entries m k s next)) (omega arith)
 
-  pub skip-no : (k p : ℕ) → i < n → told rowOf (entry m s at) ≡ refuse k p → told nothing (entries m (n - i) s at) ≡ refuse k p
+  pub skip-none : n ≤ i → ok tt next ≡ told nothing (entries m n s at)
   unfolding entries told
-  skip-no k p h g = ap (told nothing) (one-left h) ∙ simp (told-no rowOf (entry m s at) g)
+  skip-none h = let e : n - i ≡ 0 = omega arith in sym (so-far ∙ ap (λ (k : ℕ). told nothing (entries m k s next)) e)
 
-  pub skip-one : (r : Row) (e : ℕ) → i < n → told rowOf (entry m s at) ≡ ok r e → told nothing (entries m (n - i) s at) ≡ told nothing (entries m (n - (i + 1)) s e)
-  unfolding entries
-  skip-one r e h g =
-      let (x, ex, _) = told-ok rowOf (entry m s at) g in
-      ap (told nothing) (one-left h)
-      ∙ simp ex (told-after nothing (λ (es : List Entry). x ∷ es) (entries m (n - (i + 1)) s e))
+  module _ (h : i < n) (x : RowRead) (q : rowStep x ≡ told rowOf (entry m s next)) where
+    pub skip-no : (k p : ℕ) → x ≡ row-variants.Refused k p → refuse k p ≡ told nothing (entries m n s at)
+    unfolding entries told
+    skip-no k p g = sym (one-left h ∙ simp (told-no rowOf (entry m s next) (got rowStep q g)))
 
-  pub skip-none : n ≤ i → told nothing (entries m (n - i) s at) ≡ ok tt at
-  unfolding entries told
-  skip-none h =
-      let e : n - i ≡ 0 = omega arith in
-      ap (λ (k : ℕ). told nothing (entries m k s at)) e
+    pub skip-one : (r : Row) (e : ℕ) → x ≡ row-variants.Is r e → told nothing (entries m n s at) ≡ told nothing (entries m (n - (i + 1)) s e)
+    unfolding entries
+    skip-one r e g =
+        let (y, ey, _) = told-ok rowOf (entry m s next) (got rowStep q g) in
+        one-left h ∙ simp ey (told-after nothing (λ (es : List Entry). y ∷ es) (entries m (n - (i + 1)) s e))

@@ -1,0 +1,143 @@
+-- q, X and the sum of the amounts: they fit, and the sum never falls as the length grows.
+-- Assumes nothing.
+use Prim.Native.Nat.{ℕ, _+_, _*_, _-_, _≤_, _<_, min}
+use mathlib.Core.Path.{_≡_, ap, _∙_}
+use mathlib.Core.Bool.{Bool}
+use lib.Dec.{ltb}
+use native.Mathlib.Nat.{mul-le-mul, mul-le-mul-right}
+use native.Mathlib.Omega.{arith}
+use mir.Val.{Fits}
+use mir.Syntax.{w64}
+use Rattle.basis.specs.Limits.{mostProcessors, mostSeparation}
+use Rattle.basis.specs.Words.{sum}
+use Rattle.basis.proofs.Sums.{sum-le, sum-most, sum-one-more}
+use Rattle.sheet.specs.Legal.{rowAt, LegalRow, Legal}
+use Rattle.sheet.specs.declared.row.Sheet.{Sheet}
+use Rattle.bound.specs.Quantities.{on, noAmount}
+use Rattle.bound.specs.Test.{q, X, x, W, durationOf, amountOf, amounts, room}
+use Rattle.bound.specs.Ready.{Ready, Length, Above}
+use Rattle.bound.specs.declared.quantity.Duration.{Duration}
+use Rattle.bound.specs.declared.quantity.Amount.{Amount}
+use Rattle.bound.proofs.Durations.{same, same-amount, number, number-of}
+use Rattle.bound.proofs.Workload.{W-mono}
+
+-- ---- the row that is judged
+
+module _ (h : Sheet) (k : ℕ) (l : Legal h) (b : k < h .count) where
+  pub threads-fit : rowAt h k .threads ≤ h .processors
+  threads-fit = l .rows k b .most-threads
+
+  pub q-small : q h k ≤ mostProcessors
+  unfolding q
+  q-small = omega (arith, l .most-processors, l .rows k b)
+
+  module _ (L : Duration) (n : Length h k L) where
+    pub X-small : X h k L .0 ≤ mostSeparation
+    unfolding X
+    X-small = omega (arith, l .rows k b, n)
+
+    module _ (a : Duration) (ea : a .0 ≡ L .0 - rowAt h k .budget) where
+      pub window-fits : (m : ℕ) → m ≤ mostSeparation → Fits w64 (a .0 + m)
+      window-fits m e = omega (arith, l .rows k b, n)
+
+      pub window-is : (w : Duration) → w .0 ≡ a .0 + 1 → w ≡ X h k L
+      unfolding X
+      window-is w e = same w (X h k L) (omega arith)
+
+    pub window-small : (w : Duration) → w ≡ X h k L → w .0 ≤ mostSeparation
+    window-small w e = omega (arith, number e, X-small)
+
+    pub room-is : (w : Duration) (c e : ℕ) (a : Amount) → w ≡ X h k L → c ≡ q h k → e ≡ min c c → a .0 ≡ w .0 * e → a ≡ room h k L
+    unfolding room
+    room-is w c e a ew ec ee ea = same-amount a (room h k L) (ea ∙ rw (ew, ee, ec))
+
+  pub busy-small : (c : ℕ) → c ≡ q h k → c ≤ mostProcessors
+  busy-small c e = omega (arith, q-small)
+
+  pub capped-small : (c e g : ℕ) → c ≡ q h k → e ≡ min g c → e ≤ mostProcessors
+  capped-small c e g ec ee = omega (arith, q-small)
+
+pub less-room : (h : Sheet) (k : ℕ) (L : Duration) (s a : Amount) (b : Bool) → a ≡ room h k L → b ≡ ltb (s .0) (a .0) → b ≡ ltb (s .0) (room h k L .0)
+less-room h k L s a b ea eb = eb ∙ ap (λ (z : Amount). ltb (s .0) (z .0)) ea
+
+pub q-some : (h : Sheet) (k : ℕ) → 1 ≤ q h k
+unfolding q
+q-some h k = omega arith
+
+pub X-some : (h : Sheet) (k : ℕ) (L : Duration) → 1 ≤ X h k L .0
+unfolding X
+X-some h k L = omega arith
+
+pub room-by-q : (h : Sheet) (k : ℕ) (L : Duration) → room h k L .0 ≡ X h k L .0 * q h k
+unfolding room
+room-by-q h k L = let e : min (q h k) (q h k) ≡ q h k = omega arith in rw e
+
+-- ---- the rows above it
+
+module _ (h : Sheet) (R : ℕ → Duration) (k : ℕ) (r : Ready h R k) where
+  pub row : (i : ℕ) → i < k → LegalRow (h .processors) (rowAt h i)
+  row i b = r .legal .rows i (omega (arith, r .below))
+
+  pub length-small : (L : Duration) → Length h k L → L .0 ≤ mostSeparation
+  length-small L n = omega (arith, r .legal .rows k (r .below), n)
+
+  pub row-above : (i : ℕ) (v L : Duration) → i < k → v ≡ R i → Length h k L → Above (rowAt h i) v L
+  row-above i v L b e n =
+      record {
+        most-threads = omega (arith, row i b, r .legal .most-processors);
+        some-budget = row i b .some-budget;
+        low = omega (arith, r .low i b, number e);
+        high = omega (arith, r .high i b, row i b, number e);
+        most-separation = row i b .most-separation;
+        most-length = length-small L n;
+      }
+
+  -- ---- sums
+
+  amount-small : (L : Duration) → Length h k L → (i : ℕ) → amountOf h R k L i .0 ≤ mostSeparation * mostProcessors
+  unfolding amountOf durationOf
+  amount-small L n i =
+      mul-le-mul {n₁ = min (W (rowAt h i) (x (rowAt h i) (R i) L) .0) (X h k L .0)} {m₁ = min (rowAt h i .threads) (q h k)} {n₂ = mostSeparation} {m₂ = mostProcessors}
+      (omega (arith, X-small h k (r .legal) (r .below) L n)) (omega (arith, q-small h k (r .legal) (r .below)))
+
+  pub amounts-small : (L : Duration) → Length h k L → (n : ℕ) → amounts h R k L n .0 ≤ n * (mostSeparation * mostProcessors)
+  unfolding amounts
+  amounts-small L len n = sum-most n (mostSeparation * mostProcessors) (λ i. amountOf h R k L i .0) (amount-small L len)
+
+  pub sum-none : (L : Duration) (s : Amount) → s .0 ≡ 0 → s ≡ amounts h R k L 0
+  unfolding amounts sum
+  sum-none L s e = same-amount s noAmount e
+
+  module _ (L v w : Duration) (len : Length h k L) (i b : ℕ) (a s : Amount) (ev : v ≡ R i) (ew : w ≡ X h k L) (eb : b ≡ q h k)
+      (ea : a ≡ on (durationOf (rowAt h i) v L w) (min (rowAt h i .threads) b)) (es : s ≡ amounts h R k L i) where
+    one : a ≡ amountOf h R k L i
+    unfolding amountOf
+    one = cc
+
+    more : s .0 + a .0 ≡ amounts h R k L (i + 1) .0
+    unfolding amounts
+    more = omega (arith, number-of one, number-of es, sum-one-more i (λ i. amountOf h R k L i .0))
+
+    pub sum-fits : i < k → Fits w64 (s .0 + a .0)
+    sum-fits l = omega (arith, more, amounts-small L len (i + 1), r .below, r .legal .most-rows)
+
+    pub sum-more : (t : Amount) → t .0 ≡ s .0 + a .0 → t ≡ amounts h R k L (i + 1)
+    sum-more t e = same-amount t (amounts h R k L (i + 1)) (e ∙ more)
+
+  pub sum-done : (L : Duration) (i : ℕ) (s : Amount) → s ≡ amounts h R k L i → i ≤ k → k ≤ i → s ≡ amounts h R k L k
+  sum-done L i s e a b = let t : i ≡ k = omega arith in rw t at e
+
+  -- ---- a longer length has no smaller amounts
+
+  pub amount-mono : (L l : Duration) (i : ℕ) → L .0 ≤ l .0 → i < k → amountOf h R k L i .0 ≤ amountOf h R k l i .0
+  unfolding amountOf durationOf X x
+  amount-mono L l i m b =
+      mul-le-mul-right (min (rowAt h i .threads) (q h k))
+      (omega (
+        arith,
+        W-mono (rowAt h i) (row i b .some-separation) (omega (arith, row i b)) (L .0 + R i .0 - rowAt h i .budget) (l .0 + R i .0 - rowAt h i .budget) (omega arith),
+      ))
+
+  pub amounts-mono : (L l : Duration) (n : ℕ) → L .0 ≤ l .0 → n ≤ k → amounts h R k L n .0 ≤ amounts h R k l n .0
+  unfolding amounts
+  amounts-mono L l n m b = sum-le n (λ i. amountOf h R k L i .0) (λ i. amountOf h R k l i .0) (λ i c. amount-mono L l i m (omega arith))

@@ -1,0 +1,106 @@
+-- Laws of the answers: a word stands for one result of the code, two answers that a promise allows are equal, and what a refusal says.
+-- Assumes nothing.
+use Prim.Native.Nat.{ℕ, suc, _≤_, _<_}
+use mathlib.Core.Path.{_≡_, refl, sym, ap, ap₂, _∙_}
+use mathlib.Core.Bool.{Bool, true, false}
+use mathlib.Core.List.{List}
+use native.Mathlib.Omega.{arith}
+use lib.ListN.{getD, length-replicate}
+use Rattle.basis.specs.Limits.{mostRows}
+use Rattle.basis.specs.Refusals.{accepted, refused}
+use Rattle.basis.specs.declared.refusal.Refusal.{Refusal}
+use Rattle.basis.proofs.Refusals.{outcome-one-to-one}
+use Rattle.basis.proofs.Upto.{upto-below, upto-past}
+use Rattle.sheet.specs.Legal.{legal}
+use Rattle.sheet.specs.declared.row.Sheet.{Sheet}
+use Rattle.sheet.proofs.Legality.{legal-is}
+use Rattle.bound.specs.Test.{Test, passes}
+use Rattle.bound.specs.Bound.{Word, bound, none, unreached, word, wordIn, resultOf, allUnreached, holds, Answer, answer, judged, notLegal, boundsBy, boundsOf}
+use Rattle.bound.specs.Tables.{fixedSheet}
+use Rattle.bound.specs.declared.results.Result.{Result}
+use Rattle.bound.specs.declared.results.Result.the-variants.{Unreached, Bound, NoBound}
+use Rattle.bound.specs.declared.results.Judged.{Judged}
+use Rattle.bound.specs.declared.results.Results.{Results}
+use Rattle.bound.proofs.General.{map-one-to-one, getD-all}
+use Rattle.bound.proofs.Judging.{Agree, passes-local, result-agrees}
+
+-- ---- one word, one result
+
+-- the result that stands for a word
+result : Word → Result
+result (bound r) = Bound r
+result none = NoBound
+result unreached = Unreached
+
+result-of-word : (r : Result) → result (word r) ≡ r
+unfolding result
+result-of-word Unreached = refl
+result-of-word (Bound r) = refl
+result-of-word NoBound = refl
+
+pub word-one-to-one : (a b : Result) → word a ≡ word b → a ≡ b
+word-one-to-one a b e = sym (result-of-word a) ∙ ap result e ∙ result-of-word b
+
+pub answer-one-to-one : (a b : Results) → answer a ≡ answer b → a ≡ b
+answer-one-to-one a b e =
+    let refusal : a .refusal ≡ b .refusal = outcome-one-to-one (a .refusal) (b .refusal) (ap (λ (x : Answer). x .0) e) in
+    let rows : a .rows ≡ b .rows =
+    map-one-to-one wordIn (λ i j f. ap (λ (r : Result). record { result = r }) (word-one-to-one (i .result) (j .result) f)) (a .rows) (b .rows) (ap (λ (x : Answer). x .2) e) in
+    ap (λ (x : Refusal). record { refusal = x; holds = a .holds; rows = a .rows }) refusal
+    ∙ ap₂ (λ (h : Bool) (rs : List Judged). record { refusal = b .refusal; holds = h; rows = rs }) (ap (λ (x : Answer). x .1) e) rows
+
+-- ---- two answers that a promise allows are equal
+
+-- `bounds`
+pub bounds-same : (h : Sheet) (a b : Results) → answer a ≡ boundsOf h → answer b ≡ boundsOf h → a ≡ b
+bounds-same h a b e f = answer-one-to-one a b (e ∙ sym f)
+
+-- `fixed_sheet`
+pub fixed-sheet-same : (n : ℕ) (a b : Sheet) → a ≡ fixedSheet n → b ≡ fixedSheet n → a ≡ b
+fixed-sheet-same n a b e f = e ∙ sym f
+
+-- ---- what an answer tells of a row
+
+-- the result at place i of an answer
+abbrev pub told : Answer → ℕ → Word
+told a i = getD (a .2) i unreached
+
+module _ (test : Test) (h : Sheet) where
+  pub legal-is-judged : legal h ≡ true → boundsBy test h ≡ judged test h
+  unfolding boundsBy
+  legal-is-judged e = rw e
+
+  -- a sheet that is not legal is refused by 10 at place 0, does not hold, and reaches no row
+  pub refused-by-10 : legal h ≡ false → boundsBy test h ≡ notLegal
+  unfolding boundsBy
+  refused-by-10 e = rw e
+
+  -- any refusal is that one
+  pub only-refused-by-10 : (n p : ℕ) → boundsBy test h .0 ≡ refused n p → boundsBy test h ≡ notLegal
+  unfolding judged
+  only-refused-by-10 n p e = go (legal h) refl where
+    go : (b : Bool) → legal h ≡ b → boundsBy test h ≡ notLegal
+    go false t = refused-by-10 t
+    go true t = absurd (let f : accepted ≡ refused n p = sym (ap (λ (x : Answer). x .0) (legal-is-judged t)) ∙ e in let z : _≡_ {A = ℕ} 0 1 = cc in omega arith)
+
+  -- in a legal sheet a row's place has its result
+  pub told-is : legal h ≡ true → (i : ℕ) → i < h .count → told (boundsBy test h) i ≡ resultOf test h i
+  unfolding judged
+  told-is e i l =
+      ap (λ (x : Answer). told x i) (legal-is-judged e)
+      ∙ upto-below (h .count) (resultOf test h) allUnreached unreached i l (omega (arith, legal-is h e .most-rows, length-replicate mostRows unreached))
+
+  -- and past the rows, or beside a refusal, no place is reached
+  pub past-is-unreached : legal h ≡ true → (i : ℕ) → h .count ≤ i → told (boundsBy test h) i ≡ unreached
+  unfolding judged
+  past-is-unreached e i l =
+      ap (λ (x : Answer). told x i) (legal-is-judged e) ∙ upto-past (h .count) (resultOf test h) allUnreached unreached i l ∙ getD-all mostRows i unreached
+
+  pub refused-is-unreached : legal h ≡ false → (i : ℕ) → told (boundsBy test h) i ≡ unreached
+  refused-is-unreached e i = ap (λ (x : Answer). told x i) (refused-by-10 e) ∙ getD-all mostRows i unreached
+
+-- two legal sheets that agree in m and rows 0 to k have equal results for rows 0 to k
+pub rows-above-decide : (h s : Sheet) (k : ℕ) → legal h ≡ true → legal s ≡ true → k < h .count → k < s .count → Agree h s (suc k)
+    → (i : ℕ) → i ≤ k → told (boundsOf h) i ≡ told (boundsOf s) i
+rows-above-decide h s k eh es lh ls a i l =
+    told-is passes h eh i (omega arith) ∙ result-agrees passes passes-local h s k a i l ∙ sym (told-is passes s es i (omega arith))

@@ -1,0 +1,103 @@
+-- The quantities of one row above: each fits, and each is the definition's.
+-- Assumes nothing.
+use Prim.Native.Nat.{ℕ, _+_, _*_, _-_, _/_, _%_, _≤_, _<_, min}
+use mathlib.Core.Path.{_≡_, refl, ap, _∙_}
+use native.Mathlib.Nat.{div-mul-le-self, div-add-mod', mod-lt, mul-le-mul-left, mul-le-mul}
+use native.Mathlib.Omega.{arith}
+use mir.Val.{Fits}
+use mir.Syntax.{w64}
+use Rattle.basis.specs.Limits.{mostProcessors, mostSeparation}
+use Rattle.sheet.specs.declared.row.Row.{Row}
+use Rattle.bound.specs.Quantities.{slots, on}
+use Rattle.bound.specs.Test.{x, W, durationOf}
+use Rattle.bound.specs.Ready.{Above, Spans}
+use Rattle.bound.specs.Skipping.{stayOf}
+use Rattle.bound.specs.declared.quantity.Duration.{Duration}
+use Rattle.bound.specs.declared.quantity.Amount.{Amount}
+
+-- durations and amounts of equal numbers are equal
+pub same : (a b : Duration) → a .0 ≡ b .0 → a ≡ b
+same a b e = ap slots e
+
+pub same-amount : (a b : Amount) → a .0 ≡ b .0 → a ≡ b
+same-amount a b e = ap (λ (n : ℕ). record { 0 = n }) e
+
+pub number : {a b : Duration} → a ≡ b → a .0 ≡ b .0
+number e = ap (λ (d : Duration). d .0) e
+
+pub number-of : {a b : Amount} → a ≡ b → a .0 ≡ b .0
+number-of e = ap (λ (d : Amount). d .0) e
+
+-- an amount fits, and how often it is filled
+pub amount-fits : (d g : ℕ) → d ≤ mostSeparation → g ≤ mostProcessors → Fits w64 (d * g)
+amount-fits d g a b = omega (arith, mul-le-mul {n₁ = d} {m₁ = g} {n₂ = mostSeparation} {m₂ = mostProcessors} a b)
+
+pub fills-within : (a q : ℕ) → a / q * q ≤ a
+fills-within a q = div-mul-le-self a q
+
+pub fills-most : (a q : ℕ) → 1 ≤ q → a < (a / q + 1) * q
+fills-most a q l = omega (arith, div-add-mod' a q, mod-lt a l)
+
+-- x
+pub span-is : (row : Row) (R L e r : Duration) → e .0 ≡ L .0 + R .0 → r .0 ≡ e .0 - row .budget → r ≡ x row R L
+unfolding x
+span-is row R L e r ee er = same r (slots (L .0 + R .0 - row .budget)) (omega arith)
+
+pub spans : (row : Row) (R L s : Duration) → Above row R L → s ≡ x row R L → Spans row s
+unfolding x
+spans row R L s a e =
+    record {
+      some-separation = omega (arith, a);
+      most-budget = omega (arith, a);
+      most-separation = a .most-separation;
+      most-span = omega (arith, a, number e);
+    }
+
+-- N and W
+module _ (row : Row) (s : Duration) (f : Spans row s) (n : ℕ) (en : n ≡ s .0 / row .separation) where
+  pub periods-within : n * row .separation ≤ s .0
+  periods-within = rw en (div-mul-le-self (s .0) (row .separation))
+
+  work-within : n * row .budget ≤ s .0
+  work-within = omega (arith, periods-within, mul-le-mul-left {m = row .budget} {n = row .separation} n (f .most-budget))
+
+  pub jobs-fit : Fits w64 (n * row .budget)
+  jobs-fit = omega (arith, work-within, f .most-span)
+
+  pub periods-fit : Fits w64 (n * row .separation)
+  periods-fit = omega (arith, periods-within, f .most-span)
+
+  module _ (j l : Duration) (ej : j .0 ≡ n * row .budget) where
+    pub work-fits : (z : ℕ) → l .0 ≡ min (row .budget) z → Fits w64 (j .0 + l .0)
+    work-fits z e = omega (arith, work-within, f .most-span, f .most-budget, f .most-separation)
+
+    pub work-is : (p r w : Duration) → p .0 ≡ n * row .separation → r .0 ≡ s .0 - p .0 → l .0 ≡ min (row .budget) (r .0) → w .0 ≡ j .0 + l .0 → w ≡ W row s
+    unfolding W
+    work-is p r w ep er el ew = same w (W row s) (rw (← en) (omega arith))
+
+  pub work-small : W row s .0 ≤ 3 * mostSeparation
+  unfolding W
+  work-small = rw (← en) (omega (arith, work-within, f .most-span, f .most-budget, f .most-separation))
+
+-- the duration, and its amount
+pub duration-is : (row : Row) (R L X s w d : Duration) → s ≡ x row R L → w ≡ W row s → d .0 ≡ min (w .0) (X .0) → d ≡ durationOf row R L X
+unfolding durationOf
+duration-is row R L X s w d es ew ed = same d (durationOf row R L X) (ed ∙ ap (λ (v : Duration). min (v .0) (X .0)) (ew ∙ ap (W row) es))
+
+pub duration-small : (row : Row) (R L X d : Duration) → d ≡ durationOf row R L X → X .0 ≤ mostSeparation → d .0 ≤ mostSeparation
+unfolding durationOf
+duration-small row R L X d e l = omega (arith, number e)
+
+pub amount-is : (row : Row) (R L X d : Duration) (b g : ℕ) (a : Amount) → d ≡ durationOf row R L X → g ≡ min (row .threads) b → a .0 ≡ d .0 * g
+    → a ≡ on (durationOf row R L X) (min (row .threads) b)
+amount-is row R L X d b g a ed eg ea = same-amount a (on (durationOf row R L X) (min (row .threads) b)) (ea ∙ rw (ed, eg))
+
+-- how long its duration keeps pace
+module _ (row : Row) (R L X s w ran job more : Duration) (a : Above row R L) (es : s ≡ x row R L) (ew : w ≡ W row s) (er : ran .0 ≡ s .0 % row .separation)
+    (ej : job .0 ≡ row .budget - ran .0) (em : more .0 ≡ w .0 - X .0) where
+  pub stay-fits : Fits w64 (job .0 + more .0)
+  stay-fits = omega (arith, number ew, work-small row s (spans row R L s a es) (s .0 / row .separation) refl, a)
+
+  pub stay-is : (r : Duration) → r .0 ≡ job .0 + more .0 → r ≡ stayOf row R L X
+  unfolding stayOf
+  stay-is r e = same r (stayOf row R L X) (rw (← es, ← ew) (omega arith))

@@ -1,0 +1,14 @@
+pub mod Fixed
+pub mod General
+pub mod Durations
+pub mod Workload
+pub mod Amounts
+pub mod Paces
+pub mod Steps
+pub mod Lengths
+pub mod Shares
+pub mod Judging
+pub mod Meaning
+pub mod Rows
+pub mod Worked
+pub mod Answers

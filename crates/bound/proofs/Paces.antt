@@ -1,0 +1,115 @@
+-- The pace at which the sum of the amounts grows with the length: what the loop over the rows above joins.
+-- Assumes nothing.
+use Prim.Native.Nat.{ℕ, _+_, _*_, _-_, _%_, _≤_, _<_, min}
+use mathlib.Core.Path.{_≡_, ap}
+use mathlib.Core.Bool.{Bool, true, false}
+use native.Mathlib.Nat.{mul-le-mul-right}
+use native.Mathlib.Omega.{arith}
+use lib.Dec.{eqb}
+use borrow.Author.Tests.{ne-eqb}
+use Rattle.basis.specs.Limits.{mostProcessors, mostRows, mostSeparation}
+use Rattle.basis.specs.Words.{pick, sum}
+use Rattle.basis.proofs.Sums.{sum-one-more}
+use Rattle.sheet.specs.Legal.{rowAt}
+use Rattle.sheet.specs.declared.row.Row.{Row}
+use Rattle.sheet.specs.declared.row.Sheet.{Sheet}
+use Rattle.bound.specs.Quantities.{slots, plus, lesser}
+use Rattle.bound.specs.Test.{q, X, x, W, durationOf, amountOf, amounts}
+use Rattle.bound.specs.Ready.{Ready, Length}
+use Rattle.bound.specs.Skipping.{Paces, stayOf, joined}
+use Rattle.bound.specs.declared.quantity.Duration.{Duration}
+use Rattle.bound.specs.declared.pace.Pace.{Pace}
+use Rattle.bound.proofs.Durations.{number}
+use Rattle.bound.proofs.Workload.{W-runs-on}
+use Rattle.bound.proofs.Amounts.{row, amount-mono, capped-small}
+
+capped-grows : (w z g x d : ℕ) → w + min d g ≤ z → d ≤ g + (w - x) → min w x + d ≤ min z (x + d)
+capped-grows w z g x d a b = omega arith
+
+-- a row's duration keeps pace while the row stays
+duration-grows : (r : Row) (R L X : Duration) (d : ℕ) → 1 ≤ r .separation → r .budget ≤ r .separation → r .budget ≤ R .0 → d ≤ stayOf r R L X .0
+    → durationOf r R L X .0 + d ≤ durationOf r R (plus L (slots d)) (plus X (slots d)) .0
+unfolding durationOf stayOf x
+duration-grows r R L X d pos fits low h =
+    let s : ℕ = L .0 + R .0 - r .budget in
+    let e : L .0 + d + R .0 - r .budget ≡ L .0 + R .0 - r .budget + d = omega arith in
+    capped-grows (W r (slots s) .0) (W r (slots (L .0 + d + R .0 - r .budget)) .0) (r .budget - s % r .separation) (X .0) d
+    (rw e (W-runs-on r pos fits s d)) h
+
+module _ (h : Sheet) (R : ℕ → Duration) (k : ℕ) (r : Ready h R k) (L : Duration) (len : Length h k L) where
+  pub X-more : (d : ℕ) → X h k (plus L (slots d)) ≡ plus (X h k L) (slots d)
+  unfolding X
+  X-more d = ap slots (omega (arith, len .low))
+
+  amount-grows : (i d : ℕ) → i < k → d ≤ stayOf (rowAt h i) (R i) L (X h k L) .0
+      → amountOf h R k L i .0 + min (rowAt h i .threads) (q h k) * d ≤ amountOf h R k (plus L (slots d)) i .0
+  unfolding amountOf
+  amount-grows i d b s =
+      rw (X-more d)
+      (omega (
+        arith,
+        mul-le-mul-right (min (rowAt h i .threads) (q h k))
+            (duration-grows (rowAt h i) (R i) L (X h k L) d (row h R k r i b .some-separation) (omega (arith, row h R k r i b)) (r .low i b) s),
+      ))
+
+  pub paces-none : Paces h R k L 0 (record { width = 0; stay = slots mostSeparation })
+  unfolding amounts sum
+  paces-none = record { width = omega arith; stay = omega arith; grows = λ d l. omega arith }
+
+  module _ (i b g : ℕ) (v w s : Duration) (p t : Pace) (l : i < k) (now : Paces h R k L i p) (ev : v ≡ R i) (ew : w ≡ X h k L) (eb : b ≡ q h k)
+      (es : s ≡ stayOf (rowAt h i) v L w) (eg : g ≡ min (rowAt h i .threads) b) (et : t ≡ joined p g s) where
+    stay-is : s ≡ stayOf (rowAt h i) (R i) L (X h k L)
+    stay-is = cc
+
+    capped-is : g ≡ min (rowAt h i .threads) (q h k)
+    capped-is = cc
+
+    more : (n : Duration) → amounts h R k n (i + 1) .0 ≡ amounts h R k n i .0 + amountOf h R k n i .0
+    unfolding amounts
+    more n = sum-one-more i (λ j. amountOf h R k n j .0)
+
+    left-out : Paces h R k L (i + 1) p
+    left-out =
+        record {
+          width = omega (arith, now .width);
+          stay = now .stay;
+          grows = λ d m. omega (arith, now .grows d m, more L, more (plus L (slots d)), amount-mono h R k r L (plus L (slots d)) i (omega arith) l);
+        }
+
+    taken-in : Paces h R k L (i + 1) (record { width = p .width + g; stay = lesser (p .stay) s })
+    taken-in =
+        record {
+          width = omega (arith, now .width, capped-small h k (r .legal) (r .below) b g (rowAt h i .threads) eb eg);
+          stay = omega (arith, now .stay);
+          grows = λ d m.
+              omega (
+                arith,
+                now .grows d (omega arith),
+                more L,
+                more (plus L (slots d)),
+                ap (λ (n : ℕ). n * d) capped-is,
+                amount-grows i d l (omega (arith, number stay-is)),
+              );
+        }
+
+    pub paces-more : Paces h R k L (i + 1) t
+    unfolding joined
+    paces-more = go (eqb (s .0) 0) et where
+      go : (b : Bool) → t ≡ pick b p (record { width = p .width + g; stay = lesser (p .stay) s }) → Paces h R k L (i + 1) t
+      go true e = rw e left-out
+      go false e = rw e taken-in
+
+  pub width-small : (i : ℕ) (p : Pace) → i < k → Paces h R k L i p → p .width ≤ mostRows * mostProcessors
+  width-small i p l now = omega (arith, now .width, r .below, r .legal .most-rows)
+
+  pub paces-done : (i : ℕ) (p : Pace) → Paces h R k L i p → i ≤ k → k ≤ i → Paces h R k L k p
+  paces-done i p now a b = let e : i ≡ k = omega arith in rw e at now
+
+-- a pace with a row more, as the code makes it
+pub join-none : (p : Pace) (g : ℕ) (s : Duration) → s .0 ≡ 0 → p ≡ joined p g s
+unfolding joined
+join-none p g s e = rw e
+
+pub join-more : (p : Pace) (g : ℕ) (s t : Duration) → (s .0 ≡ 0 → ⊥) → t .0 ≡ min (p .stay .0) (s .0) → _≡_ {A = Pace} (record { width = p .width + g; stay = t }) (joined p g s)
+unfolding joined
+join-more p g s t e et = rw (ne-eqb (s .0) 0 e) (ap (λ (n : ℕ). record { width = p .width + g; stay = slots n }) et)

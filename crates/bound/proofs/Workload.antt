@@ -1,0 +1,23 @@
+-- The workload W is that of basis: it never falls, grows by one with each slot in which its present job runs, and is no less than its share.
+-- Assumes nothing.
+use Prim.Native.Nat.{ℕ, _+_, _-_, _*_, _%_, _≤_, min}
+use Rattle.basis.specs.Workload.{ω}
+use Rattle.basis.proofs.Workload.{ω-mono, ω-runs-on, ω-shares}
+use Rattle.sheet.specs.declared.row.Row.{Row}
+use Rattle.bound.specs.Quantities.{slots}
+use Rattle.bound.specs.Test.{W}
+
+module _ (row : Row) (pos : 1 ≤ row .separation) (fits : row .budget ≤ row .separation) where
+  pub W-mono : (x y : ℕ) → x ≤ y → W row (slots x) .0 ≤ W row (slots y) .0
+  unfolding W ω
+  W-mono x y h = ω-mono (row .budget) (row .separation) pos fits x y h
+
+  -- what d slots more add at least: those that the present job is still to run
+  pub W-runs-on : (x d : ℕ) → W row (slots x) .0 + min d (row .budget - x % row .separation) ≤ W row (slots (x + d)) .0
+  unfolding W ω
+  W-runs-on x d = ω-runs-on (row .budget) (row .separation) pos fits x d
+
+  -- it is no less than the budget of every separation
+  pub W-shares : (x : ℕ) → x * row .budget ≤ W row (slots x) .0 * row .separation
+  unfolding W ω
+  W-shares x = ω-shares (row .budget) (row .separation) pos fits x

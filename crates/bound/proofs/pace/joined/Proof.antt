@@ -1,0 +1,20 @@
+-- `joined` is a pace with a row more. Assumes nothing.
+use borrow.Author.Needs.{needs}
+use Rattle.bound.proofs.Paces.{join-none, join-more}
+use Rattle.bound.proofs.pace.joined.Statement.{statement}
+use Rattle.bound.proofs.pace.joined.Tie as tie
+
+returns : tie.Need-returns
+returns c = search join-none
+
+lesser-requires : tie.Need-lesser-requires
+lesser-requires c κs = search needs
+
+add-t6 : tie.Need-add-t6
+add-t6 c = search needs
+
+returns-2 : tie.Need-returns-2
+returns-2 c = search join-more
+
+pub joined-spec : {M : Type 1} → statement M
+joined-spec = tie.close (tie.spec returns lesser-requires add-t6 returns-2)

@@ -1,0 +1,14 @@
+-- `fills` meets its promise, by multiplication. Assumes nothing.
+use borrow.Author.Needs.{needs}
+use Rattle.bound.proofs.Durations.{fills-within, fills-most}
+use Rattle.bound.proofs.quantity.Amount.fills.Statement.{statement}
+use Rattle.bound.proofs.quantity.Amount.fills.Tie as tie
+
+div-result : tie.Need-div-result
+div-result c = search needs
+
+returns : tie.Need-returns
+returns c = (search fills-within, search fills-most)
+
+pub fills-spec : {M : Type 1} → statement M
+fills-spec = tie.close (tie.spec div-result returns)

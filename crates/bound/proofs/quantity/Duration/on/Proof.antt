@@ -1,0 +1,14 @@
+-- `on` meets its promise: the amount fits. Assumes nothing.
+use borrow.Author.Needs.{needs}
+use Rattle.bound.proofs.Durations.{amount-fits}
+use Rattle.bound.proofs.quantity.Duration.on.Statement.{statement}
+use Rattle.bound.proofs.quantity.Duration.on.Tie as tie
+
+mul-t3 : tie.Need-mul-t3
+mul-t3 c = search amount-fits
+
+returns : tie.Need-returns
+returns c = search needs
+
+pub on-spec : {M : Type 1} → statement M
+on-spec = tie.close (tie.spec mul-t3 returns)

@@ -1,0 +1,67 @@
+-- `smallest` is the smallest length that passes: the smallest from this length on is the smallest of all. Assumes nothing.
+use borrow.Author.Needs.{needs}
+use Prim.Native.Nat.{_≤_, _-_, _+_}
+use native.Mathlib.Nat.{le-of-lt}
+use mathlib.Core.Path.{_≡_}
+use Rattle.sheet.specs.Legal.{rowAt}
+use Rattle.bound.specs.Test.{passes}
+use Rattle.bound.specs.Bound.{least, passesAt, boundBy}
+use Rattle.bound.specs.Ready.{held}
+use Rattle.bound.proofs.Lengths.{search-starts, search-less, search-low, search-found, search-more, search-ends}
+use Rattle.bound.proofs.search.smallest.Statement.{statement}
+use Rattle.bound.proofs.search.smallest.Tie as tie
+
+abbrev Inv-loop : tie.InvT-loop
+Inv-loop bounds k sheet deadline length₀ length =
+    (rowAt sheet k .budget ≤ length .0)
+    × (least (passesAt passes sheet (held bounds) k) (length .0) (rowAt sheet k .deadline + 1 - length .0) ≡ boundBy passes sheet (held bounds) k)
+
+abbrev μ-loop : tie.MeasureT-loop
+μ-loop bounds k sheet deadline length₀ length = rowAt sheet k .deadline + 1 - length .0
+
+mul-row : tie.Need-mul-row Inv-loop μ-loop
+mul-row c = search needs
+
+element-copy-out-row : tie.Need-element-copy-out-row Inv-loop μ-loop
+element-copy-out-row c = search needs
+
+loop-holds : tie.Need-loop-holds Inv-loop μ-loop
+loop-holds c = (search needs, search search-starts)
+
+try-length-requires : tie.Need-try-length-requires Inv-loop μ-loop
+try-length-requires c κs = search needs
+
+enum-known-tried : tie.Need-enum-known-tried Inv-loop μ-loop
+enum-known-tried c = search needs
+
+enum-told : tie.Need-enum-told Inv-loop μ-loop
+enum-told c = search needs
+
+returns : tie.Need-returns Inv-loop μ-loop
+returns c = search (search-found, le-of-lt)
+
+loop-less : tie.Need-loop-less Inv-loop μ-loop
+loop-less c = search (search-less, le-of-lt)
+
+loop-again : tie.Need-loop-again Inv-loop μ-loop
+loop-again c = (search search-low, search search-more)
+
+returns-2 : tie.Need-returns-2 Inv-loop μ-loop
+returns-2 c = search search-ends
+
+pub smallest-spec : {M : Type 1} → statement M
+smallest-spec =
+    tie.close
+    (tie.spec
+    Inv-loop
+    μ-loop
+    mul-row
+    element-copy-out-row
+    loop-holds
+    try-length-requires
+    enum-known-tried
+    enum-told
+    returns
+    loop-less
+    loop-again
+    returns-2)

@@ -1,0 +1,46 @@
+-- Cases A to F: sheets, and the results that document 01 has for them.
+use Prim.Native.Nat.{_-_}
+use mathlib.Core.Path.{_≡_}
+use mathlib.Core.Bool.{Bool, true}
+use mathlib.Core.List.{List, [], _∷_, _++_}
+use lib.ListN.{length, replicate}
+use Rattle.basis.specs.Limits.{mostRows}
+use Rattle.basis.specs.Words.{both}
+use Rattle.basis.specs.Refusals.{accepted}
+use Rattle.sheet.specs.declared.row.Sheet.{Sheet}
+use Rattle.bound.specs.Bound.{Word, bound, none, unreached, isBound, Answer, boundsOf}
+use Rattle.bound.specs.Tables.{sheetA, sheetB, sheetC, sheetD, sheetE, sheetF}
+
+-- A sheet, and the results of its rows.
+pub record Case : Type 0 where
+  pub sheet : Sheet
+  pub results : List Word
+
+-- The six cases.
+abbrev pub cases : List Case
+cases =
+    record { sheet = sheetA; results = bound 2 ∷ bound 5 ∷ [] }
+    ∷ record { sheet = sheetB; results = bound 2 ∷ bound 4 ∷ bound 7 ∷ [] }
+    ∷ record { sheet = sheetC; results = bound 1 ∷ none ∷ [] }
+    ∷ record { sheet = sheetD; results = bound 1 ∷ bound 4 ∷ [] }
+    ∷ record { sheet = sheetE; results = bound 2 ∷ bound 4 ∷ [] }
+    ∷ record { sheet = sheetF; results = bound 1 ∷ [] }
+    ∷ []
+
+-- Each of some results is a bound.
+abbrev pub allBounds : List Word → Bool
+allBounds [] = true
+allBounds (w ∷ ws) = both (isBound w) (allBounds ws)
+
+-- The whole answer with these results: past them no row is reached, and the sheet holds where each is a bound.
+abbrev pub expected : List Word → Answer
+expected ws = (accepted, allBounds ws, ws ++ replicate (mostRows - length ws) unreached)
+
+-- A case is right where the bounds of its sheet are its results.
+abbrev pub Right : Case → Type 0
+Right c = boundsOf (c .sheet) ≡ expected (c .results)
+
+-- What a list's every element is.
+abbrev pub Each : {A : Type 0} → (A → Type 0) → List A → Type 0
+Each P [] = Unit {0}
+Each P (a ∷ l) = P a × Each P l

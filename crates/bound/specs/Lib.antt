@@ -1,0 +1,7 @@
+pub mod Quantities
+pub mod Test
+pub mod Bound
+pub mod Tables
+pub mod Cases
+pub mod Ready
+pub mod Skipping

@@ -1,0 +1,57 @@
+-- The facts that the functions below the public ones are called with.
+use Prim.Native.Nat.{ℕ, _*_, _≤_, _<_}
+use mathlib.Core.Path.{_≡_}
+use mathlib.Core.Bool.{Bool}
+use mathlib.Core.List.{List}
+use lib.ListN.{getD, replicate}
+use Rattle.basis.specs.Limits.{mostProcessors, mostRows, mostSeparation}
+use Rattle.basis.specs.Words.{allOf}
+use Rattle.basis.specs.Upto.{upto}
+use Rattle.sheet.specs.Legal.{rowAt, Legal}
+use Rattle.sheet.specs.declared.row.Row.{Row}
+use Rattle.sheet.specs.declared.row.Sheet.{Sheet}
+use Rattle.bound.specs.Quantities.{slots}
+use Rattle.bound.specs.Test.{passes}
+use Rattle.bound.specs.Bound.{bounds, bounded, resultOf}
+use Rattle.bound.specs.declared.quantity.Duration.{Duration}
+
+-- The bounds that an array holds.
+abbrev pub held : List Duration → ℕ → Duration
+held rs i = getD rs i (slots 0)
+
+-- No bounds yet.
+abbrev pub noBounds : List Duration
+noBounds = replicate mostRows (slots 0)
+
+-- The loop over the rows has judged the first k: what it holds are their bounds, and whether each has one.
+pub record SoFar (h : Sheet) (rs : List Duration) (reached : Bool) (k : ℕ) : Type 0 where
+  pub above : rs ≡ upto k (bounds (resultOf passes h)) noBounds
+  pub all : reached ≡ allOf k (bounded (resultOf passes h))
+
+-- Row k of a legal sheet can be judged by these bounds: each above is from C to D.
+pub record Ready (h : Sheet) (R : ℕ → Duration) (k : ℕ) : Type 0 where
+  pub legal : Legal h
+  pub below : k < h .count
+  pub low : (i : ℕ) → i < k → rowAt h i .budget ≤ R i .0
+  pub high : (i : ℕ) → i < k → R i .0 ≤ rowAt h i .deadline
+
+-- A length that the test of row k is put to: from C to D.
+pub record Length (h : Sheet) (k : ℕ) (L : Duration) : Type 0 where
+  pub low : rowAt h k .budget ≤ L .0
+  pub high : L .0 ≤ rowAt h k .deadline
+
+-- A row above with its bound, and a length that it is looked at in.
+pub record Above (row : Row) (R L : Duration) : Type 0 where
+  pub most-threads : row .threads ≤ mostProcessors
+  pub some-budget : 1 ≤ row .budget
+  pub low : row .budget ≤ R .0
+  pub high : R .0 ≤ row .separation
+  pub most-separation : row .separation ≤ mostSeparation
+  pub most-length : L .0 ≤ mostSeparation
+
+-- A row above, and an x of it.
+pub record Spans (row : Row) (span : Duration) : Type 0 where
+  pub some-separation : 1 ≤ row .separation
+  pub most-budget : row .budget ≤ row .separation
+  pub most-separation : row .separation ≤ mostSeparation
+  pub most-span : span .0 ≤ 2 * mostSeparation

@@ -1,0 +1,14 @@
+// The bound of each row of a sheet, and the fixed tables of sheets A to F.
+mod pace;
+mod quantity;
+mod results;
+mod search;
+mod share;
+mod tables;
+mod test;
+
+pub use results::Judged;
+pub use results::Result;
+pub use results::Results;
+pub use results::bounds;
+pub use tables::fixed_sheet;

@@ -1,0 +1,91 @@
+// The pace at which the sum of the amounts grows with the length, and how long a length that fails goes on failing by it.
+ghost use mathlib.Core.Path.{_≡_};
+ghost use Prim.Native.Nat.{_*_, _≤_};
+ghost use Rattle.basis.specs.Limits.{mostProcessors, mostRows};
+ghost use Rattle.bound.specs.Ready.{held, Ready, Length, Above};
+ghost use Rattle.bound.specs.Skipping.{stayOf, joined, Paces, Steep};
+use crate::quantity::Amount;
+use crate::quantity::Duration;
+use crate::test::busy_of;
+use crate::test::fewer;
+use crate::test::span_above;
+use crate::test::window_of;
+use crate::test::work_above;
+use basis::MOST_ROWS;
+use basis::MOST_SEPARATION;
+use sheet::Row;
+use sheet::Sheet;
+
+// Rows whose durations grow by one in each of the next `stay` slots, and the processors that they take together.
+pub struct Pace {
+    pub width: u64,
+    pub stay: Duration,
+}
+
+// The slots for which a row above, with this bound, keeps pace with the length.
+fn stay_of_row(row: Row, bound: Duration, length: Duration, window: Duration) -> Duration
+    requires { ⌜ Above row bound length ⌝ }
+    ensures { λ r. ⌜ r ≡ stayOf row bound length window ⌝ }
+{
+    let span = span_above(row, bound, length);
+    let work = work_above(row, span);
+    let ran = span.left(Duration(row.separation));
+    let job = Duration(row.budget).minus(ran);
+    job.plus(work.minus(window))
+}
+
+// The pace with a row more.
+fn joined(pace: Pace, capped: u64, stay: Duration) -> Pace
+    requires { ⌜ (pace .width ≤ mostRows * mostProcessors) × (capped ≤ mostProcessors) ⌝ }
+    ensures { λ r. ⌜ r ≡ joined pace capped stay ⌝ }
+{
+    if stay.0 == 0 {
+        return pace;
+    }
+    let shared = pace.stay.lesser(stay);
+    Pace {
+        width: pace.width + capped,
+        stay: shared,
+    }
+}
+
+// The pace at which the sum of the amounts above row `k` grows from a length on.
+pub(crate) fn pace_above(
+    sheet: Sheet,
+    bounds: [Duration; MOST_ROWS],
+    k: usize,
+    length: Duration,
+) -> Pace
+    requires { ⌜ (Ready sheet (held bounds) k) × (Length sheet k length) ⌝ }
+    ensures { λ r. ⌜ Paces sheet (held bounds) k length k r ⌝ }
+{
+    let busy = busy_of(sheet, k);
+    let window = window_of(sheet, k, length);
+    let mut pace = Pace {
+        width: 0,
+        stay: Duration(MOST_SEPARATION),
+    };
+    let mut i: usize = 0;
+    while i < k {
+        let row = sheet.rows[i];
+        let bound = bounds[i];
+        let stay = stay_of_row(row, bound, length, window);
+        let capped = fewer(row.threads, busy);
+        pace = joined(pace, capped, stay);
+        i += 1;
+    }
+    pace
+}
+
+// The slots for which a length so far over goes on failing at this pace.
+pub(crate) fn steep(over: Amount, busy: u64, pace: Pace) -> Duration
+    ensures { λ r. ⌜ Steep over busy pace r ⌝ }
+{
+    let width = pace.width;
+    let stay = pace.stay;
+    if busy <= width {
+        return stay;
+    }
+    let count = over.fills(busy - width);
+    stay.lesser(Duration(count))
+}

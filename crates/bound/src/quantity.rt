@@ -1,0 +1,127 @@
+// The two kinds of quantity. No sum adds one to the other, and only `on` leads from one to the other.
+ghost use mathlib.Core.Path.{_≡_};
+ghost use Prim.Native.Nat.{_+_, _*_, _≤_, _<_};
+ghost use mir.Val.{Fits};
+ghost use mir.Syntax.{w64};
+ghost use Rattle.basis.specs.Limits.{mostProcessors, mostSeparation};
+ghost use Rattle.bound.specs.Quantities.{plus, minus, lesser, greater, times, into, left, on, noAmount, plusAmount, minusAmount, less};
+
+// Slots.
+pub struct Duration(pub(crate) u64);
+
+// Slots times processors.
+pub struct Amount(u64);
+
+impl Duration {
+    // This and another, one after the other.
+    pub(crate) fn plus(self, other: Duration) -> Duration
+        requires { ⌜ Fits w64 (self .0 + other .0) ⌝ }
+        ensures { λ r. ⌜ r .0 ≡ plus self other .0 ⌝ }
+    {
+        Duration(self.0 + other.0)
+    }
+
+    // What it is longer by than another.
+    pub(crate) fn minus(self, other: Duration) -> Duration
+        ensures { λ r. ⌜ r .0 ≡ minus self other .0 ⌝ }
+    {
+        if self.0 < other.0 {
+            return Duration(0);
+        }
+        Duration(self.0 - other.0)
+    }
+
+    // The shorter of two.
+    pub(crate) fn lesser(self, other: Duration) -> Duration
+        ensures { λ r. ⌜ r .0 ≡ lesser self other .0 ⌝ }
+    {
+        if self.0 < other.0 {
+            return self;
+        }
+        other
+    }
+
+    // The longer of two.
+    pub(crate) fn greater(self, other: Duration) -> Duration
+        ensures { λ r. ⌜ r .0 ≡ greater self other .0 ⌝ }
+    {
+        if self.0 < other.0 {
+            return other;
+        }
+        self
+    }
+
+    // So many times.
+    pub(crate) fn times(self, count: u64) -> Duration
+        requires { ⌜ Fits w64 (count * self .0) ⌝ }
+        ensures { λ r. ⌜ r .0 ≡ times count self .0 ⌝ }
+    {
+        Duration(count * self.0)
+    }
+
+    // How many times a period goes into it.
+    pub(crate) fn into(self, period: Duration) -> u64
+        requires { ⌜ 1 ≤ period .0 ⌝ }
+        ensures { λ r. ⌜ r ≡ into self period ⌝ }
+    {
+        self.0 / period.0
+    }
+
+    // What is left of it after whole periods.
+    pub(crate) fn left(self, period: Duration) -> Duration
+        requires { ⌜ 1 ≤ period .0 ⌝ }
+        ensures { λ r. ⌜ r .0 ≡ left self period .0 ⌝ }
+    {
+        Duration(self.0 % period.0)
+    }
+
+    // Its amount on so many processors: the only way from a duration to an amount.
+    pub(crate) fn on(self, capped: u64) -> Amount
+        requires { ⌜ (self .0 ≤ mostSeparation) × (capped ≤ mostProcessors) ⌝ }
+        ensures { λ r. ⌜ r .0 ≡ on self capped .0 ⌝ }
+    {
+        Amount(self.0 * capped)
+    }
+}
+
+impl Amount {
+    // No amount.
+    pub(crate) fn none() -> Amount
+        ensures { λ r. ⌜ r .0 ≡ noAmount .0 ⌝ }
+    {
+        Amount(0)
+    }
+
+    // This and another together.
+    pub(crate) fn plus(self, other: Amount) -> Amount
+        requires { ⌜ Fits w64 (self .0 + other .0) ⌝ }
+        ensures { λ r. ⌜ r .0 ≡ plusAmount self other .0 ⌝ }
+    {
+        Amount(self.0 + other.0)
+    }
+
+    // What it is more by than another.
+    pub(crate) fn minus(self, other: Amount) -> Amount
+        ensures { λ r. ⌜ r .0 ≡ minusAmount self other .0 ⌝ }
+    {
+        if self.0 < other.0 {
+            return Amount(0);
+        }
+        Amount(self.0 - other.0)
+    }
+
+    // Whether it is less than another.
+    pub(crate) fn is_less(self, other: Amount) -> bool
+        ensures { λ r. ⌜ r ≡ less self other ⌝ }
+    {
+        self.0 < other.0
+    }
+
+    // How many slots of so many processors go into it, as a plain count.
+    pub(crate) fn fills(self, processors: u64) -> u64
+        requires { ⌜ 1 ≤ processors ⌝ }
+        ensures { λ r. ⌜ (r * processors ≤ self .0) × (self .0 < (r + 1) * processors) ⌝ }
+    {
+        self.0 / processors
+    }
+}

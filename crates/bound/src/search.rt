@@ -1,0 +1,88 @@
+// The search for the smallest length that passes.
+ghost use mathlib.Core.Path.{_≡_};
+ghost use mathlib.Core.Bool.{false};
+ghost use Rattle.bound.specs.Test.{amounts, passes};
+ghost use Rattle.bound.specs.Bound.{word, boundBy};
+ghost use Rattle.bound.specs.Ready.{held, Ready, Length};
+ghost use Rattle.bound.specs.Skipping.{Skips, Says};
+use crate::pace::pace_above;
+use crate::pace::steep;
+use crate::quantity::Amount;
+use crate::quantity::Duration;
+use crate::results::Result;
+use crate::share::leaves_room;
+use crate::test::busy_of;
+use crate::test::passes;
+use crate::test::room_of;
+use crate::test::sum_above;
+use basis::MOST_ROWS;
+use sheet::Sheet;
+
+// What the trial of a length tells: it passes, or the next length that can.
+pub enum Tried {
+    Passes,
+    Next(Duration),
+}
+
+// The first length after one that fails, of which this is the sum, that is not known to fail.
+fn next_length(
+    sheet: Sheet,
+    bounds: [Duration; MOST_ROWS],
+    k: usize,
+    length: Duration,
+    sum: Amount,
+) -> Duration
+    requires { ⌜ (Ready sheet (held bounds) k) × (Length sheet k length) × (sum ≡ amounts sheet (held bounds) k length k) × (passes sheet (held bounds) k length ≡ false) ⌝ }
+    ensures { λ r. ⌜ Skips sheet (held bounds) k length r ⌝ }
+{
+    let busy = busy_of(sheet, k);
+    let room = room_of(sheet, k, length);
+    let over = sum.minus(room);
+    let count = over.fills(busy);
+    let pace = pace_above(sheet, bounds, k, length);
+    let further = steep(over, busy, pace).greater(Duration(count));
+    length.plus(further).plus(Duration(1))
+}
+
+// The trial of a length of row `k`.
+fn try_length(sheet: Sheet, bounds: [Duration; MOST_ROWS], k: usize, length: Duration) -> Tried
+    requires { ⌜ (Ready sheet (held bounds) k) × (Length sheet k length) ⌝ }
+    ensures { λ r. ⌜ Says sheet (held bounds) k length r ⌝ }
+{
+    let sum = sum_above(sheet, bounds, k, length);
+    if passes(sheet, k, length, sum) {
+        return Tried::Passes;
+    }
+    let next = next_length(sheet, bounds, k, length, sum);
+    Tried::Next(next)
+}
+
+// The smallest length of row `k` that passes.
+fn smallest(sheet: Sheet, bounds: [Duration; MOST_ROWS], k: usize) -> Result
+    requires { ⌜ Ready sheet (held bounds) k ⌝ }
+    ensures { λ r. ⌜ word r ≡ boundBy passes sheet (held bounds) k ⌝ }
+{
+    let row = sheet.rows[k];
+    let deadline = Duration(row.deadline);
+    let mut length = Duration(row.budget);
+    while length.0 <= deadline.0 {
+        let tried = try_length(sheet, bounds, k, length);
+        let Tried::Next(next) = tried else {
+            return Result::Bound(length.0);
+        };
+        length = next;
+    }
+    Result::NoBound
+}
+
+// The bound of row `k`, by the bounds above; none at once where the rows above leave no room up to the deadline.
+pub(crate) fn bound_of(sheet: Sheet, bounds: [Duration; MOST_ROWS], k: usize) -> Result
+    requires { ⌜ Ready sheet (held bounds) k ⌝ }
+    ensures { λ r. ⌜ word r ≡ boundBy passes sheet (held bounds) k ⌝ }
+{
+    let row = sheet.rows[k];
+    if leaves_room(sheet, bounds, k, Duration(row.deadline)) {
+        return smallest(sheet, bounds, k);
+    }
+    Result::NoBound
+}

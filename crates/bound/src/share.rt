@@ -1,0 +1,63 @@
+// The shares of the rows above: what each runs at least in the long run, and whether they leave room for any length.
+ghost use mathlib.Core.Path.{_≡_};
+ghost use Prim.Native.Nat.{_≤_, min};
+ghost use Rattle.basis.specs.Limits.{mostProcessors, mostSeparation};
+ghost use Rattle.bound.specs.Quantities.{on};
+ghost use Rattle.bound.specs.Ready.{held, Ready, Length, Above};
+ghost use Rattle.bound.specs.Skipping.{shareOf, Shares, LeavesRoom};
+use crate::quantity::Amount;
+use crate::quantity::Duration;
+use crate::test::busy_of;
+use crate::test::fewer;
+use crate::test::passes;
+use crate::test::span_above;
+use crate::test::window_of;
+use basis::MOST_ROWS;
+use sheet::Row;
+use sheet::Sheet;
+
+// The amount of a row above with this bound, by its share: its budget of every separation.
+fn share_above(row: Row, bound: Duration, length: Duration, window: Duration, busy: u64) -> Amount
+    requires { ⌜ (Above row bound length) × (window .0 ≤ mostSeparation) × (busy ≤ mostProcessors) ⌝ }
+    ensures { λ r. ⌜ r ≡ on (shareOf row bound length window) (min (row .threads) busy) ⌝ }
+{
+    let span = span_above(row, bound, length);
+    let weighed = span.times(row.budget);
+    let count = weighed.into(Duration(row.separation));
+    let share = Duration(count).lesser(window);
+    let capped = fewer(row.threads, busy);
+    share.on(capped)
+}
+
+// The sum of the amounts above row `k` by their shares.
+fn shares_above(sheet: Sheet, bounds: [Duration; MOST_ROWS], k: usize, length: Duration) -> Amount
+    requires { ⌜ (Ready sheet (held bounds) k) × (Length sheet k length) ⌝ }
+    ensures { λ r. ⌜ Shares sheet (held bounds) k length k r ⌝ }
+{
+    let busy = busy_of(sheet, k);
+    let window = window_of(sheet, k, length);
+    let mut sum = Amount::none();
+    let mut i: usize = 0;
+    while i < k {
+        let row = sheet.rows[i];
+        let bound = bounds[i];
+        let share = share_above(row, bound, length, window, busy);
+        sum = sum.plus(share);
+        i += 1;
+    }
+    sum
+}
+
+// Whether the shares leave room in a length; where they do not, no length up to it passes.
+pub(crate) fn leaves_room(
+    sheet: Sheet,
+    bounds: [Duration; MOST_ROWS],
+    k: usize,
+    length: Duration,
+) -> bool
+    requires { ⌜ (Ready sheet (held bounds) k) × (Length sheet k length) ⌝ }
+    ensures { λ r. ⌜ LeavesRoom sheet (held bounds) k length r ⌝ }
+{
+    let sum = shares_above(sheet, bounds, k, length);
+    passes(sheet, k, length, sum)
+}

@@ -1,0 +1,101 @@
+-- Accepted slots one after another, each from the state that the one before it left; and that they are in time where the sheet holds.
+-- Assumes nothing.
+use Prim.Native.Nat.{ℕ, zero, suc, _+_, _-_, _≤_, _<_, min}
+use mathlib.Core.Path.{_≡_, refl, sym, ap, subst, _∙_}
+use mathlib.Core.Bool.{Bool, true, false}
+use mathlib.Core.Logic.{_⊎_, inl, inr, ⊎-elim}
+use mathlib.Core.List.{List, [], _∷_, _++_}
+use native.Mathlib.Omega.{arith}
+use lib.ListN.{length, getD}
+use Rattle.basis.specs.Refusals.{Outcome, accepted}
+use Rattle.sheet.specs.Legal.{rowAt, Legal}
+use Rattle.sheet.specs.declared.row.Sheet.{Sheet}
+use Rattle.bound.specs.Test.{passes}
+use Rattle.bound.specs.Bound.{bound, valueOf, resultOf, holds}
+use Rattle.machine.specs.declared.state.State.{State}
+use Rattle.machine.specs.declared.state.RowState.{RowState}
+use Rattle.machine.specs.States.{recordAt}
+use Rattle.machine.specs.Slot.{begun, runs, reached, code}
+use Rattle.machine.specs.Checks.{checkReleases}
+use Rattle.machine.specs.Answers.{given, nextState}
+use Rattle.machine.proofs.Legals.{LegalState}
+use Rattle.machine.proofs.Records.{ended-else}
+use Rattle.green.specs.Model.{Moment, owed, age, Reached, slot}
+use Rattle.green.specs.Calls.{Done}
+use Rattle.green.specs.Demand.{noSlot, releaseIn, codeIn, FinishedWithin, InTime}
+use Rattle.green.proofs.Sheets.{rowsOf, ranges, safe}
+use Rattle.green.proofs.Soundness.{within-bound, slot-within-bound}
+use Rattle.green.proofs.Slots.{momentOf, ran, slot-is, begin-remaining, released-so, reached-remaining, reached-since, next-record, next-since}
+use Rattle.green.proofs.Codes.{finished-code, going-code, missed-code}
+
+-- an accepted slot from a state: what it was checked for, and the codes that it wrote
+pub record Slotted (h : Sheet) (t : State) (d : Done) : Type 0 where
+  pub state : LegalState h t
+  pub fine : checkReleases h t (d .releases) ≡ accepted
+  pub wrote : (k : ℕ) → k < h .count → getD (d .codes) k 0 ≡ code (given h t (d .releases)) k
+
+-- slots one after another, from a state to a state
+pub data Chain (h : Sheet) : State → List Done → State → Type 0 where
+  none : {t : State} → Chain h t [] t
+  more : {t u : State} {d : Done} {ds : List Done} → Slotted h t d → Chain h (nextState h t (d .releases)) ds u → Chain h t (d ∷ ds) u
+
+pub chain-append : (h : Sheet) {t u v : State} {ds es : List Done} → Chain h t ds u → Chain h u es v → Chain h t (ds ++ es) v
+chain-append h none c = c
+chain-append h (more s b) c = more s (chain-append h b c)
+
+module _ (h : Sheet) (legal : Legal h) (all : holds passes h ≡ true) where
+  abbrev pub bounds : ℕ → ℕ
+  bounds k = rowsOf h .R k
+
+  -- one slot, from a state that slots lead to
+  module _ (t : State) (d : Done) (r : Reached (rowsOf h) (momentOf t)) (s : Slotted h t d) where
+    pub leads : Reached (rowsOf h) (momentOf (nextState h t (d .releases)))
+    leads = slot (λ k. getD (d .releases) k 0) (ran h t (d .releases) (s .state) (s .fine)) r (slot-is h t (d .releases) (s .state) (s .fine))
+
+    module _ (k : ℕ) (l : k < h .count) where
+      abbrev left : ℕ
+      left = reached (given h t (d .releases)) k .remaining
+
+      abbrev old : ℕ
+      old = reached (given h t (d .releases)) k .since
+
+      -- what is left before anything is dropped
+      in-bound : 1 ≤ left → old + left ≤ bounds k
+      in-bound x =
+          omega (
+            arith,
+            slot-within-bound (rowsOf h) (ranges h legal all) (safe h legal all) _ _ r (slot-is h t (d .releases) (s .state) (s .fine)) k l
+                (omega (arith, reached-remaining h t (d .releases) (s .state) (s .fine) k)),
+            reached-remaining h t (d .releases) (s .state) (s .fine) k,
+            next-since h t (d .releases) (s .state) (s .fine) k l,
+          )
+
+      -- no code 4
+      pub not-missed : getD (d .codes) k 0 ≡ 4 → ⊥
+      unfolding given
+      not-missed e =
+          let (some, late) = missed-code (rowAt h k) (runs (given h t (d .releases)) k) (begun (given h t (d .releases)) k) (reached (given h t (d .releases)) k) (sym (s .wrote k l) ∙ e) in
+          omega (arith, in-bound some, ranges h legal all k l)
+
+      -- a job finishes in this slot, or goes on: it waited or ran, and is a slot older
+      pub record GoesOn : Type 0 where
+        pub ran-or-waited : (getD (d .codes) k 0 ≡ 1) ⊎ (getD (d .codes) k 0 ≡ 2)
+        pub some : 1 ≤ recordAt (nextState h t (d .releases)) k .remaining
+        pub older : recordAt (nextState h t (d .releases)) k .since ≡ age (getD (d .releases) k 0) (recordAt t k .since) + 1
+
+      pub step : 1 ≤ begun (given h t (d .releases)) k .remaining → (getD (d .codes) k 0 ≡ 3) ⊎ GoesOn
+      unfolding given
+      step x = go left refl
+        where
+          go : (y : ℕ) → left ≡ y → (getD (d .codes) k 0 ≡ 3) ⊎ GoesOn
+          go zero e = inl (s .wrote k l ∙ finished-code (rowAt h k) (runs (given h t (d .releases)) k) (begun (given h t (d .releases)) k) (reached (given h t (d .releases)) k) x e)
+          go (suc y) e =
+              let b = in-bound (omega arith) in
+              let early : old ≡ rowAt h k .deadline → ⊥ = λ f. omega (arith, ranges h legal all k l) in
+              let n = next-record h t (d .releases) (s .state) (s .fine) k l in
+              let c = going-code (rowAt h k) (runs (given h t (d .releases)) k) (begun (given h t (d .releases)) k) (reached (given h t (d .releases)) k) x (omega arith) early in
+              inr (record {
+                ran-or-waited = ⊎-elim (λ f. inl (s .wrote k l ∙ f)) (λ f. inr (s .wrote k l ∙ f)) c;
+                some = omega (arith, ap (λ (z : RowState). z .remaining) n, ended-else (rowAt h k) (reached (given h t (d .releases)) k) early);
+                older = omega (arith, next-since h t (d .releases) (s .state) (s .fine) k l, reached-since h t (d .releases) (s .state) (s .fine) k l, ranges h legal all k l);
+              })

@@ -1,0 +1,149 @@
+-- The accepted slots of any calls are a chain: of one slot, of a run, and of calls one after another.
+-- Assumes nothing.
+use Prim.Native.Nat.{ℕ, zero, suc, _+_, _*_, _-_, _/_, _≤_, _<_}
+use mathlib.Core.Path.{_≡_, refl, sym, ap, ap₂, subst, _∙_}
+use mathlib.Core.Bool.{Bool, true, false}
+use mathlib.Core.List.{List, [], _∷_, _++_}
+use native.Mathlib.Omega.{arith}
+use native.Mathlib.Nat.{mul-le-mul-right}
+use native.Mathlib.Numerals.{add-one}
+use lib.ListN.{length, getD, take, drop, length-append, length-drop, take-append-drop}
+use lib.Seq.{getD-take, length-take-le, take-append-le, drop-append-le, drop-at, take-take}
+use Rattle.basis.specs.Refusals.{Outcome, accepted, refused, isAccepted}
+use Rattle.basis.proofs.Upto.{upto-below, length-upto}
+use Rattle.sheet.specs.declared.row.Sheet.{Sheet}
+use Rattle.machine.specs.declared.state.State.{State}
+use Rattle.machine.specs.Slot.{code}
+use Rattle.machine.specs.Checks.{checkSlot, checkRun}
+use Rattle.machine.specs.Answers.{given, nextState, nextCodes, handed, slot, Course, notBegun, entriesOf, behind, slotAt, followed, onward, course, runBy, run}
+use Rattle.machine.proofs.Answered.{Accepted-slot, slot-shows}
+use Rattle.machine.proofs.Legals.{legal-state-is}
+use Rattle.green.specs.Calls.{Call, one-slot, a-run, Done, slotDone, runSlot, runDone, slotsOf, stateAfter, history, stateAfterAll}
+use Rattle.green.proofs.Chains.{Slotted, Chain, none, more, chain-append}
+
+-- an accepted slot, on any buffer that begins with its codes
+module _ (h : Sheet) (t : State) (rel cs : List ℕ) (e : checkSlot h t rel (length cs) ≡ accepted) where
+  shown : Accepted-slot h t rel (length cs)
+  shown = slot-shows h t rel (length cs) e
+
+  slotted-so : Slotted h t (record { releases = rel; codes = take (h .count) (nextCodes h t rel cs) })
+  unfolding nextCodes
+  slotted-so = record {
+    state = legal-state-is h t (shown .in-order .most-rows) (shown .in-order .state-legal);
+    fine = shown .releases;
+    wrote = λ k l.
+        getD-take (h .count) (nextCodes h t rel cs) k 0 l
+        ∙ upto-below (h .count) (code (given h t rel)) cs 0 k l (omega (arith, shown .long, shown .roomy));
+  }
+
+-- what a slot hands over, by its outcome
+abbrev over : Sheet → State → List ℕ → List ℕ → Outcome → Outcome × (State × List ℕ)
+over h t rel cs o = handed o (nextState h t rel, nextCodes h t rel cs) (t, cs)
+
+-- one slot
+slot-chain : (h : Sheet) (t : State) (rel cs : List ℕ) → Chain h t (slotsOf h t (one-slot rel cs)) (stateAfter h t (one-slot rel cs))
+unfolding slot
+slot-chain h t rel cs = go (checkSlot h t rel (length cs)) refl
+  where
+    go : (o : Outcome) → checkSlot h t rel (length cs) ≡ o → Chain h t (slotDone (h .count) rel (over h t rel cs o)) (over h t rel cs o .1 .0)
+    go accepted e = more (slotted-so h t rel cs e) none
+    go (refused number place) e = none
+
+-- the slots of a run are those of any buffer that has the same codes for them
+done-alike : (n : ℕ) (rel cs ds : List ℕ) (d : ℕ) → ((i : ℕ) → i < d → entriesOf n i cs ≡ entriesOf n i ds) → runDone n rel cs d ≡ runDone n rel ds d
+unfolding runDone
+done-alike n rel cs ds zero h = refl
+done-alike n rel cs ds (suc d) h =
+    ap₂ (λ (x : List Done) (y : List ℕ). x ++ (record { releases = entriesOf n d rel; codes = y } ∷ [])) (done-alike n rel cs ds d (λ i l. h i (omega arith))) (h d (omega arith))
+
+-- what a run has done after j slots
+record Going (h : Sheet) (t : State) (rel : List ℕ) (j : ℕ) (c : Course) : Type 0 where
+  pub counted : c .outcome ≡ accepted → c .done ≡ j
+  pub chain : Chain h t (runDone (h .count) rel (c .codes) (c .done)) (c .state)
+
+-- one slot more of a run
+module _ (h : Sheet) (t : State) (rel : List ℕ) (j : ℕ) (u : State) (cs : List ℕ) (c : Chain h t (runDone (h .count) rel cs j) u) where
+  abbrev n : ℕ
+  n = h .count
+
+  abbrev own : List ℕ
+  own = entriesOf n j rel
+
+  abbrev rest : List ℕ
+  rest = drop (j * n) cs
+
+  module _ (e : checkSlot h u own (length rest) ≡ accepted) where
+    abbrev after : List ℕ
+    after = take (j * n) cs ++ nextCodes h u own rest
+
+    reaches : j * n ≤ length cs
+    reaches = let s = shown h u own rest e in omega (arith, s .long, s .roomy, s .in-order .some-rows, length-drop (j * n) cs)
+
+    front : length (take (j * n) cs) ≡ j * n
+    front = length-take-le (j * n) cs reaches
+
+    -- the codes of this slot, and of those before it
+    here : entriesOf n j after ≡ take n (nextCodes h u own rest)
+    here = ap (take n) (drop-at (take (j * n) cs) (nextCodes h u own rest) (j * n) front)
+
+    there : (i : ℕ) → i < j → entriesOf n i after ≡ entriesOf n i cs
+    there i l =
+        let room : i * n + n ≤ j * n = omega (arith, mul-le-mul-right {m = i + 1} {n = j} n (omega arith)) in
+        ap (take n) (drop-append-le (i * n) (take (j * n) cs) (nextCodes h u own rest) (omega (arith, front)))
+        ∙ take-append-le n (drop (i * n) (take (j * n) cs)) (nextCodes h u own rest) (omega (arith, front, length-drop (i * n) (take (j * n) cs)))
+        ∙ sym (ap (take n) (drop-append-le (i * n) (take (j * n) cs) (drop (j * n) cs) (omega (arith, front)))
+        ∙ take-append-le n (drop (i * n) (take (j * n) cs)) (drop (j * n) cs) (omega (arith, front, length-drop (i * n) (take (j * n) cs))))
+        ∙ ap (entriesOf n i) (take-append-drop (j * n) cs)
+
+    one-more : Chain h t (runDone n rel after (j + 1)) (nextState h u own)
+    unfolding runDone
+    one-more =
+        subst (λ (d : ℕ). Chain h t (runDone n rel after d) (nextState h u own)) (sym (add-one j))
+        (chain-append h (subst (λ (x : List Done). Chain h t x u) (sym (done-alike n rel after cs j there)) c)
+        (more (subst (λ (x : List ℕ). Slotted h u (record { releases = own; codes = x })) (sym here) (slotted-so h u own rest e)) none))
+
+  followed-so : (o : Outcome) → checkSlot h u own (length rest) ≡ o → Going h t rel (suc j) (followed j (behind (take (j * n) cs) (over h u own rest o)))
+  followed-so accepted e = record { counted = λ x. add-one j; chain = one-more e }
+  followed-so (refused number place) e = record {
+    counted = λ x. let z : _≡_ {A = ℕ} 0 1 = cc in absurd (omega arith);
+    chain = subst (λ (x : List ℕ). Chain h t (runDone n rel x j) u) (sym (take-append-drop (j * n) cs)) c;
+  }
+
+-- by the outcome of the slots so far
+going-on : (h : Sheet) (t : State) (rel : List ℕ) (j : ℕ) (c : Course) → Going h t rel j c → (o : Outcome) → c .outcome ≡ o → Going h t rel (suc j) (onward h rel j c)
+unfolding onward slotAt slot
+going-on h t rel j c g accepted e =
+    let d : c .done ≡ j = g .counted e in
+    let k = subst (λ (x : ℕ). Chain h t (runDone (h .count) rel (c .codes) x) (c .state)) d (g .chain) in
+    rw (e, d) (followed-so h t rel j (c .state) (c .codes) k _ refl)
+going-on h t rel j c g (refused number place) e =
+    rw e (record {
+      counted = λ x. let f : refused number place ≡ accepted = x in let z : _≡_ {A = ℕ} 0 1 = cc in absurd (omega arith);
+      chain = g .chain;
+    })
+
+run-going : (h : Sheet) (t : State) (rel cs : List ℕ) (j : ℕ) → Going h t rel j (course h rel (notBegun accepted t cs) j)
+unfolding course runDone
+run-going h t rel cs zero = record { counted = λ x. refl; chain = none }
+run-going h t rel cs (suc j) =
+    going-on h t rel j (course h rel (notBegun accepted t cs) j) (run-going h t rel cs j) (course h rel (notBegun accepted t cs) j .outcome) refl
+
+-- a run
+run-chain : (h : Sheet) (t : State) (rel cs : List ℕ) → Chain h t (slotsOf h t (a-run rel cs)) (stateAfter h t (a-run rel cs))
+unfolding run runDone
+run-chain h t rel cs = go (checkRun h t rel (length cs))
+  where
+    go : (o : Outcome) → Chain h t (runDone (h .count) rel (runBy o h t rel cs .codes) (runBy o h t rel cs .done)) (runBy o h t rel cs .state)
+    go accepted = run-going h t rel cs (length rel / h .count) .chain
+    go (refused number place) = none
+
+-- any call
+call-chain : (h : Sheet) (t : State) (c : Call) → Chain h t (slotsOf h t c) (stateAfter h t c)
+call-chain h t (one-slot rel cs) = slot-chain h t rel cs
+call-chain h t (a-run rel cs) = run-chain h t rel cs
+
+-- calls one after another
+pub history-chain : (h : Sheet) (t : State) (calls : List Call) → Chain h t (history h t calls) (stateAfterAll h t calls)
+unfolding history stateAfterAll
+history-chain h t [] = none
+history-chain h t (c ∷ cs) = chain-append h (call-chain h t c) (history-chain h (stateAfter h t c) cs)

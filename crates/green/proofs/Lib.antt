@@ -1,0 +1,15 @@
+pub mod Chains
+pub mod Codes
+pub mod Ends
+pub mod Theorem
+pub mod Histories
+pub mod Instances
+pub mod Invariant
+pub mod Judged
+pub mod Potential
+pub mod Refuted
+pub mod Sheets
+pub mod Slots
+pub mod Soundness
+pub mod Tallies
+pub mod Wrong

@@ -1,0 +1,162 @@
+-- From the machine's own slot to what the argument for green needs of a slot.
+-- Assumes nothing.
+use Prim.Native.Nat.{ℕ, zero, suc, _+_, _*_, _-_, _≤_, _<_, min}
+use mathlib.Core.Path.{_≡_, refl, sym, ap, subst, _∙_}
+use mathlib.Core.Bool.{Bool, true, false}
+use mathlib.Core.Logic.{⊎-elim}
+use mathlib.Core.List.{List}
+use native.Mathlib.Omega.{arith}
+use lib.ListN.{length, getD}
+use lib.Dec.{ltb, leb, eqb}
+use borrow.Author.Tests.{ltb-true, ltb-false, leb-true, leb-false, lt-ltb, le-ltb, ne-eqb}
+use Rattle.basis.specs.Words.{pick, both, sum}
+use Rattle.basis.specs.Refusals.{Outcome, accepted, refused}
+use Rattle.basis.proofs.First.{first-at}
+use Rattle.basis.proofs.Sums.{sum-same}
+use Rattle.basis.proofs.Words.{lt-or-le}
+use Rattle.basis.proofs.Upto.{upto-below}
+use Rattle.sheet.specs.Legal.{rowAt, Legal}
+use Rattle.sheet.specs.declared.row.Row.{Row}
+use Rattle.sheet.specs.declared.row.Sheet.{Sheet}
+use Rattle.machine.specs.declared.state.RowState.{RowState}
+use Rattle.machine.specs.declared.state.State.{State}
+use Rattle.machine.specs.States.{noRecord, recordAt, hasJob}
+use Rattle.machine.specs.Slot.{Given, released, fits, freeBelow, freeAt, worked, older, aged, missed, ended, begun, free, runs, reached, next}
+use Rattle.machine.specs.Checks.{checkRow, checkAt, checkReleases}
+use Rattle.machine.specs.Answers.{given, nextState}
+use Rattle.machine.proofs.Legals.{LegalState, legal-state-long}
+use Rattle.machine.proofs.Placement.{takenBy, processors-are-kept, waits-unfit}
+use Rattle.machine.proofs.Records.{release-allowed, older-below, older-full}
+use Rattle.green.specs.Model.{Rows, Moment, owed, age, Slot}
+use Rattle.green.proofs.Sheets.{rowsOf}
+
+-- a state as functions of the row number
+abbrev pub momentOf : State → Moment
+momentOf t = record { remaining = λ k. recordAt t k .remaining; since = λ k. recordAt t k .since }
+
+-- one where a row runs
+abbrev pub bit : Bool → ℕ
+bit b = pick b 1 0
+
+at-most-one : (b : Bool) → bit b ≤ 1
+at-most-one true = omega arith
+at-most-one false = omega arith
+
+-- ---- a row's steps, by themselves
+
+pub released-remaining : (r : ℕ) (s : RowState) → released r s .remaining ≡ owed r (s .remaining)
+unfolding released owed
+released-remaining zero s = refl
+released-remaining (suc r) s = simp (ne-eqb (suc r) 0 (λ e. omega arith))
+
+pub released-since : (r : ℕ) (s : RowState) → released r s .since ≡ age r (s .since)
+unfolding released age
+released-since zero s = refl
+released-since (suc r) s = simp (ne-eqb (suc r) 0 (λ e. omega arith))
+
+-- a row that runs has a job
+runs-with-job : (f : ℕ) (row : Row) (s : RowState) → bit (fits f row s) ≤ s .remaining
+unfolding fits
+runs-with-job f row s = go (ltb 0 (s .remaining)) (leb (row .threads) f) refl
+  where
+    go : (a b : Bool) → ltb 0 (s .remaining) ≡ a → bit (both a b) ≤ s .remaining
+    go true true e = ltb-true 0 (s .remaining) e
+    go true false e = omega arith
+    go false b e = omega arith
+
+-- since grows by one, up to T
+older-is : (T s : ℕ) → s ≤ T → older T s ≡ min T (s + 1)
+older-is T s h = ⊎-elim (λ l. omega (arith, older-below T s l)) (λ l. omega (arith, older-full T s l)) (lt-or-le s T)
+
+-- what is left after running, and what is stored is no more
+pub worked-remaining : (b : Bool) (s : RowState) → worked b s .remaining ≡ s .remaining - bit b
+unfolding worked
+worked-remaining true s = refl
+worked-remaining false s = omega arith
+
+ended-less : (row : Row) (s : RowState) → ended row s .remaining ≤ s .remaining
+unfolding ended
+ended-less row s = go (missed row s)
+  where
+    go : (b : Bool) → pick b 0 (s .remaining) ≤ s .remaining
+    go true = omega arith
+    go false = omega arith
+
+-- what a row that runs takes, as a product
+taken-as : (b : Bool) (n : ℕ) → pick b n 0 ≡ bit b * n
+taken-as true n = omega arith
+taken-as false n = omega arith
+
+-- where a row's bit is none it does not run
+not-running : (b : Bool) → bit b ≡ 0 → b ≡ false
+not-running true e = absurd (omega arith)
+not-running false e = refl
+
+-- ---- the slot of a sheet
+module _ (h : Sheet) (t : State) (rel : List ℕ) (state : LegalState h t) (fine : checkReleases h t rel ≡ accepted) where
+  -- row k runs, as a number
+  pub ran : ℕ → ℕ
+  ran k = bit (runs (given h t rel) k)
+
+  pub next-record : (k : ℕ) → k < h .count → recordAt (nextState h t rel) k ≡ next (given h t rel) k
+  unfolding nextState
+  next-record k l = upto-below (h .count) (next (given h t rel)) (t .rows) noRecord k l (legal-state-long h t state)
+
+  abbrev begin : ℕ → RowState
+  begin k = begun (given h t rel) k
+
+  pub begin-remaining : (k : ℕ) → begin k .remaining ≡ owed (getD rel k 0) (recordAt t k .remaining)
+  unfolding given
+  begin-remaining k = released-remaining (getD rel k 0) (recordAt t k)
+
+  begin-since : (k : ℕ) → begin k .since ≡ age (getD rel k 0) (recordAt t k .since)
+  unfolding given
+  begin-since k = released-since (getD rel k 0) (recordAt t k)
+
+  pub released-so : (k : ℕ) → k < h .count → 1 ≤ getD rel k 0 → (recordAt t k .since ≡ rowAt h k .separation) × (getD rel k 0 ≤ rowAt h k .budget)
+  unfolding checkReleases
+  released-so k l r =
+      let (a, b) = release-allowed (rowAt h k) (recordAt t k) (getD rel k 0) k r (first-at (h .count) (checkAt h t rel) fine k l) in
+      (omega (arith, state .rows k l), a)
+
+  -- after steps 3 and 4
+  pub reached-remaining : (k : ℕ) → reached (given h t rel) k .remaining ≡ owed (getD rel k 0) (recordAt t k .remaining) - ran k
+  unfolding aged ran
+  reached-remaining k = worked-remaining (runs (given h t rel) k) (begin k) ∙ ap (λ (x : ℕ). x - ran k) (begin-remaining k)
+
+  not-older : (k : ℕ) → k < h .count → age (getD rel k 0) (recordAt t k .since) ≤ rowAt h k .separation
+  unfolding age
+  not-older k l = go (getD rel k 0)
+    where
+      go : (r : ℕ) → age r (recordAt t k .since) ≤ rowAt h k .separation
+      go zero = state .rows k l .most-since
+      go (suc r) = omega arith
+
+  pub reached-since : (k : ℕ) → k < h .count → reached (given h t rel) k .since ≡ min (rowAt h k .separation) (age (getD rel k 0) (recordAt t k .since) + 1)
+  unfolding aged worked given
+  reached-since k l = ap (older (rowAt h k .separation)) (begin-since k) ∙ older-is _ _ (not-older k l)
+
+  pub next-since : (k : ℕ) → k < h .count → recordAt (nextState h t rel) k .since ≡ reached (given h t rel) k .since
+  unfolding ended
+  next-since k l = ap (λ (s : RowState). s .since) (next-record k l)
+
+  next-remaining : (k : ℕ) → k < h .count → recordAt (nextState h t rel) k .remaining ≤ reached (given h t rel) k .remaining
+  unfolding given
+  next-remaining k l = subst (λ (s : RowState). s .remaining ≤ reached (given h t rel) k .remaining) (sym (next-record k l)) (ended-less (rowAt h k) (reached (given h t rel) k))
+
+  pub slot-is : Slot (rowsOf h) (momentOf t) (λ k. getD rel k 0) ran (momentOf (nextState h t rel))
+  unfolding ran given
+  slot-is = record {
+    releases = released-so;
+    once = λ i l. at-most-one (runs (given h t rel) i);
+    runs = λ i l. omega (arith, runs-with-job (free (given h t rel) i) (rowAt h i) (begin i), begin-remaining i);
+    waits = λ k l j e.
+        omega (
+          arith,
+          waits-unfit (given h t rel) k (lt-ltb 0 (begin k .remaining) (omega (arith, begin-remaining k))) (not-running (runs (given h t rel) k) e),
+          processors-are-kept (given h t rel) k,
+          sum-same k (takenBy (given h t rel)) (λ i. ran i * rowAt h i .threads) (λ i g. taken-as (runs (given h t rel) i) (rowAt h i .threads)),
+        );
+    ages = λ i l. next-since i l ∙ reached-since i l;
+    left = λ i l. omega (arith, next-remaining i l, reached-remaining i);
+  }

@@ -1,0 +1,5 @@
+pub mod Calls
+pub mod Demand
+pub mod Green
+pub mod Model
+pub mod Wrong
