@@ -53,7 +53,7 @@ module _ (h : Sheet) (rows : List Row) (same : (i : ℕ) → i < h .count → ro
   fresh-alike : fresh h ≡ fresh (withRows h rows)
   unfolding fresh freshState
   fresh-alike =
-      ap₂ (λ (b : Bool) (l : List RowState). handed (needed b 10) (stateOf l) noState) legal-alike
+      ap₂ (λ (b : Bool) (l : List RowState). (needed b 10, pick b (stateOf l) noState)) legal-alike
       (upto-agree (h .count) (freshAt h) (freshAt (withRows h rows)) (replicate mostRows noRecord) (λ i l. ap (λ (row : Row). record { remaining = 0; since = row .separation }) (same i l)))
 
   state-alike : (t : State) → legalState h t ≡ legalState (withRows h rows) t

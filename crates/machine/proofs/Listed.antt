@@ -14,11 +14,10 @@ use Rattle.sheet.specs.declared.row.Row.{Row}
 use Rattle.sheet.specs.declared.row.Sheet.{Sheet}
 use Rattle.machine.specs.declared.state.RowState.{RowState}
 use Rattle.machine.specs.declared.state.State.{State}
-use Rattle.machine.specs.States.{recordAt, hasJob, noState, freshState, legalState}
+use Rattle.machine.specs.States.{recordAt, hasJob, legalState}
 use Rattle.machine.specs.Checks.{needed, checkRow, checkAt, checkReleases, checkState, checkRoom, checkSlot, checkRun, checkMargin}
 use Rattle.machine.specs.Answers.{fresh, slot, entriesOf, slotAt, Course, followed, onward, course, notBegun, runBy, run, no-job, margin-is, refused-by, marginOf, marginAt, marginBy, margin}
 use Rattle.machine.proofs.Agree.{slot-outcome}
-use Rattle.machine.proofs.Answered.{handed-outcome}
 
 -- the table's lines for calls of the machine, with n rows: number and place
 pub data InTable (n : ℕ) : ℕ → ℕ → Type 0 where
@@ -81,7 +80,7 @@ check-listed h t rel room =
 -- each call's refusals
 pub fresh-refusals : (h : Sheet) → Listed (h .count) (fresh h .0)
 unfolding fresh
-fresh-refusals h = rw (handed-outcome (needed (legal h) 10) (freshState h) noState) (needed-listed (legal h) 10 sheet-not-legal)
+fresh-refusals h = needed-listed (legal h) 10 sheet-not-legal
 
 pub slot-refusals : (h : Sheet) (t : State) (rel cs : List ℕ) → Listed (h .count) (slot h t rel cs .0)
 slot-refusals h t rel cs = rw slot-outcome (check-listed h t rel (length cs))

@@ -20,18 +20,13 @@ use Rattle.machine.specs.States.{noState, freshState, stateOf, recordAt,
 use Rattle.machine.specs.Slot.{Given, next, code}
 use Rattle.machine.specs.Checks.{needed, checkSlot, checkRun, checkMargin}
 
--- What is handed over: the one where the call is accepted, the other beside a refusal.
-abbrev pub handed : {A : Type 0} → Outcome → A → A → Outcome × A
-handed accepted done refused-with = (accepted, done)
-handed (refused number place) done refused-with = (refused number place, refused-with)
-
 -- The answer of `fresh`: the outcome, and the state beside it.
 abbrev pub started : Started → Outcome × State
 started r = (outcome (r .refusal), r .state)
 
 -- Fresh checks 10; beside a refusal all records are zero.
 unfoldable pub fresh : Sheet → Outcome × State
-fresh h = handed (needed (legal h) 10) (freshState h) noState
+fresh h = (needed (legal h) 10, pick (legal h) (freshState h) noState)
 
 -- What a slot is given by a sheet, a state and a release list.
 unfoldable pub given : Sheet → State → List ℕ → Given
@@ -45,6 +40,11 @@ nextState h t releases = stateOf (upto (h .count) (next (given h t releases)) (t
 -- The code buffer after an accepted slot: the code of each row, and the bytes past them as they were.
 unfoldable pub nextCodes : Sheet → State → List ℕ → List ℕ → List ℕ
 nextCodes h t releases codes = upto (h .count) (code (given h t releases)) codes
+
+-- What is handed over: the one where the call is accepted, the other beside a refusal.
+abbrev pub handed : {A : Type 0} → Outcome → A → A → Outcome × A
+handed accepted done refused-with = (accepted, done)
+handed (refused number place) done refused-with = (refused number place, refused-with)
 
 -- The answer of `slot`: the outcome, the state, and the code buffer after it.
 abbrev pub slotted : Slotted → List ℕ → Outcome × (State × List ℕ)
