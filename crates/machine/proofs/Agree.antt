@@ -1,34 +1,19 @@
 -- Two sheets: rows 0 to k decide for rows 0 to k, and rows past n decide nothing.
 -- Assumes nothing.
-use Prim.Native.Nat.{ℕ, zero, suc, _+_, _*_, _/_, _%_, _≤_, _<_}
-use mathlib.Core.Path.{_≡_, refl, sym, ap, ap₂, _∙_}
-use mathlib.Core.Bool.{Bool, true, false}
+use Prim.Native.Nat.{ℕ, _≤_, _<_}
+use mathlib.Core.Path.{_≡_, sym, ap, ap₂, _∙_}
 use mathlib.Core.List.{List}
-use mathlib.Core.Logic.{⊎-elim}
-use lib.ListN.{length, getD, drop, replicate}
-use lib.Dec.{ltb, eqb}
+use lib.ListN.{length, getD}
 use native.Mathlib.Omega.{arith}
-use borrow.Author.Tests.{lt-ltb, le-ltb}
-use Rattle.basis.specs.Limits.{mostRows, mostProcessors}
-use Rattle.basis.specs.Words.{pick, both, within, allOf}
-use Rattle.basis.specs.Refusals.{Outcome, accepted, refused, firstOf, orElse, isAccepted}
-use Rattle.basis.specs.Upto.{upto}
-use Rattle.basis.proofs.Words.{all-same, lt-or-le}
-use Rattle.basis.proofs.First.{first-same}
+use Rattle.basis.specs.Refusals.{Outcome, accepted}
 use Rattle.basis.proofs.Upto.{upto-below}
-use Rattle.sheet.specs.Legal.{rowAt, legalRow, legal}
-use Rattle.sheet.specs.Legal as sheets
-use Rattle.sheet.specs.declared.row.Row.{Row}
 use Rattle.sheet.specs.declared.row.Sheet.{Sheet}
-use Rattle.sheet.proofs.Legality.{legal-is}
-use Rattle.machine.specs.declared.state.RowState.{RowState}
 use Rattle.machine.specs.declared.state.State.{State}
-use Rattle.machine.specs.States.{noRecord, recordAt, stateOf, freshAt, freshState, legalAt, legalRecord, isZero, legalState}
-use Rattle.machine.specs.Slot.{released, freeAt, fits, worked, aged, ended, codeOf, Given, begun, free, runs, reached, next, code}
-use Rattle.machine.specs.Checks.{needed, checkRow, checkAt, checkReleases, checkState, checkRoom, checkSlot, checkRun, checkMargin}
-use Rattle.machine.specs.Answers.{fresh, given, nextState, nextCodes, handed, slot, slotAt, onward, course, run, marginAt, margin}
-use Rattle.machine.proofs.Answered.{slot-shows}
-use Rattle.machine.proofs.General.{upto-agree}
+use Rattle.machine.specs.States.{noRecord, recordAt}
+use Rattle.machine.specs.Slot.{released, freeAt, ended, Given, begun, free, runs, reached, next, code}
+use Rattle.machine.specs.Checks.{checkSlot}
+use Rattle.machine.specs.Answers.{given, nextState, nextCodes, slot}
+use Rattle.machine.proofs.Answered.{handed-outcome, slot-shows}
 use Rattle.machine.proofs.Legals.{legal-state-is, legal-state-long}
 use Rattle.machine.proofs.Placement.{free-agrees}
 
@@ -65,11 +50,7 @@ module _ (k : ℕ) (g g′ : Given) (a : AgreeTo k g g′) (i : ℕ) (l : i ≤ 
 -- an accepted slot, and what it gives
 pub slot-outcome : (h : Sheet) (t : State) (rel cs : List ℕ) → slot h t rel cs .0 ≡ checkSlot h t rel (length cs)
 unfolding slot
-slot-outcome h t rel cs = go (checkSlot h t rel (length cs))
-  where
-    go : (o : Outcome) → handed {A = State × List ℕ} o (nextState h t rel, nextCodes h t rel cs) (t, cs) .0 ≡ o
-    go accepted = refl
-    go (refused a b) = refl
+slot-outcome h t rel cs = handed-outcome (checkSlot h t rel (length cs)) (nextState h t rel, nextCodes h t rel cs) (t, cs)
 
 module _ (h : Sheet) (t : State) (rel cs : List ℕ) (f : slot h t rel cs .0 ≡ accepted) where
   pub slot-passed : checkSlot h t rel (length cs) ≡ accepted

@@ -1,8 +1,8 @@
 -- Sheets that are equal in m, n and rows 0 to n - 1 get equal answers of every function: rows past n are not looked at.
 -- Assumes nothing.
-use Prim.Native.Nat.{ℕ, zero, suc, _+_, _*_, _/_, _%_, _≤_, _<_}
-use mathlib.Core.Path.{_≡_, refl, sym, ap, ap₂, _∙_}
-use mathlib.Core.Bool.{Bool, true, false}
+use Prim.Native.Nat.{ℕ, zero, suc, _*_, _/_, _%_, _<_}
+use mathlib.Core.Path.{_≡_, refl, ap, ap₂, _∙_}
+use mathlib.Core.Bool.{Bool}
 use mathlib.Core.List.{List}
 use mathlib.Core.Logic.{⊎-elim}
 use lib.ListN.{length, getD, take, drop, replicate}
@@ -11,9 +11,8 @@ use native.Mathlib.Omega.{arith}
 use native.Mathlib.Nat.{le-refl}
 use borrow.Author.Tests.{lt-ltb, le-ltb}
 use Rattle.basis.specs.Limits.{mostRows, mostProcessors}
-use Rattle.basis.specs.Words.{pick, both, within, allOf}
+use Rattle.basis.specs.Words.{pick, both, within}
 use Rattle.basis.specs.Refusals.{Outcome, accepted, refused, isAccepted, orElse}
-use Rattle.basis.specs.Upto.{upto}
 use Rattle.basis.proofs.Words.{all-same, lt-or-le}
 use Rattle.basis.proofs.First.{first-same}
 use Rattle.sheet.specs.Legal.{noRow, rowAt, legalRow, legal}
@@ -22,8 +21,8 @@ use Rattle.sheet.specs.declared.row.Row.{Row}
 use Rattle.sheet.specs.declared.row.Sheet.{Sheet}
 use Rattle.machine.specs.declared.state.RowState.{RowState}
 use Rattle.machine.specs.declared.state.State.{State}
-use Rattle.machine.specs.States.{noRecord, noState, recordAt, stateOf, freshAt, freshState, legalAt, legalRecord, isZero, legalState}
-use Rattle.machine.specs.Slot.{Given, next, code}
+use Rattle.machine.specs.States.{noRecord, noState, recordAt, stateOf, freshAt, freshState, legalAt, legalRecord, legalState}
+use Rattle.machine.specs.Slot.{next, code}
 use Rattle.machine.specs.Checks.{needed, checkRow, checkAt, checkReleases, checkState, checkRoom, checkSlot, checkRun, checkMargin}
 use Rattle.machine.specs.Answers.{fresh, given, nextState, nextCodes, handed, slot, entriesOf, behind, slotAt, Course, followed, onward, course, notBegun, run, runBy, Told, marginAt, marginBy, margin}
 use Rattle.machine.proofs.Agree.{AgreeTo, next-agrees, code-agrees}

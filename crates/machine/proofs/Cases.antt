@@ -8,23 +8,12 @@ use Rattle.basis.specs.Words.{allOf}
 use Rattle.basis.specs.Refusals.{accepted, firstOf}
 use Rattle.basis.specs.Upto.{upto}
 use Rattle.sheet.specs.Legal.{legalRow, legalAt, legal}
-use Rattle.sheet.specs.declared.row.Row.{Row}
 use Rattle.sheet.specs.declared.row.Sheet.{Sheet}
+use Rattle.bound.specs.Tables.{sheetB, sheetC}
 use Rattle.machine.specs.States as states
 use Rattle.machine.specs.Slot.{released, fits, freeBelow, freeAt, worked, older, aged, missed, ended, codeOf}
 use Rattle.machine.specs.Checks.{checkRow, checkReleases, checkState, checkRoom, checkSlot, checkRun}
 use Rattle.machine.specs.Answers.{fresh, given, nextState, nextCodes, slot, slotAt, onward, course, run}
-
--- A row by its threads, separation, deadline and budget.
-abbrev rowOf : ℕ → ℕ → ℕ → ℕ → Row
-rowOf t s d b = record { threads = t; separation = s; deadline = d; budget = b }
-
--- sheets B and C
-abbrev pub sheetB : Sheet
-sheetB = record { processors = 4; count = 3; rows = rowOf 3 4 4 2 ∷ rowOf 2 8 8 2 ∷ rowOf 1 8 8 3 ∷ [] }
-
-abbrev pub sheetC : Sheet
-sheetC = record { processors = 2; count = 2; rows = rowOf 2 2 2 1 ∷ rowOf 1 4 4 3 ∷ [] }
 
 -- a run from fresh that does each slot, refuses none and gives these codes
 abbrev pub Gives : Sheet → List ℕ → ℕ → List ℕ → Type 0

@@ -2,9 +2,9 @@
 -- Assumes nothing.
 use Prim.Native.Nat.{ℕ, zero, suc, _+_, _*_, _-_, _≤_, _<_}
 use mathlib.Core.Path.{_≡_, refl, sym, ap, ap₂, _∙_}
-use mathlib.Core.Bool.{Bool, true, false}
-use mathlib.Core.List.{List, [], _++_, append-nil}
-use lib.ListN.{length, take, drop, length-take, length-drop, length-append, take-append-drop, drop-of-length-le}
+use mathlib.Core.Bool.{true}
+use mathlib.Core.List.{List, _++_, append-nil}
+use lib.ListN.{length, take, drop, length-drop, take-append-drop, drop-of-length-le}
 use lib.Seq.{length-take-le, take-all}
 use native.Mathlib.Omega.{arith}
 use native.Mathlib.Nat.{mul-le-mul-right, add-zero, add-suc}
@@ -15,7 +15,6 @@ use Rattle.basis.specs.Limits.{mostRows}
 use Rattle.basis.specs.Refusals.{Outcome, accepted, refused, outcome}
 use Rattle.basis.specs.declared.refusal.Refusal.{Refusal}
 use Rattle.basis.specs.declared.refusal.Refusal.the-variants.{Accepted, Refused}
-use Rattle.basis.proofs.Upto.{length-upto}
 use Rattle.sheet.specs.Legal.{legal}
 use Rattle.sheet.specs.declared.row.Sheet.{Sheet}
 use Rattle.sheet.proofs.Legality.{legal-is}
@@ -26,7 +25,7 @@ use Rattle.machine.specs.Checks.{checkReleases, checkState, checkRoom, c
 use Rattle.machine.proofs.Answered.{slot-shows}
 use Rattle.machine.proofs.Kept.{next-legal}
 use Rattle.machine.proofs.Legals.{legal-state-is, legal-state-says}
-use Rattle.machine.specs.Answers.{nextState, nextCodes, handed, slot, slotted, entriesOf, behind, slotAt, Course, followed, onward, course, notBegun}
+use Rattle.machine.specs.Answers.{nextState, nextCodes, handed, slot, slotted, entriesOf, behind, slotAt, Course, followed, onward, course}
 
 -- slot j of a list
 module _ (h : Sheet) (t : State) (rel cs : List ℕ) (j : ℕ) (fine : legal h ≡ true) (kept : legalState h t ≡ true)
@@ -142,5 +141,5 @@ module _ (h : Sheet) (t : State) (rel cs : List ℕ) (j : ℕ) (r : Slotted) (ds
 
 -- the last slot is done
 pub ends : (h : Sheet) (rel : List ℕ) (first : Course) (j slots : ℕ) (t : State) (cs : List ℕ) → j ≤ slots → slots ≤ j
-    → course h rel first j ≡ record { done = j; outcome = accepted; state = t; codes = cs } → _≡_ {A = Course} (record { done = j; outcome = accepted; state = t; codes = cs }) (course h rel first slots)
-ends h rel first j slots t cs l m e = let s : j ≡ slots = omega arith in sym e ∙ ap (course h rel first) s
+    → course h rel first j ≡ record { done = j; outcome = accepted; state = t; codes = cs } → _≡_ {A = Course} (record { done = slots; outcome = accepted; state = t; codes = cs }) (course h rel first slots)
+ends h rel first j slots t cs l m e = let s : j ≡ slots = omega arith in ap (λ (n : ℕ). record { done = n; outcome = accepted; state = t; codes = cs }) (sym s) ∙ sym e ∙ ap (course h rel first) s

@@ -1,16 +1,12 @@
 -- Laws of lists that a loop fills, and of outcomes, that hold of any crate's.
 -- Assumes nothing.
-use Prim.Native.Nat.{ℕ, zero, suc, _+_, _≤_, _<_}
-use mathlib.Core.Path.{_≡_, refl, sym, ap, _∙_}
-use mathlib.Core.Bool.{Bool, true, false}
+use Prim.Native.Nat.{ℕ, zero, suc, _≤_, _<_}
+use mathlib.Core.Path.{_≡_, refl, sym, _∙_}
 use mathlib.Core.List.{List}
 use mathlib.Core.Logic.{⊎-elim}
-use lib.ListN.{length, getD, set}
+use lib.ListN.{length}
 use lib.Seq.{ext-getD}
 use native.Mathlib.Omega.{arith}
-use native.Mathlib.Nat.{le-refl}
-use Rattle.basis.specs.Words.{pick}
-use Rattle.basis.specs.Refusals.{Outcome, accepted, refused, orElse}
 use Rattle.basis.specs.Upto.{upto}
 use Rattle.basis.proofs.Words.{lt-or-le}
 use Rattle.basis.proofs.Upto.{length-upto, upto-past, upto-below}

@@ -1,29 +1,27 @@
 -- A job in one slot: what becomes of it where the slot is accepted.
 -- Assumes nothing.
-use Prim.Native.Nat.{ℕ, zero, suc, _+_, _-_, _≤_, _<_}
-use mathlib.Core.Path.{_≡_, refl, sym, ap, ap₂, _∙_}
-use mathlib.Core.Bool.{Bool, true, false}
+use Prim.Native.Nat.{ℕ, zero, suc, _+_, _≤_, _<_}
+use mathlib.Core.Path.{_≡_, sym, ap, _∙_}
+use mathlib.Core.Bool.{Bool}
 use mathlib.Core.List.{List}
 use lib.ListN.{length, getD}
-use lib.Dec.{ltb, eqb}
 use native.Mathlib.Omega.{arith}
-use borrow.Author.Tests.{lt-ltb, le-ltb, eq-eqb, ne-eqb}
-use Rattle.basis.specs.Words.{pick}
-use Rattle.basis.specs.Refusals.{Outcome, accepted}
+use borrow.Author.Tests.{lt-ltb, eq-eqb}
+use Rattle.basis.specs.Refusals.{accepted}
 use Rattle.basis.proofs.First.{first-at}
-use Rattle.sheet.specs.Legal.{rowAt, legal, LegalRow}
+use Rattle.sheet.specs.Legal.{rowAt}
 use Rattle.sheet.specs.declared.row.Row.{Row}
 use Rattle.sheet.specs.declared.row.Sheet.{Sheet}
 use Rattle.sheet.proofs.Legality.{legal-is}
 use Rattle.machine.specs.declared.state.RowState.{RowState}
 use Rattle.machine.specs.declared.state.State.{State}
-use Rattle.machine.specs.States.{recordAt, hasJob}
-use Rattle.machine.specs.Slot.{released, worked, older, aged, missed, ended, codeOf, Given, begun, runs, next, code}
+use Rattle.machine.specs.States.{recordAt}
+use Rattle.machine.specs.Slot.{released, worked, aged, missed, ended, codeOf, begun, runs}
 use Rattle.machine.specs.Checks.{checkRow, checkAt, checkReleases}
 use Rattle.machine.specs.Answers.{given, slot}
 use Rattle.machine.proofs.Agree.{slot-passed, record-after, code-after}
 use Rattle.machine.proofs.Answered.{slot-shows}
-use Rattle.machine.proofs.Legals.{LegalRecord, legal-state-is}
+use Rattle.machine.proofs.Legals.{legal-state-is}
 use Rattle.machine.proofs.Records.{released-none, release-allowed, older-below, ended-else, ended-since}
 
 -- one slot of a row, by whether it ran: its code, and its record

@@ -1,30 +1,28 @@
 -- Legal states are kept: fresh is legal, and from a legal state an accepted slot gives a legal state.
 -- Assumes nothing.
-use Prim.Native.Nat.{ℕ, zero, suc, _+_, _-_, _≤_, _<_}
-use mathlib.Core.Path.{_≡_, refl, sym, ap, subst, _∙_}
-use mathlib.Core.Bool.{Bool, true, false}
+use Prim.Native.Nat.{ℕ, zero, suc, _≤_, _<_}
+use mathlib.Core.Path.{_≡_, refl, _∙_}
+use mathlib.Core.Bool.{Bool}
 use mathlib.Core.List.{List}
-use mathlib.Core.Logic.{_⊎_, inl, inr, ⊎-elim}
-use lib.ListN.{length, getD, replicate, length-replicate, getD-replicate}
+use mathlib.Core.Logic.{⊎-elim}
+use lib.ListN.{getD, replicate, length-replicate, getD-replicate}
 use native.Mathlib.Omega.{arith}
 use native.Mathlib.Nat.{le-refl}
 use Rattle.basis.specs.Limits.{mostRows}
-use Rattle.basis.specs.Refusals.{Outcome, accepted}
-use Rattle.basis.specs.Upto.{upto}
+use Rattle.basis.specs.Refusals.{accepted}
 use Rattle.basis.proofs.Words.{lt-or-le}
 use Rattle.basis.proofs.First.{first-at}
 use Rattle.basis.proofs.Upto.{upto-below, upto-past}
-use Rattle.sheet.specs.Legal.{rowAt, legal, Legal, LegalRow}
+use Rattle.sheet.specs.Legal.{rowAt, Legal, LegalRow}
 use Rattle.sheet.specs.declared.row.Row.{Row}
 use Rattle.sheet.specs.declared.row.Sheet.{Sheet}
-use Rattle.sheet.proofs.Legality.{legal-is}
 use Rattle.machine.specs.declared.state.RowState.{RowState}
 use Rattle.machine.specs.declared.state.State.{State}
-use Rattle.machine.specs.States.{noRecord, recordAt, freshAt, freshState, isZero, legalState}
-use Rattle.machine.specs.Slot.{released, worked, older, aged, ended, begun, runs, next}
+use Rattle.machine.specs.States.{noRecord, recordAt, freshAt, freshState, isZero}
+use Rattle.machine.specs.Slot.{released, worked, aged, ended, begun, runs, next}
 use Rattle.machine.specs.Checks.{checkRow, checkAt, checkReleases}
 use Rattle.machine.specs.Answers.{given, nextState}
-use Rattle.machine.proofs.Legals.{LegalRecord, LegalState, legal-state-says, legal-state-long}
+use Rattle.machine.proofs.Legals.{LegalRecord, LegalState, legal-state-long}
 use Rattle.machine.proofs.Records.{released-none, released-some, release-allowed, worked-most, worked-since, older-below, older-some, older-most, ended-at, ended-else, ended-since, same-or-not}
 
 -- a record after step 1

@@ -1,15 +1,15 @@
 -- Legal records and states as facts, and back.
 -- Assumes nothing.
-use Prim.Native.Nat.{ℕ, zero, suc, _+_, _≤_, _<_}
-use mathlib.Core.Path.{_≡_, refl, sym, ap, _∙_}
+use Prim.Native.Nat.{ℕ, _≤_, _<_}
+use mathlib.Core.Path.{_≡_, refl, sym, ap}
 use mathlib.Core.Bool.{Bool, true, false}
-use lib.ListN.{length, getD, List·getD-eq-default}
-use lib.Dec.{ltb, leb, eqb}
+use lib.ListN.{length, List·getD-eq-default}
+use lib.Dec.{ltb, leb}
 use mathlib.Core.Logic.{⊎-elim}
 use native.Mathlib.Omega.{arith}
-use borrow.Author.Tests.{lt-ltb, le-ltb, le-leb, leb-true, ltb-true, ltb-false, eqb-true}
+use borrow.Author.Tests.{lt-ltb, le-ltb, le-leb, leb-true, ltb-true}
 use Rattle.basis.specs.Limits.{mostRows}
-use Rattle.basis.specs.Words.{pick, both, within, allOf}
+use Rattle.basis.specs.Words.{pick, within}
 use Rattle.basis.proofs.Words.{both-left, both-right, both-true, at-least, at-most, within-true, all-at, all-true, lt-or-le, true-not-false}
 use Rattle.sheet.specs.Legal.{rowAt}
 use Rattle.sheet.specs.declared.row.Row.{Row}

@@ -1,7 +1,7 @@
 -- Every refusal is the table's: its number, and its place.
 -- Assumes nothing.
 use Prim.Native.Nat.{ℕ, zero, suc, _*_, _/_, _%_, _<_}
-use mathlib.Core.Path.{_≡_, refl, sym, ap, _∙_}
+use mathlib.Core.Path.{_≡_, refl, sym}
 use mathlib.Core.Bool.{Bool, true, false}
 use mathlib.Core.List.{List}
 use lib.ListN.{length, getD, drop}
@@ -16,7 +16,7 @@ use Rattle.machine.specs.declared.state.RowState.{RowState}
 use Rattle.machine.specs.declared.state.State.{State}
 use Rattle.machine.specs.States.{recordAt, hasJob, legalState}
 use Rattle.machine.specs.Checks.{needed, checkRow, checkAt, checkReleases, checkState, checkRoom, checkSlot, checkRun, checkMargin}
-use Rattle.machine.specs.Answers.{fresh, slot, entriesOf, slotAt, Course, followed, onward, course, notBegun, runBy, run, Told, no-job, margin-is, refused-by, marginOf, marginAt, marginBy, margin}
+use Rattle.machine.specs.Answers.{fresh, slot, entriesOf, slotAt, Course, followed, onward, course, notBegun, runBy, run, no-job, margin-is, refused-by, marginOf, marginAt, marginBy, margin}
 use Rattle.machine.proofs.Agree.{slot-outcome}
 
 -- the table's lines for calls of the machine, with n rows: number and place

@@ -1,20 +1,22 @@
 -- What each step of a slot does to a row's record, as facts.
 -- Assumes nothing.
-use Prim.Native.Nat.{ℕ, zero, suc, _+_, _-_, _≤_, _<_}
+use Prim.Native.Nat.{ℕ, _+_, _-_, _≤_, _<_}
 use mathlib.Core.Path.{_≡_, refl, sym, ap, _∙_}
 use mathlib.Core.Bool.{Bool, true, false}
-use lib.Dec.{ltb, leb, eqb}
+use lib.Dec.{ltb, eqb}
 use mathlib.Core.Logic.{_⊎_, inl, inr, ⊎-elim}
 use native.Mathlib.Omega.{arith}
-use borrow.Author.Tests.{lt-ltb, le-ltb, eq-eqb, ne-eqb, ltb-true, ltb-false, eqb-true, eqb-false}
+use borrow.Author.Tests.{lt-ltb, le-ltb, eq-eqb, ne-eqb, ltb-false, eqb-true, eqb-false}
 use Rattle.basis.specs.Words.{pick, both}
-use Rattle.basis.specs.Refusals.{Outcome, accepted, refused}
-use Rattle.basis.proofs.Words.{lt-or-le, true-not-false}
+use Rattle.basis.specs.Refusals.{accepted, refused}
+use Rattle.basis.proofs.Words.{lt-or-le}
 use Rattle.sheet.specs.declared.row.Row.{Row}
 use Rattle.machine.specs.declared.state.RowState.{RowState}
+use Rattle.machine.specs.declared.steps.Aged.{Aged}
 use Rattle.machine.specs.States.{hasJob}
-use Rattle.machine.specs.Slot.{released, fits, worked, older, aged, missed, ended}
+use Rattle.machine.specs.Slot.{released, worked, older, aged, missed, ended}
 use Rattle.machine.specs.Checks.{checkRow}
+use Rattle.machine.specs.Methods.{judged, agedRow}
 
 pub same-or-not : (a b : ℕ) → (a ≡ b) ⊎ (a ≡ b → ⊥)
 same-or-not a b = go (eqb a b) refl
@@ -104,3 +106,19 @@ worked-one ran s e = rw e
 pub worked-none : (ran : Bool) (s : RowState) → ran ≡ false → worked ran s .remaining ≡ s .remaining
 unfolding worked
 worked-none ran s e = rw e
+
+-- `age_row`: at the deadline, and elsewhere
+module _ (row : Row) (s : RowState) (code since c : ℕ) (es : since ≡ older (row .separation) (s .since)) (ec : c ≡ judged (s .remaining) since (row .deadline) code) where
+  pub age-at : since ≡ row .deadline → _≡_ {A = Aged} (record { after = record { remaining = 0; since = since }; code = c }) (agedRow row s code)
+  unfolding agedRow aged ended
+  age-at e =
+      let none : 0 ≡ ended row (aged row s) .remaining = sym (ended-at row (aged row s) (sym es ∙ e)) in
+      let told = ec ∙ ap (λ (x : ℕ). judged (s .remaining) x (row .deadline) code) es in
+      λ i. record { after = record { remaining = none i; since = es i }; code = told i }
+
+  pub age-else : (since ≡ row .deadline → ⊥) → _≡_ {A = Aged} (record { after = record { remaining = s .remaining; since = since }; code = c }) (agedRow row s code)
+  unfolding agedRow aged ended
+  age-else d =
+      let all : s .remaining ≡ ended row (aged row s) .remaining = sym (ended-else row (aged row s) (λ e. d (es ∙ e))) in
+      let told = ec ∙ ap (λ (x : ℕ). judged (s .remaining) x (row .deadline) code) es in
+      λ i. record { after = record { remaining = all i; since = es i }; code = told i }

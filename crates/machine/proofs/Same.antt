@@ -3,7 +3,6 @@
 use Prim.Native.Nat.{ℕ}
 use mathlib.Core.Path.{_≡_, refl, sym, ap, ap₂, _∙_}
 use mathlib.Core.List.{List}
-use lib.IntN.{ℤ}
 use native.Mathlib.Omega.{arith}
 use Rattle.basis.specs.Refusals.{Outcome}
 use Rattle.basis.specs.declared.refusal.Refusal.{Refusal}
@@ -15,7 +14,7 @@ use Rattle.machine.specs.declared.slots.Slotted.{Slotted}
 use Rattle.machine.specs.declared.runs.Ran.{Ran}
 use Rattle.machine.specs.declared.margins.Margin.{Margin}
 use Rattle.machine.specs.declared.margins.Margin.the-variants.{NoJob, Is, Refused}
-use Rattle.machine.specs.Answers.{started, fresh, slotted, slot, Course, ran, run, Told, told, margin}
+use Rattle.machine.specs.Answers.{started, fresh, slotted, slot, Course, ran, run, told, margin}
 
 -- `fresh`
 pub started-one-to-one : (a b : Started) → started a ≡ started b → a ≡ b

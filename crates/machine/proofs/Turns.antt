@@ -1,16 +1,16 @@
 -- What each loop's turn and end shows, in the words of its invariant and of what it calls.
 -- Assumes nothing.
-use Prim.Native.Nat.{ℕ, zero, suc, _+_, _≤_, _<_}
+use Prim.Native.Nat.{ℕ, _+_, _≤_, _<_}
 use mathlib.Core.Path.{_≡_, refl, sym, ap, _∙_}
 use mathlib.Core.Bool.{Bool, true, false}
 use mathlib.Core.List.{List}
-use lib.ListN.{length, getD, set, replicate}
+use lib.ListN.{getD, set}
 use lib.Dec.{ltb}
 use native.Mathlib.Omega.{arith}
 use native.Mathlib.Numerals.{add-one}
 use Rattle.basis.specs.Limits.{mostRows}
 use Rattle.basis.specs.Words.{pick, allOf}
-use Rattle.basis.specs.Refusals.{Outcome, accepted, refused, outcome, firstOf}
+use Rattle.basis.specs.Refusals.{accepted, refused, outcome, firstOf}
 use Rattle.basis.specs.Upto.{upto}
 use Rattle.basis.specs.declared.refusal.Refusal.{Refusal}
 use Rattle.basis.specs.declared.refusal.Refusal.the-variants.{Accepted, Refused}
@@ -24,7 +24,7 @@ use Rattle.machine.specs.declared.state.State.{State}
 use Rattle.machine.specs.declared.steps.Placed.{Placed}
 use Rattle.machine.specs.declared.steps.Aged.{Aged}
 use Rattle.machine.specs.States.{noRecord, noState, stateOf, recordAt, freshAt, freshState, legalRecord, isZero, legalAt, legalState}
-use Rattle.machine.specs.Slot.{released, freeBelow, freeAt}
+use Rattle.machine.specs.Slot.{released, freeAt}
 use Rattle.machine.specs.Checks.{checkRow, checkAt, checkReleases}
 use Rattle.machine.specs.Methods.{releasedAt, releasedState, placedRow, placedAt, placedRecord, placedCode, placedState, placedCodes, agedRow, agedAt, agedRecord, agedCode, agedState, agedCodes}
 

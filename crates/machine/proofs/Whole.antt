@@ -1,16 +1,14 @@
 -- Releases, placement and ageing one after another are the slot.
 -- Assumes nothing.
 use Prim.Native.Nat.{ℕ, _≤_, _<_}
-use mathlib.Core.Path.{_≡_, refl, sym, ap, ap₂, _∙_}
+use mathlib.Core.Path.{_≡_, refl, ap, ap₂, _∙_}
 use mathlib.Core.Bool.{Bool, true, false}
 use mathlib.Core.List.{List}
 use lib.ListN.{length, getD}
-use lib.Dec.{ltb, eqb}
+use lib.Dec.{eqb}
 use native.Mathlib.Omega.{arith}
 use Rattle.basis.specs.Limits.{mostRows}
 use Rattle.basis.specs.Words.{pick, both}
-use Rattle.basis.specs.Upto.{upto}
-use Rattle.basis.proofs.Words.{true-not-false}
 use Rattle.basis.proofs.Upto.{length-upto, upto-below}
 use Rattle.sheet.specs.Legal.{rowAt}
 use Rattle.sheet.specs.declared.row.Row.{Row}
@@ -20,28 +18,25 @@ use Rattle.machine.specs.declared.state.State.{State}
 use Rattle.machine.specs.declared.steps.Placed.{Placed}
 use Rattle.machine.specs.declared.steps.Aged.{Aged}
 use Rattle.machine.specs.States.{noRecord, stateOf, recordAt, hasJob}
-use Rattle.machine.specs.Slot.{fits, freeAt, worked, aged, missed, ended, codeOf, begun, free, runs, next, code}
+use Rattle.machine.specs.Slot.{fits, worked, older, aged, missed, codeOf, begun, free, runs, next, code}
 use Rattle.machine.specs.Answers.{given, nextState, nextCodes}
-use Rattle.machine.specs.Methods.{releasedAt, releasedState, placedRow, placedAt, placedRecord, placedCode, placedState, placedCodes, agedRow, agedAt, agedRecord, agedCode, agedState, agedCodes}
+use Rattle.machine.specs.Methods.{releasedAt, releasedState, placedRow, placedAt, placedRecord, placedCode, placedState, placedCodes, judged, agedRow, agedAt, agedRecord, agedCode, agedState, agedCodes}
 use Rattle.machine.proofs.General.{upto-agree, upto-over}
 use Rattle.machine.proofs.Placement.{free-agrees}
 
--- the code that placing and then ageing give, by the tests that they make: j a job, r it ran, w something is left, m missed
-code-by-tests : (j r w m : Bool) → (j ≡ false → w ≡ false)
-    → _≡_ {A = ℕ} (pick w (pick m 4 (pick j (pick r 2 1) 0)) (pick (eqb (pick j (pick r 2 1) 0) 0) 0 3)) (pick j (pick w (pick m 4 (pick r 2 1)) 3) 0)
-code-by-tests true true w m h = refl
-code-by-tests true false w m h = refl
-code-by-tests false r true m h = true-not-false (h refl)
-code-by-tests false r false m h = refl
-
--- without a job nothing is left
-no-job-left : (free : ℕ) (row : Row) (s : RowState) → hasJob s ≡ false → hasJob (worked (fits free row s) s) ≡ false
-unfolding worked fits
-no-job-left free row s e = rw (e, e)
+-- the code that placing and then ageing give, by the tests that they make: j a job, r it ran, w something is left, d at the deadline
+code-by-tests : (j r w d : Bool)
+    → _≡_ {A = ℕ} (pick (eqb (pick j (pick r 2 1) 0) 0) 0 (pick w (pick d 4 (pick j (pick r 2 1) 0)) 3)) (pick j (pick w (pick (both w d) 4 (pick r 2 1)) 3) 0)
+code-by-tests true true true d = refl
+code-by-tests true true false d = refl
+code-by-tests true false true d = refl
+code-by-tests true false false d = refl
+code-by-tests false r w d = refl
 
 row-code : (free : ℕ) (row : Row) (s : RowState) → agedRow row (worked (fits free row s) s) (placedRow row s free .code) .code ≡ codeOf row (fits free row s) s (aged row (worked (fits free row s) s))
-unfolding agedRow placedRow codeOf aged
-row-code free row s = code-by-tests (hasJob s) (fits free row s) (hasJob (worked (fits free row s) s)) (missed row (aged row (worked (fits free row s) s))) (no-job-left free row s)
+unfolding agedRow judged placedRow codeOf missed aged
+row-code free row s =
+    code-by-tests (hasJob s) (fits free row s) (hasJob (worked (fits free row s) s)) (eqb (older (row .separation) (worked (fits free row s) s .since)) (row .deadline))
 
 -- after releases, after placement, and the codes so far
 abbrev begunState : Sheet → State → List ℕ → State

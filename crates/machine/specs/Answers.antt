@@ -1,6 +1,5 @@
 -- What each call answers, with the state and the code buffer after it.
 use Prim.Native.Nat.{ℕ, zero, suc, _+_, _*_, _/_}
-use mathlib.Core.Bool.{Bool}
 use mathlib.Core.List.{List, _++_}
 use lib.ListN.{length, getD, take, drop}
 use lib.IntN.{ℤ, pos, _-ℤ_}
@@ -42,10 +41,10 @@ nextState h t releases = stateOf (upto (h .count) (next (given h t releases)) (t
 unfoldable pub nextCodes : Sheet → State → List ℕ → List ℕ → List ℕ
 nextCodes h t releases codes = upto (h .count) (code (given h t releases)) codes
 
--- An accepted call gives what was done; a refused one gives what came.
+-- What is handed over: the one where the call is accepted, the other beside a refusal.
 abbrev pub handed : {A : Type 0} → Outcome → A → A → Outcome × A
-handed accepted did came = (accepted, did)
-handed (refused number place) did came = (refused number place, came)
+handed accepted done refused-with = (accepted, done)
+handed (refused number place) done refused-with = (refused number place, refused-with)
 
 -- The answer of `slot`: the outcome, the state, and the code buffer after it.
 abbrev pub slotted : Slotted → List ℕ → Outcome × (State × List ℕ)

@@ -1,8 +1,8 @@
 -- What the methods inside a slot answer: releases, placement and ageing, each by itself.
-use Prim.Native.Nat.{ℕ, zero, suc}
+use Prim.Native.Nat.{ℕ}
 use mathlib.Core.List.{List}
 use lib.ListN.{getD}
-use lib.Dec.{eqb}
+use lib.Dec.{ltb, eqb}
 use Rattle.basis.specs.Words.{pick}
 use Rattle.basis.specs.Upto.{upto}
 use Rattle.sheet.specs.Legal.{rowAt}
@@ -13,7 +13,7 @@ use Rattle.machine.specs.declared.state.State.{State}
 use Rattle.machine.specs.declared.steps.Placed.{Placed}
 use Rattle.machine.specs.declared.steps.Aged.{Aged}
 use Rattle.machine.specs.States.{stateOf, recordAt, hasJob}
-use Rattle.machine.specs.Slot.{released, fits, freeBelow, freeAt, worked, aged, missed, ended}
+use Rattle.machine.specs.Slot.{released, fits, freeBelow, freeAt, worked, aged, ended}
 
 -- Step 1 of row k.
 abbrev pub releasedAt : State → List ℕ → ℕ → RowState
@@ -51,12 +51,16 @@ placedState h t = stateOf (upto (h .count) (placedRecord h t) (t .rows))
 unfoldable pub placedCodes : Sheet → State → List ℕ → List ℕ
 placedCodes h t codes = upto (h .count) (placedCode h t) codes
 
+-- The code of a row after step 5, by its code so far and by what is left.
+unfoldable pub judged : ℕ → ℕ → ℕ → ℕ → ℕ
+judged left since deadline code = pick (eqb code 0) 0 (pick (ltb 0 left) (pick (eqb since deadline) 4 code) 3)
+
 -- Steps 4 and 5 of a row, with its code so far: its record, and its code.
 unfoldable pub agedRow : Row → RowState → ℕ → Aged
 agedRow row s code =
     record {
       after = ended row (aged row s);
-      code = pick (hasJob s) (pick (missed row (aged row s)) 4 code) (pick (eqb code 0) 0 3);
+      code = judged (s .remaining) (aged row s .since) (row .deadline) code;
     }
 
 -- The ageing of row k.

@@ -7,7 +7,7 @@ use Rattle.sheet.specs.declared.row.Row.{Row}
 use Rattle.machine.specs.declared.state.RowState.{RowState}
 use Rattle.machine.specs.States.{hasJob}
 
--- 1. A release of 1..C slots sets remaining to that value and since to 0; zero is no release.
+-- 1. A release of 1..C slots, where it is allowed, sets remaining to that value and since to 0; zero means no release.
 unfoldable pub released : ℕ → RowState → RowState
 released release s = pick (eqb release 0) s (record { remaining = release; since = 0 })
 

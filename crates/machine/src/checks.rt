@@ -66,8 +66,8 @@ impl State {
     pub(crate) fn check_slot(self, sheet: Sheet, releases: &[u64], room: usize) -> Refusal
         ensures { λ r. ⌜ outcome r ≡ checkSlot sheet self (now (releases .entry)) room ⌝ }
     {
-        let refusal = self.check_state(sheet);
-        if let Refusal::Refused(number, place) = refusal {
+        let first = self.check_state(sheet);
+        if let Refusal::Refused(number, place) = first {
             return Refusal::Refused(number, place);
         }
         let n = sheet.count as usize;
@@ -89,10 +89,11 @@ impl State {
             return Refusal::Refused(number, place);
         }
         let n = sheet.count as usize;
-        if releases.len() % n != 0 {
+        let entries = releases.len();
+        if entries % n != 0 {
             return Refusal::Refused(11, 0);
         }
-        if room < releases.len() {
+        if room < entries {
             return Refusal::Refused(15, 0);
         }
         Refusal::Accepted

@@ -31,8 +31,8 @@ impl State {
         let end = at + n;
         let refusal = self.check_releases(sheet, &releases[at..end]);
         match refusal {
-            Refusal::Refused(number, place) => Slotted {
-                refusal: Refusal::Refused(number, place),
+            Refusal::Refused(number, row) => Slotted {
+                refusal: Refusal::Refused(number, row),
                 state: self,
             },
             Refusal::Accepted => {
@@ -68,7 +68,7 @@ impl State {
             done += 1;
         }
         Ran {
-            done: done as u64,
+            done: slots as u64,
             refusal: Refusal::Accepted,
             state,
         }

@@ -4,7 +4,7 @@ ghost use Prim.Native.Nat.{_≤_};
 ghost use lib.ListN.{length};
 ghost use Rattle.basis.specs.Limits.{mostRows};
 ghost use Rattle.machine.specs.Slot.{released, older};
-ghost use Rattle.machine.specs.Methods.{releasedState, placedRow, placedState, placedCodes, agedRow, agedState, agedCodes};
+ghost use Rattle.machine.specs.Methods.{releasedState, placedRow, placedState, placedCodes, judged, agedRow, agedState, agedCodes};
 use crate::state::RowState;
 use crate::state::State;
 use sheet::Row;
@@ -78,36 +78,44 @@ fn older(since: u64, separation: u64) -> u64
     }
 }
 
-// The end of a row's slot: finished, missed, or neither.
+// A row's code at the end of a slot, by its code so far: finished, then missed.
+fn judge(left: u64, since: u64, deadline: u64, code: u8) -> u8
+    ensures { λ r. ⌜ r ≡ judged left since deadline code ⌝ }
+{
+    if code == 0 {
+        return 0;
+    }
+    if left <= 0 {
+        return 3;
+    }
+    if since == deadline {
+        return 4;
+    }
+    code
+}
+
+// The end of a row's slot: one slot older, and nothing is left at the deadline.
 fn age_row(row: Row, s: RowState, code: u8) -> Aged
     ensures { λ r. ⌜ r ≡ agedRow row s code ⌝ }
 {
-    let remaining = s.remaining;
-    let deadline = row.deadline;
+    let left = s.remaining;
+    let due = row.deadline;
     let since = older(s.since, row.separation);
-    if remaining <= 0 {
-        if code == 0 {
-            return Aged {
-                after: RowState { remaining, since },
-                code: 0,
-            };
-        }
-        return Aged {
-            after: RowState { remaining, since },
-            code: 3,
-        };
-    }
-    if since == deadline {
+    let code = judge(left, since, due, code);
+    if since == due {
         return Aged {
             after: RowState {
                 remaining: 0,
                 since,
             },
-            code: 4,
+            code,
         };
     }
     Aged {
-        after: RowState { remaining, since },
+        after: RowState {
+            remaining: left,
+            since,
+        },
         code,
     }
 }

@@ -7,8 +7,8 @@ use Rattle.machine.proofs.state.State.check_slot.Tie as tie
 check-state-requires : tie.Need-check-state-requires
 check-state-requires c κs = search needs
 
-enum-known-refusal : tie.Need-enum-known-refusal
-enum-known-refusal c = search needs
+enum-known-first : tie.Need-enum-known-first
+enum-known-first c = search needs
 
 returns : tie.Need-returns
 returns c = search slot-refused
@@ -33,7 +33,7 @@ check-slot-spec =
     tie.close
     (tie.spec
     check-state-requires
-    enum-known-refusal
+    enum-known-first
     returns
     enum-told
     returns-2

@@ -1,6 +1,6 @@
 -- `margin` meets its promise. Assumes nothing.
 use borrow.Author.Needs.{needs}
-use Rattle.machine.proofs.Answered.{row-in-array, row-scaled, small-deadline, small-since, small-remaining, margin-is-refused, margin-is-told}
+use Rattle.machine.proofs.Told.{row-in-array, row-scaled, small-deadline, small-since, small-remaining, margin-is-refused, margin-is-told}
 use Rattle.machine.proofs.state.State.margin.Statement.{statement}
 use Rattle.machine.proofs.state.State.margin.Tie as tie
 

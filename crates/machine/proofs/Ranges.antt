@@ -1,0 +1,74 @@
+-- The margin of a row with a job: its value, its range, and what negative and zero say in numbers.
+-- Assumes nothing.
+use Prim.Native.Nat.{ℕ, suc, _+_, _-_, _≤_, _<_}
+use mathlib.Core.Path.{_≡_, refl, sym, _∙_}
+use mathlib.Core.Bool.{Bool, true, false, cond}
+use lib.Dec.{ltb, le→leb, ltb→lt}
+use lib.IntN.{pos, negsuc, subℕ, _-ℤ_}
+use lib.Signed.{_≤ℤ_, _<ℤ_}
+use native.Mathlib.Omega.{arith}
+use borrow.Author.Tests.{lt-ltb, ltb-true, ltb-false}
+use Rattle.basis.specs.Refusals.{accepted}
+use Rattle.sheet.specs.Legal.{rowAt, LegalRow}
+use Rattle.sheet.specs.declared.row.Row.{Row}
+use Rattle.sheet.specs.declared.row.Sheet.{Sheet}
+use Rattle.machine.specs.declared.state.RowState.{RowState}
+use Rattle.machine.specs.declared.state.State.{State}
+use Rattle.machine.specs.States.{recordAt}
+use Rattle.machine.specs.Checks.{checkMargin}
+use Rattle.machine.specs.Answers.{no-job, margin-is, marginOf, marginAt, margin}
+use Rattle.machine.proofs.Differences.{less, less-twice}
+use Rattle.machine.proofs.Legals.{LegalRecord}
+
+-- where the checks pass: a row with a job has the margin D - since - remaining, and a row without one has none
+pub margin-of-a-job : (h : Sheet) (t : State) (k : ℕ) → checkMargin h t k ≡ accepted → 1 ≤ recordAt t k .remaining
+    → margin h t k ≡ margin-is ((pos (rowAt h k .deadline) -ℤ pos (recordAt t k .since)) -ℤ pos (recordAt t k .remaining))
+unfolding margin marginAt marginOf
+margin-of-a-job h t k e j = rw (e, lt-ltb 0 (recordAt t k .remaining) j)
+
+pub margin-of-no-job : (h : Sheet) (t : State) (k : ℕ) → checkMargin h t k ≡ accepted → recordAt t k .remaining ≡ 0 → margin h t k ≡ no-job
+unfolding margin marginAt
+margin-of-no-job h t k e j = rw (e, j)
+
+-- differences in order
+difference-le : (a b c d : ℕ) → a + d ≤ c + b → subℕ a b ≤ℤ subℕ c d
+difference-le a b c d h = go (ltb a b) refl (ltb c d) refl
+  where
+    go : (x : Bool) → ltb a b ≡ x → (y : Bool) → ltb c d ≡ y → cond x (negsuc (b - suc a)) (pos (a - b)) ≤ℤ cond y (negsuc (d - suc c)) (pos (c - d))
+    go true e true f = record { le = le→leb (d - suc c) (b - suc a) (omega (arith, ltb-true a b e, ltb-true c d f)) }
+    go true e false f = record { le = tt }
+    go false e true f = absurd (omega (arith, ltb-false a b e, ltb-true c d f))
+    go false e false f = record { le = le→leb (a - b) (c - d) (omega (arith, ltb-false a b e, ltb-false c d f)) }
+
+-- the range: from 1 - C to D - 2
+module _ (m : ℕ) (row : Row) (s : RowState) (w : LegalRow m row) (l : LegalRecord row s) (job : 1 ≤ s .remaining) where
+  pub margin-least : (pos 1 -ℤ pos (row .budget)) ≤ℤ marginOf row s
+  unfolding marginOf
+  margin-least =
+      rw (less-twice (row .deadline) (s .since) (s .remaining), less 1 (row .budget))
+      (difference-le 1 (row .budget) (row .deadline) (s .since + s .remaining) (omega (arith, l .in-time job, l .most-remaining)))
+
+  pub margin-most : marginOf row s ≤ℤ (pos (row .deadline) -ℤ pos 2)
+  unfolding marginOf
+  margin-most =
+      rw (less-twice (row .deadline) (s .since) (s .remaining), less (row .deadline) 2)
+      (difference-le (row .deadline) (s .since + s .remaining) (row .deadline) 2 (omega (arith, l .some-since)))
+
+-- negative, and zero, as numbers
+pub negative-late : (row : Row) (s : RowState) → marginOf row s <ℤ pos 0 → row .deadline < s .since + s .remaining
+unfolding marginOf
+negative-late row s n = go (ltb (row .deadline) (s .since + s .remaining)) refl (rw less-twice at n)
+  where
+    go : (x : Bool) → ltb (row .deadline) (s .since + s .remaining) ≡ x
+        → cond x (negsuc (s .since + s .remaining - suc (row .deadline))) (pos (row .deadline - (s .since + s .remaining))) <ℤ pos 0 → row .deadline < s .since + s .remaining
+    go true e f = ltb-true _ _ e
+    go false e f = absurd (omega (arith, ltb→lt (row .deadline - (s .since + s .remaining)) 0 (f .lt)))
+
+pub zero-just : (row : Row) (s : RowState) → marginOf row s ≡ pos 0 → s .since + s .remaining ≡ row .deadline
+unfolding marginOf
+zero-just row s e = go (ltb (row .deadline) (s .since + s .remaining)) refl (sym (less-twice (row .deadline) (s .since) (s .remaining)) ∙ e)
+  where
+    go : (x : Bool) → ltb (row .deadline) (s .since + s .remaining) ≡ x
+        → cond x (negsuc (s .since + s .remaining - suc (row .deadline))) (pos (row .deadline - (s .since + s .remaining))) ≡ pos 0 → s .since + s .remaining ≡ row .deadline
+    go true f g = let z : _≡_ {A = ℕ} 0 1 = cc in absurd (omega arith)
+    go false f g = let z : row .deadline - (s .since + s .remaining) ≡ 0 = cc in omega (arith, ltb-false (row .deadline) (s .since + s .remaining) f)
