@@ -24,16 +24,16 @@ first-found (suc m) i f a b h e g =
     (λ l. rw (first-found m i f a b l e g))
     (eq-or-lt-of-le {n = i} {m = m} (omega arith))
 
-or-else-accepted : (a b : Outcome) → orElse a b ≡ accepted → (a ≡ accepted) × (b ≡ accepted)
-or-else-accepted accepted b e = (refl, e)
-or-else-accepted (refused n p) b e = let z : _≡_ {A = ℕ} 0 1 = cc in absurd (omega arith)
+pub both-accepted : (a b : Outcome) → orElse a b ≡ accepted → (a ≡ accepted) × (b ≡ accepted)
+both-accepted accepted b e = (refl, e)
+both-accepted (refused n p) b e = let z : _≡_ {A = ℕ} 0 1 = cc in absurd (omega arith)
 
 -- where nothing is refused, none of them is
 pub first-at : (n : ℕ) (f : ℕ → Outcome) → firstOf n f ≡ accepted → (i : ℕ) → i < n → f i ≡ accepted
 unfolding firstOf
 first-at zero f e i h = absurd (omega arith)
 first-at (suc n) f e i h =
-    let (below, here) = or-else-accepted (firstOf n f) (f n) e in
+    let (below, here) = both-accepted (firstOf n f) (f n) e in
     ⊎-elim (λ q. rw q here) (λ l. first-at n f below i l) (eq-or-lt-of-le {n = i} {m = n} (omega arith))
 
 pub first-same : (n : ℕ) (f g : ℕ → Outcome) → ((i : ℕ) → i < n → f i ≡ g i) → firstOf n f ≡ firstOf n g

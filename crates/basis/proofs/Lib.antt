@@ -1,4 +1,5 @@
 pub mod First
+pub mod Lists
 pub mod Marks
 pub mod Refusals
 pub mod Steps

@@ -74,3 +74,19 @@ module _ {A : Type 0} where
         split i m =
             let q : i ≡ length (table n 0 f) + (i - n) = rw length-table (omega arith) in
             ap (λ (j : ℕ). getD (table n 0 f ++ drop n l) j d) q ∙ getD-append-add (table n 0 f) (drop n l) (i - n) d ∙ getD-drop n l (i - n) d ∙ ap (λ (j : ℕ). getD l j d) (omega arith)
+
+  -- two fillings are one where they agree below n
+  pub upto-agree : (n : ℕ) (f g : ℕ → A) (l : List A) → ((k : ℕ) → k < n → f k ≡ g k) → upto n f l ≡ upto n g l
+  unfolding upto
+  upto-agree zero f g l h = refl
+  upto-agree (suc n) f g l h = rw (upto-agree n f g l (λ k b. h k (omega arith)), h n (omega arith))
+
+  -- a filling over another hides it
+  pub upto-over : (n : ℕ) (f g : ℕ → A) (l : List A) (d : A) → n ≤ length l → upto n f (upto n g l) ≡ upto n f l
+  upto-over n f g l d r =
+      ext-getD d (upto n f (upto n g l)) (upto n f l)
+      (length-upto n f (upto n g l) ∙ length-upto n g l ∙ sym (length-upto n f l))
+      (λ i b. ⊎-elim
+      (λ m. upto-below n f (upto n g l) d i m (rw length-upto r) ∙ sym (upto-below n f l d i m r))
+      (λ m. upto-past n f (upto n g l) d i m ∙ upto-past n g l d i m ∙ sym (upto-past n f l d i m))
+      (lt-or-le i n))

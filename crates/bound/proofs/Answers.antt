@@ -21,7 +21,7 @@ use Rattle.bound.specs.declared.results.Result.{Result}
 use Rattle.bound.specs.declared.results.Result.the-variants.{Unreached, Bound, NoBound}
 use Rattle.bound.specs.declared.results.Judged.{Judged}
 use Rattle.bound.specs.declared.results.Results.{Results}
-use Rattle.bound.proofs.General.{map-one-to-one, getD-all}
+use Rattle.basis.proofs.Lists.{map-one-to-one, getD-all}
 use Rattle.bound.proofs.Judging.{Agree, passes-local, result-agrees}
 
 -- ---- one word, one result

@@ -1,5 +1,4 @@
 pub mod Fixed
-pub mod General
 pub mod Durations
 pub mod Workload
 pub mod Amounts

@@ -22,7 +22,7 @@ use Rattle.bound.specs.declared.quantity.Duration.{Duration}
 use Rattle.bound.specs.declared.results.Judged.{Judged}
 use Rattle.bound.specs.declared.results.Result.{Result}
 use Rattle.bound.proofs.Durations.{same, number}
-use Rattle.bound.proofs.General.{map-set}
+use Rattle.basis.proofs.Lists.{map-set}
 use Rattle.bound.proofs.Judging.{passes-local, bound-agrees, agree-self, reached-result, unreached-result, bound-all}
 use Rattle.bound.proofs.Meaning.{bound-in-range}
 

@@ -18,6 +18,7 @@ use Rattle.machine.specs.States.{recordAt}
 use Rattle.machine.specs.Slot.{begun, runs, reached, code}
 use Rattle.machine.specs.Checks.{checkReleases}
 use Rattle.machine.specs.Answers.{given, nextState}
+use Rattle.machine.proofs.Codes.{four-says}
 use Rattle.machine.proofs.Legals.{LegalState}
 use Rattle.machine.proofs.Records.{ended-else}
 use Rattle.green.specs.Model.{Moment, owed, age, Reached, slot}
@@ -26,7 +27,7 @@ use Rattle.green.specs.Demand.{noSlot, releaseIn, codeIn, FinishedWithin
 use Rattle.green.proofs.Sheets.{rowsOf, ranges, safe}
 use Rattle.green.proofs.Soundness.{within-bound, slot-within-bound}
 use Rattle.green.proofs.Slots.{momentOf, ran, slot-is, begin-remaining, released-so, reached-remaining, reached-since, next-record, next-since}
-use Rattle.green.proofs.Codes.{finished-code, going-code, missed-code}
+use Rattle.green.proofs.Codes.{finished-code, going-code}
 
 -- an accepted slot from a state: what it was checked for, and the codes that it wrote
 pub record Slotted (h : Sheet) (t : State) (d : Done) : Type 0 where
@@ -74,7 +75,7 @@ module _ (h : Sheet) (legal : Legal h) (all : holds passes h ≡ true) where
       pub not-missed : getD (d .codes) k 0 ≡ 4 → ⊥
       unfolding given
       not-missed e =
-          let (some, late) = missed-code (rowAt h k) (runs (given h t (d .releases)) k) (begun (given h t (d .releases)) k) (reached (given h t (d .releases)) k) (sym (s .wrote k l) ∙ e) in
+          let (_, some, late) = four-says (rowAt h k) (runs (given h t (d .releases)) k) (begun (given h t (d .releases)) k) (reached (given h t (d .releases)) k) (sym (s .wrote k l) ∙ e) in
           omega (arith, in-bound some, ranges h legal all k l)
 
       -- a job finishes in this slot, or goes on: it waited or ran, and is a slot older

@@ -26,7 +26,7 @@ use Rattle.machine.specs.Slot.{next, code}
 use Rattle.machine.specs.Checks.{needed, checkRow, checkAt, checkReleases, checkState, checkRoom, checkSlot, checkRun, checkMargin}
 use Rattle.machine.specs.Answers.{fresh, given, nextState, nextCodes, handed, slot, entriesOf, behind, slotAt, Course, followed, onward, course, notBegun, run, runBy, Told, marginAt, marginBy, margin}
 use Rattle.machine.proofs.Agree.{AgreeTo, next-agrees, code-agrees}
-use Rattle.machine.proofs.General.{upto-agree}
+use Rattle.basis.proofs.Upto.{upto-agree}
 
 -- equal in m, n and rows 0 to n - 1
 pub record Alike (h h′ : Sheet) : Type 0 where

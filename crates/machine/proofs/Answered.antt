@@ -13,6 +13,7 @@ use Rattle.basis.specs.Limits.{mostRows}
 use Rattle.basis.specs.Refusals.{Outcome, accepted, refused, outcome}
 use Rattle.basis.specs.declared.refusal.Refusal.{Refusal}
 use Rattle.basis.specs.declared.refusal.Refusal.the-variants.{Accepted, Refused}
+use Rattle.basis.proofs.First.{both-accepted}
 use Rattle.sheet.specs.Legal.{legal}
 use Rattle.sheet.specs.declared.row.Sheet.{Sheet}
 use Rattle.sheet.proofs.Legality.{legal-told}
@@ -20,7 +21,7 @@ use Rattle.machine.specs.declared.state.State.{State}
 use Rattle.machine.specs.States.{noState, freshState, legalState}
 use Rattle.machine.specs.Checks.{needed, checkReleases, checkState, checkRoom, checkSlot, checkRun}
 use Rattle.machine.specs.Answers.{handed, fresh, nextState, nextCodes, slot, notBegun, course, run, Course}
-use Rattle.machine.proofs.Checked.{both-accepted, needed-holds, Ready, ready}
+use Rattle.machine.proofs.Checked.{needed-holds, Ready, ready}
 
 -- what is handed over says of itself what the checks did
 pub handed-outcome : {A : Type 0} (o : Outcome) (x y : A) → handed o x y .0 ≡ o

@@ -11,6 +11,7 @@ use Rattle.basis.specs.Limits.{mostRows}
 use Rattle.basis.specs.Refusals.{Outcome, accepted, refused, outcome, orElse}
 use Rattle.basis.specs.declared.refusal.Refusal.{Refusal}
 use Rattle.basis.specs.declared.refusal.Refusal.the-variants.{Accepted, Refused}
+use Rattle.basis.proofs.First.{both-accepted}
 use Rattle.sheet.specs.Legal.{legal}
 use Rattle.sheet.specs.declared.row.Sheet.{Sheet}
 use Rattle.sheet.proofs.Legality.{legal-is}
@@ -21,11 +22,6 @@ use Rattle.machine.specs.Checks.{needed, checkReleases, checkState, chec
 -- an array's length, by what its elements stand for
 pub unmapped : {A B : Type 0} (f : A → B) (l : List A) (n : ℕ) → length (map f l) ≡ n → length l ≡ n
 unmapped f l n e = sym (length-map l f) ∙ e
-
--- what an accepted outcome of two says
-pub both-accepted : (a b : Outcome) → orElse a b ≡ accepted → (a ≡ accepted) × (b ≡ accepted)
-both-accepted accepted b e = (refl, e)
-both-accepted (refused n p) b e = let z : _≡_ {A = ℕ} 0 1 = cc in absurd (omega arith)
 
 pub needed-holds : (t : Bool) (n : ℕ) → needed t n ≡ accepted → t ≡ true
 needed-holds true n e = refl

@@ -8,7 +8,6 @@ pub mod Courses
 pub mod Deadlines
 pub mod Differences
 pub mod Done
-pub mod General
 pub mod Jobs
 pub mod Kept
 pub mod Laws

@@ -13,6 +13,7 @@ use Rattle.basis.specs.Limits.{mostRows, mostSeparation}
 use Rattle.basis.specs.Refusals.{accepted, outcome}
 use Rattle.basis.specs.declared.refusal.Refusal.{Refusal}
 use Rattle.basis.specs.declared.refusal.Refusal.the-variants.{Accepted, Refused}
+use Rattle.basis.proofs.First.{both-accepted}
 use Rattle.sheet.specs.Legal.{rowAt, LegalRow}
 use Rattle.sheet.specs.declared.row.Row.{Row}
 use Rattle.sheet.specs.declared.row.Sheet.{Sheet}
@@ -22,7 +23,7 @@ use Rattle.machine.specs.declared.state.State.{State}
 use Rattle.machine.specs.States.{recordAt}
 use Rattle.machine.specs.Checks.{checkState, checkMargin}
 use Rattle.machine.specs.Answers.{Told, no-job, margin-is, refused-by, marginOf, marginAt, margin}
-use Rattle.machine.proofs.Checked.{both-accepted, needed-holds, ready}
+use Rattle.machine.proofs.Checked.{needed-holds, ready}
 use Rattle.machine.proofs.Differences.{themselves, difference-fits, less-twice}
 use Rattle.machine.proofs.Legals.{LegalRecord, legal-state-is}
 

@@ -21,7 +21,7 @@ use Rattle.machine.specs.States.{noRecord, stateOf, recordAt, hasJob}
 use Rattle.machine.specs.Slot.{fits, worked, older, aged, missed, codeOf, begun, free, runs, next, code}
 use Rattle.machine.specs.Answers.{given, nextState, nextCodes}
 use Rattle.machine.specs.Methods.{releasedAt, releasedState, placedRow, placedAt, placedRecord, placedCode, placedState, placedCodes, judged, agedRow, agedAt, agedRecord, agedCode, agedState, agedCodes}
-use Rattle.machine.proofs.General.{upto-agree, upto-over}
+use Rattle.basis.proofs.Upto.{upto-agree, upto-over}
 use Rattle.machine.proofs.Placement.{free-agrees}
 
 -- the code that placing and then ageing give, by the tests that they make: j a job, r it ran, w something is left, d at the deadline
