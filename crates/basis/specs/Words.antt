@@ -1,6 +1,7 @@
--- The words that the definitions are made of: a choice, two tests together, a range, all of several, a sum.
+-- The words that the definitions are made of: a choice, two tests together, a range, all of several, a sum, every element of a list.
 use Prim.Native.Nat.{ℕ, zero, suc, _+_}
 use mathlib.Core.Bool.{Bool, true, false}
+use mathlib.Core.List.{List, [], _∷_}
 use lib.Dec.{leb}
 
 -- The first where the test holds, the second where it does not.
@@ -26,3 +27,8 @@ allOf (suc n) f = both (allOf n f) (f n)
 unfoldable pub sum : ℕ → (ℕ → ℕ) → ℕ
 sum zero f = 0
 sum (suc n) f = sum n f + f n
+
+-- Every element of a list is such a one.
+abbrev pub Each : {A : Type 0} → (A → Type 0) → List A → Type 0
+Each P [] = Unit {0}
+Each P (a ∷ l) = P a × Each P l

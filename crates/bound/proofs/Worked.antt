@@ -1,12 +1,12 @@
 -- Cases A to F hold of the definitions.
 -- Assumes nothing.
 use mathlib.Core.Path.{refl}
-use Rattle.basis.specs.Words.{allOf, sum}
+use Rattle.basis.specs.Words.{allOf, sum, Each}
 use Rattle.basis.specs.Upto.{upto}
 use Rattle.sheet.specs.Legal.{legalRow, legalAt, legal}
 use Rattle.bound.specs.Test.{q, X, x, W, durationOf, amountOf, amounts, room, passes}
 use Rattle.bound.specs.Bound.{least, boundBy, judge, resultsTo, resultOf, holds, judged, boundsBy}
-use Rattle.bound.specs.Cases.{cases, Right, Each}
+use Rattle.bound.specs.Cases.{cases, Right}
 
 pub cases-are-right : Each Right cases
 unfolding allOf sum upto legalRow legalAt legal q X x W durationOf amountOf amounts room passes least boundBy judge resultsTo resultOf holds judged boundsBy

@@ -39,8 +39,3 @@ expected ws = (accepted, allBounds ws, ws ++ replicate (mostRows - length ws) un
 -- A case is right where the bounds of its sheet are its results.
 abbrev pub Right : Case → Type 0
 Right c = boundsOf (c .sheet) ≡ expected (c .results)
-
--- What a list's every element is.
-abbrev pub Each : {A : Type 0} → (A → Type 0) → List A → Type 0
-Each P [] = Unit {0}
-Each P (a ∷ l) = P a × Each P l

@@ -4,14 +4,13 @@ use Prim.Native.Nat.{ℕ}
 use mathlib.Core.Path.{_≡_, refl}
 use mathlib.Core.List.{List, [], _∷_}
 use lib.ListN.{length}
-use Rattle.basis.specs.Words.{allOf, sum}
+use Rattle.basis.specs.Words.{allOf, sum, Each}
 use Rattle.basis.specs.Refusals.{firstOf}
 use Rattle.basis.specs.Upto.{upto}
 use Rattle.sheet.specs.Legal.{legal, legalAt, legalRow}
 use Rattle.bound.specs.Test.{passes, amounts, amountOf, durationOf, room, q, X, x, W}
 use Rattle.bound.specs.Bound.{bound, holds, resultOf, resultsTo, judge, boundBy, least}
 use Rattle.bound.specs.Tables.{sheetA, sheetB, sheetD, sheetE, sheetF}
-use Rattle.bound.specs.Cases.{Each}
 use Rattle.machine.specs.States.{freshState, legalState, legalRecord, isZero}
 use Rattle.machine.specs.States as states
 use Rattle.machine.specs.Slot.{released, fits, freeBelow, freeAt, worked, older, aged, missed, ended, codeOf}

@@ -3,3 +3,4 @@ pub mod Slot
 pub mod Checks
 pub mod Answers
 pub mod Methods
+pub mod Cases
