@@ -122,6 +122,7 @@ impl Case {
             }
             Case::Margin { sheet, state, row } => match margin(sheet, state, *row) {
                 Ok(None) => page.refusal(None).words(&[0, 0]),
+                Ok(Some(margin)) if margin < 0 => page.refusal(None).words(&[2, (-1 - margin) as u64]),
                 Ok(Some(margin)) => page.refusal(None).words(&[1, margin as u64]),
                 Err(refusal) => page.refusal(Some(refusal)).words(&[0, 0]),
             },
