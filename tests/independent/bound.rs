@@ -6,7 +6,7 @@ use crate::sheet::{Refusal, Row, Sheet, ROOM};
 #[derive(Clone, Copy, Debug, PartialEq)]
 pub enum Outcome {
     Bound(u64),
-    None,
+    NoBound,
     Unreached,
 }
 
@@ -88,7 +88,7 @@ pub fn bounds(sheet: &Sheet) -> Result<[Outcome; ROOM], Refusal> {
                 above.push((*row, bound));
             }
             None => {
-                results[k] = Outcome::None;
+                results[k] = Outcome::NoBound;
                 break;
             }
         }

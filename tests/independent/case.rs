@@ -72,7 +72,7 @@ impl Page {
     fn outcome(self, outcome: &Outcome) -> Page {
         match outcome {
             Outcome::Bound(bound) => self.word(1).word(*bound),
-            Outcome::None => self.word(2).word(0),
+            Outcome::NoBound => self.word(2).word(0),
             Outcome::Unreached => self.word(3).word(0),
         }
     }

@@ -36,7 +36,11 @@ fn check(sheet: &Sheet, state: &State) -> Result<(), Refusal> {
     let n = sheet.count as usize;
     let used = sheet.used().iter().zip(state).all(|(row, record)| fits(row, record));
     let spare = state[n..].iter().all(|record| *record == Record::default());
-    if used && spare { Ok(()) } else { refuse(16, 0) }
+    if used && spare {
+        Ok(())
+    } else {
+        refuse(16, 0)
+    }
 }
 
 /// The slot itself, once everything but the releases is in order.

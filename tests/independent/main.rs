@@ -4,7 +4,10 @@ mod bound;
 mod case;
 mod dice;
 mod hand;
+mod handed;
 mod machine;
+mod numbers;
+mod random;
 mod sheet;
 mod sheets;
 mod slots;
@@ -28,15 +31,18 @@ fn batch() -> Batch {
     let mut batch = Batch::default();
     let mut dice = dice::Dice(20_240_229);
     hand::worked(&mut batch);
-    sheets::numbers(&mut batch, &mut dice);
+    numbers::numbers(&mut batch, &mut dice);
     sheets::short(&mut batch, &mut dice);
     sheets::valid_sheets(&mut batch, &mut dice);
     sheets::damaged(&mut batch, &mut dice);
-    slots::handed(&mut batch, &mut dice);
-    slots::long_searches(&mut batch, &mut dice);
+    handed::handed(&mut batch, &mut dice);
+    handed::long_searches(&mut batch, &mut dice);
+    handed::layered(&mut batch, &mut dice);
+    handed::small(&mut batch);
     slots::slots(&mut batch, &mut dice);
     slots::margins(&mut batch, &mut dice);
     slots::runs(&mut batch, &mut dice);
+    slots::every_small(&mut batch);
     batch
 }
 
@@ -99,23 +105,32 @@ fn compare(answers: &[u8]) -> bool {
     differences == 0 && rest.is_empty()
 }
 
-/// `make BATCH` writes the batch; `compare ANSWERS` compares the answers.
+/// Writes messages to a file, each in its frame.
+fn save(path: &str, messages: impl Iterator<Item = Vec<u8>>) {
+    let mut file = std::io::BufWriter::new(std::fs::File::create(path).expect("the file can be made"));
+    for message in messages {
+        file.write_all(&framed(&message)).expect("the file can be written");
+    }
+    file.flush().expect("the file can be written");
+}
+
+/// `make BATCH` writes the batch; `compare ANSWERS` compares the answers; `hand BATCH ANSWERS` writes the cases worked by hand with their answers.
 fn main() {
     let arguments: Vec<String> = std::env::args().skip(1).collect();
     match arguments.iter().map(String::as_str).collect::<Vec<&str>>()[..] {
-        ["make", path] => {
-            let mut file = std::io::BufWriter::new(std::fs::File::create(path).expect("the batch can be made"));
-            for (_, case) in batch().0 {
-                file.write_all(&framed(&case.spelled())).expect("the batch can be written");
-            }
-            file.flush().expect("the batch can be written");
-        }
+        ["make", path] => save(path, batch().0.iter().map(|(_, case)| case.spelled())),
         ["compare", path] => {
             let answers = std::fs::read(path).expect("the answers can be read");
             std::process::exit(!compare(&answers) as i32);
         }
+        ["hand", cases, answers] => {
+            let mut batch = Batch::default();
+            hand::worked(&mut batch);
+            save(cases, batch.0.iter().map(|(_, case)| case.spelled()));
+            save(answers, batch.0.iter().map(|(_, case)| case.expected()));
+        }
         _ => {
-            eprintln!("make BATCH, or compare ANSWERS");
+            eprintln!("make BATCH, compare ANSWERS, or hand BATCH ANSWERS");
             std::process::exit(2);
         }
     }

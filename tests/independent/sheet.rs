@@ -66,7 +66,11 @@ impl Sheet {
                     && (1..=row.separation).contains(&row.deadline)
                     && (1..=row.deadline).contains(&row.budget))
             });
-        if outside { refuse(10, 0) } else { Ok(()) }
+        if outside {
+            refuse(10, 0)
+        } else {
+            Ok(())
+        }
     }
 }
 

@@ -1,19 +1,11 @@
-//! The cases over bytes: numbers, sheets and labels.
+//! The cases over a sheet's bytes: the reader and the label.
 
 use crate::case::Case;
-use crate::dice::{Dice, Size, SIZES};
-use crate::sheet::{read, spell, write, Row, Sheet, MARK, ROOM};
+use crate::dice::Dice;
+use crate::numbers::{every_byte, every_two};
+use crate::random::{Size, SIZES};
+use crate::sheet::{read, write, Row, Sheet, MARK, ROOM};
 use crate::Batch;
-
-/// Every byte.
-fn every_byte() -> impl Iterator<Item = u8> {
-    0..=255
-}
-
-/// Every string of two bytes.
-fn every_two() -> impl Iterator<Item = [u8; 2]> {
-    every_byte().flat_map(|a| every_byte().map(move |b| [a, b]))
-}
 
 /// A random valid sheet's bytes.
 fn valid(dice: &mut Dice, rows: u64, size: Size) -> Vec<u8> {
@@ -41,46 +33,6 @@ fn brief(batch: &mut Batch, group: &'static str, bytes: Vec<u8>) {
     batch.add(group, Case::Read { shown: 1, bytes });
 }
 
-/// Numbers: every one of one and two bytes, many of three and four, at many places and with many limits.
-pub fn numbers(batch: &mut Batch, dice: &mut Dice) {
-    batch.add("numbers, short", Case::Number { at: 0, bytes: vec![] });
-    for a in every_byte() {
-        batch.add("numbers, short", Case::Number { at: 0, bytes: vec![a] });
-    }
-    for two in every_two() {
-        batch.add("numbers, short", Case::Number { at: 0, bytes: two.to_vec() });
-    }
-    for _ in 0..20_000 {
-        let before = dice.range(0, 5) as usize;
-        let mut bytes = dice.bytes(before);
-        for _ in 0..dice.range(1, 4) {
-            let edge = [0x00, 0x01, 0x7f, 0x80, 0x81, 0xff];
-            let group = if dice.one_in(3) { dice.pick(&edge) } else { dice.byte() };
-            bytes.push(if dice.one_in(2) { group | 0x80 } else { group });
-        }
-        batch.add("numbers, longer", Case::Number { at: before as u64, bytes });
-    }
-    for at in [0, 1, 2, 3, 4, 5, 6, 100, 1 << 32, 1 << 63, u64::MAX - 2, u64::MAX] {
-        for bytes in [&b""[..], b"\x05", b"\x80\x80", b"\x80\x01\x7f", b"\xff\xff\x7f\xff\xff"] {
-            batch.add("numbers, places", Case::Number { at, bytes: bytes.to_vec() });
-            batch.add("numbers, places", Case::UpTo { at, most: 64, bytes: bytes.to_vec() });
-        }
-    }
-    for _ in 0..10_000 {
-        let before = dice.range(0, 5) as usize;
-        let most = dice.pick(&[0, 1, 16, 32, 64, 127, 128, 16_383, 16_384, 1_000_000, 2_097_151, u64::MAX]);
-        let near = most.min(2_097_150).saturating_sub(1) + dice.range(0, 2);
-        let value = if dice.one_in(2) { near } else { dice.pick(&[0, 1, 127, 128, 2_097_151]) };
-        let mut bytes = dice.bytes(before);
-        bytes.extend(spell(value));
-        if dice.one_in(8) {
-            let last = bytes.len() - 1;
-            bytes[last] |= 0x80;
-        }
-        batch.add("numbers, limits", Case::UpTo { at: before as u64, most, bytes });
-    }
-}
-
 /// Strings of few bytes, with the mark and without, and every wrong byte in the mark.
 pub fn short(batch: &mut Batch, dice: &mut Dice) {
     brief(batch, "sheets, short", vec![]);
@@ -96,8 +48,24 @@ pub fn short(batch: &mut Batch, dice: &mut Dice) {
             brief(batch, "sheets, mark", bytes[..MARK.len() - 1].to_vec());
         }
     }
-    for two in every_two() {
-        brief(batch, "sheets, short", [MARK, &two].concat());
+    for (group, before) in [
+        ("sheets, two bytes after the mark", &b""[..]),
+        ("sheets, two bytes at a label", b"\x02\x01"),
+        ("sheets, two bytes at a row's numbers", b"\x02\x01\x01a\x02"),
+    ] {
+        for two in every_two() {
+            brief(batch, group, [MARK, before, &two].concat());
+        }
+    }
+    for deadline in 0..=9 {
+        for budget in 0..=9 {
+            for separation in 0..=9 {
+                for threads in 0..=3 {
+                    let row = [threads, separation, deadline, budget];
+                    brief(batch, "sheets, one small row", [MARK, b"\x02\x01\x01a", &row].concat());
+                }
+            }
+        }
     }
     for _ in 0..10_000 {
         let m = dice.range(1, 64) as u8;

@@ -1,28 +1,13 @@
-//! The cases over sheets handed over: ranges, bounds, fresh states, slots, runs and margins.
+//! The cases over states: slots, runs and margins.
 
 use crate::case::{Case, Step};
-use crate::dice::{Dice, Size, SIZES};
-use crate::machine::{fresh, slot, State};
-use crate::sheet::{Row, Sheet, ROOM};
+use crate::dice::Dice;
+use crate::hand::sheet;
+use crate::handed::spoiled;
+use crate::machine::{fresh, slot, Record, State};
+use crate::random::SIZES;
+use crate::sheet::{Sheet, ROOM};
 use crate::Batch;
-
-/// A sheet out of range in one field, or none where the number chosen happens to be in range.
-fn spoiled(dice: &mut Dice, mut sheet: Sheet) -> Sheet {
-    let last = sheet.count - 1;
-    let k = dice.pick(&[0, last, dice.0 % sheet.count]) as usize;
-    let Row { separation, deadline, .. } = sheet.rows[k];
-    let m = sheet.processors;
-    let over = |dice: &mut Dice, most: u64| if dice.one_in(2) { most + 1 } else { dice.garbage() };
-    match dice.range(0, 5) {
-        0 => sheet.processors = over(dice, 64),
-        1 => sheet.count = over(dice, 32),
-        2 => sheet.rows[k].threads = over(dice, m),
-        3 => sheet.rows[k].separation = over(dice, 1_000_000),
-        4 => sheet.rows[k].deadline = over(dice, separation),
-        _ => sheet.rows[k].budget = over(dice, deadline),
-    }
-    sheet
-}
 
 /// A state with one record changed to what is likely illegal.
 fn broken(dice: &mut Dice, sheet: &Sheet, mut state: State) -> State {
@@ -40,60 +25,6 @@ fn broken(dice: &mut Dice, sheet: &Sheet, mut state: State) -> State {
         _ => state[dice.range(n as u64 - 1, 31) as usize].since = dice.pick(&[1, u64::MAX]),
     }
     state
-}
-
-/// Sheets handed over: legal of every size, with garbage past the rows, and out of range in each field.
-pub fn handed(batch: &mut Batch, dice: &mut Dice) {
-    for turn in 0..3_000 {
-        let rows = dice.count();
-        let sheet = dice.sheet(rows, SIZES[turn % SIZES.len()]);
-        let sheet = if dice.one_in(2) { dice.littered(sheet) } else { sheet };
-        batch.add("sheets handed over, legal", Case::Handed(sheet));
-        if turn % 2 == 0 {
-            let bad = spoiled(dice, sheet);
-            batch.add("sheets handed over, one field", Case::Handed(bad));
-        }
-    }
-    let full = dice.sheet(ROOM as u64, Size::Small);
-    for count in (0..=40).chain([64, 255, 256, 257, 288, 1 << 32, (1 << 32) + 1, 1 << 63, u64::MAX]) {
-        for processors in [0, 1, full.processors, 64, 65, u64::MAX] {
-            batch.add("sheets handed over, counts", Case::Handed(Sheet { processors, count, ..full }));
-        }
-    }
-    for k in 0..ROOM {
-        for field in 0..4 {
-            for value in [0, 1_000_001, u64::MAX] {
-                let mut sheet = full;
-                let row = &mut sheet.rows[k];
-                *[&mut row.threads, &mut row.separation, &mut row.deadline, &mut row.budget][field] = value;
-                batch.add("sheets handed over, one field", Case::Handed(sheet));
-                sheet.count = k as u64;
-                batch.add("sheets handed over, one field", Case::Handed(sheet));
-            }
-        }
-    }
-}
-
-/// Sheets that make the search for a bound long: rows of short separation above long deadlines, and full processors.
-pub fn long_searches(batch: &mut Batch, dice: &mut Dice) {
-    for turn in 0..60 {
-        let m = dice.pick(&[1, 2, 4, 64]);
-        let mut rows = Vec::new();
-        for k in 0..dice.range(2, 32) {
-            let separation = match turn % 3 {
-                0 => dice.range(2 + k, 10 + 5 * k),
-                1 => dice.range(100, 10_000),
-                _ => dice.range(900_000, 1_000_000),
-            };
-            let budget = dice.range(1, 1 + separation / 40);
-            rows.push(Row { threads: dice.range(1, m), separation, deadline: separation, budget });
-        }
-        let budget = dice.pick(&[1, 1_000, 500_000, 990_000, 1_000_000]);
-        rows[1..].sort_by_key(|row| row.separation);
-        let last = rows.len() - 1;
-        rows[last] = Row { threads: dice.range(1, m), separation: 1_000_000, deadline: 1_000_000, budget };
-        batch.add("sheets handed over, long searches", Case::Handed(Sheet::of(m, &rows)));
-    }
 }
 
 /// A code buffer of about the length of the list.
@@ -183,6 +114,31 @@ pub fn runs(batch: &mut Batch, dice: &mut Dice) {
         if turn % 3 == 0 {
             let refused = faulty(dice, step, 3);
             batch.add("runs, faults", Case::Run(refused));
+        }
+    }
+}
+
+/// Every state and release list of sheet C that is legal or nearly so.
+pub fn every_small(batch: &mut Batch) {
+    let c = sheet(2, &[[2, 2, 2, 1], [1, 4, 4, 3]]);
+    let records = |budget: u64, separation: u64| {
+        let mut list = Vec::new();
+        for remaining in 0..=budget + 1 {
+            list.extend((0..=separation + 1).map(|since| Record { remaining, since }));
+        }
+        list
+    };
+    for first in records(1, 2) {
+        for second in records(3, 4) {
+            let mut state = State::default();
+            (state[0], state[1]) = (first, second);
+            for row in 0..=2 {
+                batch.add("margins, every small state", Case::Margin { sheet: c, state, row });
+            }
+            for releases in (0..=2).flat_map(|a| (0..=4).map(move |b| vec![a, b])) {
+                let step = Step { sheet: c, state, releases, codes: vec![9; 3] };
+                batch.add("slots, every small state", Case::Slot(step));
+            }
         }
     }
 }
