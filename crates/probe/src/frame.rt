@@ -1,5 +1,12 @@
-// The frame of a batch: numbers of eight bytes, the lowest first, and plain bytes.
+// The frame of a batch: each case and each answer stands behind its length, and holds numbers of eight bytes and then plain bytes; the lowest byte is first.
 ghost use Prim.Native.Nat.{_<_};
+use libc::STDOUT_FILENO;
+
+// The bytes of a frame's length.
+pub const LENGTH: usize = 2;
+
+// The most bytes of a case and of an answer.
+pub const ROOM: usize = 16_384;
 
 // The bytes of a number.
 pub const WORD: usize = 8;
@@ -41,7 +48,7 @@ pub(crate) fn rest(bytes: &[u8], at: usize) -> &[u8] {
 }
 
 // Puts a byte at a place, where there is room, and answers the place after it.
-pub(crate) fn put_byte(page: &mut [u8], at: usize, byte: u8) -> usize {
+fn put_byte(page: &mut [u8], at: usize, byte: u8) -> usize {
     if at < page.len() {
         page[at] = byte;
         return at + 1;
@@ -50,7 +57,7 @@ pub(crate) fn put_byte(page: &mut [u8], at: usize, byte: u8) -> usize {
 }
 
 // The lowest byte of a number.
-pub(crate) fn low(value: u64) -> u8 {
+fn low(value: u64) -> u8 {
     (value % 256) as u8
 }
 
@@ -65,4 +72,24 @@ pub(crate) fn put(page: &mut [u8], at: usize, value: u64) -> usize {
         turns -= 1;
     }
     next
+}
+
+// Writes an answer: its length, what the page holds up to a place, and more bytes.
+pub(crate) fn send(page: &mut [u8], end: usize, more: &[u8]) -> bool {
+    if end < LENGTH {
+        return false;
+    }
+    if page.len() < end {
+        return false;
+    }
+    if ROOM < more.len() {
+        return false;
+    }
+    let length = (end - LENGTH) as u64 + more.len() as u64;
+    put_byte(page, 0, low(length));
+    put_byte(page, 1, low(length / 256));
+    if io::write_all(STDOUT_FILENO, &page[..end]) {
+        return io::write_all(STDOUT_FILENO, more);
+    }
+    false
 }

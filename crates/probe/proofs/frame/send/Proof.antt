@@ -1,8 +1,8 @@
 -- `send` is safe and ends. Assumes nothing.
 use Rattle.probe.proofs.Parts.{front}
 use borrow.Author.Needs.{needs}
-use Rattle.probe.proofs.send.Statement.{statement}
-use Rattle.probe.proofs.send.Tie as tie
+use Rattle.probe.proofs.frame.send.Statement.{statement}
+use Rattle.probe.proofs.frame.send.Tie as tie
 
 returns : tie.Need-returns
 returns c = search needs

@@ -1,8 +1,8 @@
 -- `answer_step` is safe. Assumes nothing.
 use Rattle.probe.proofs.Parts.{front}
 use borrow.Author.Needs.{needs}
-use Rattle.probe.proofs.answer_step.Statement.{statement}
-use Rattle.probe.proofs.answer_step.Tie as tie
+use Rattle.probe.proofs.kinds.answer_step.Statement.{statement}
+use Rattle.probe.proofs.kinds.answer_step.Tie as tie
 
 word-requires : tie.Need-word-requires
 word-requires c κs = search needs
