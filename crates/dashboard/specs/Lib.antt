@@ -1,0 +1,7 @@
+pub mod Words
+pub mod Labels
+pub mod Texts
+pub mod Pages
+pub mod Longest
+pub mod Lasts
+pub mod Cases
