@@ -9,7 +9,9 @@ use native.Mathlib.Nat.{le-antisymm}
 use native.Mathlib.Omega.{arith}
 use lib.ListN.{getD, List·getD-map}
 use denote.Ref.{RefT}
+use Rattle.basis.specs.Limits.{mostRows}
 use Rattle.sheet.specs.Legal.{legal}
+use Rattle.sheet.proofs.Legality.{legal-is}
 use Rattle.sheet.specs.Answers.{shown, part, labelIn}
 use Rattle.sheet.specs.declared.row.Sheet.{Sheet}
 use Rattle.bound.specs.Test.{passes}
@@ -81,6 +83,9 @@ unfolding lines
 lines-same label f g zero h = refl
 lines-same label f g (suc n) h =
     ap₂ (λ (x : List ℕ) (w : Word). x ++ line n (label n) w) (lines-same label f g n (λ i l. h i (omega arith))) (h n (omega arith))
+
+pub most-lines : (h : Sheet) → legal h ≡ true → h .count ≤ mostRows
+most-lines h fine = legal-is h fine .most-rows
 
 module _ (h : Sheet) (fine : legal h ≡ true) (x : Results) (a : answer x ≡ boundsOf h) where
   judged-so : answer x ≡ judged passes h

@@ -1,3 +1,4 @@
 pub mod Saying
 pub mod Decimals
 pub mod Boards
+pub mod Reports

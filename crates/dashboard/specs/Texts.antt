@@ -36,13 +36,13 @@ fixedCount = 5
 abbrev pub letter : ℕ → List ℕ
 letter i = (0x41 + i) ∷ []
 
--- The label that stands before the row number in the reference.
-abbrev pub r : List ℕ
-r = 0x72 ∷ []
+-- `r`, which stands before the row number in a label of the reference.
+abbrev pub prefix : List ℕ
+prefix = 0x72 ∷ []
 
 -- A line with the letter of a fixed sheet, then its lines with labels r0, r1 and so on.
 unfoldable pub section : ℕ → List ℕ
-section i = letter i ++ newline ++ board (numbered r) (fixedSheet i)
+section i = letter i ++ newline ++ board (numbered prefix) (fixedSheet i)
 
 -- The sections of the first n fixed sheets.
 unfoldable pub sections : ℕ → List ℕ

@@ -1,6 +1,7 @@
 -- `put_lines` meets its promise. The invariant: what is said so far is the lines of the rows passed. Assumes nothing.
 use Prim.Native.Nat.{_≤_, _-_}
 use mathlib.Core.Path.{_≡_}
+use borrow.Author.Needs.{needs}
 use lib.ListN.{length}
 use Rattle.dashboard.specs.Texts.{lines}
 use Rattle.dashboard.specs.Labels.{labelBy, wordAt}
