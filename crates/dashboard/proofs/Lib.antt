@@ -1,4 +1,9 @@
-pub mod Saying
-pub mod Decimals
+pub mod Answered
 pub mod Boards
+pub mod Cases
+pub mod Decimals
+pub mod Fits
+pub mod General
 pub mod Reports
+pub mod Saying
+pub mod Verdicts

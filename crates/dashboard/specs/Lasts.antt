@@ -1,8 +1,9 @@
--- The last line of a text.
-use Prim.Native.Nat.{ℕ}
+-- What the laws of a verdict speak of: the last line of a text, and rows that are reported.
+use Prim.Native.Nat.{ℕ, _≤_}
 use mathlib.Core.Path.{_≡_}
 use mathlib.Core.Logic.{_⊎_}
 use mathlib.Core.List.{List, [], _++_}
+use Rattle.sheet.specs.declared.row.Row.{Row}
 use Rattle.dashboard.specs.Words.{newline}
 
 -- A text ends in these bytes.
@@ -15,3 +16,10 @@ pub record LastLine (text last : List ℕ) : Type 0 where
   pub before : List ℕ
   pub whole : text ≡ before ++ last
   pub starts : (before ≡ []) ⊎ EndsIn before newline
+
+-- A row whose threads, separation, deadline and budget are all reported.
+pub record Reported (row : Row) : Type 0 where
+  pub threads : 1 ≤ row .threads
+  pub separation : 1 ≤ row .separation
+  pub deadline : 1 ≤ row .deadline
+  pub budget : 1 ≤ row .budget
