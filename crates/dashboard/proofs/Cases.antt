@@ -1,4 +1,4 @@
--- The worked verdicts hold of the definitions.
+-- The worked verdicts and the whole reference hold of the definitions.
 -- Assumes nothing.
 use mathlib.Core.Path.{_≡_, refl}
 use mathlib.Core.List.{List, [], _∷_, _++_}
@@ -14,7 +14,7 @@ use Rattle.dashboard.specs.Words.{digits, decimal, told, line, refusedBy
 use Rattle.dashboard.specs.Words as words
 use Rattle.dashboard.specs.Labels.{ownLabel, numbered}
 use Rattle.dashboard.specs.Texts.{lines, board, verdictText, section, sections, referenceText}
-use Rattle.dashboard.specs.Cases.{rollAndTrim, rollAndTrimText, sevenAt23}
+use Rattle.dashboard.specs.Cases.{rollAndTrim, rollAndTrimText, sevenAt23, reference}
 
 -- sheet C with labels roll and trim
 pub roll-and-trim : verdictText (rollAndTrim ++ (0x03 ∷ [])) ≡ rollAndTrimText
@@ -25,3 +25,8 @@ roll-and-trim = refl
 pub seven-at-23 : verdictText (rollAndTrim ++ (0x00 ∷ [])) ≡ sevenAt23
 unfolding begins groups upTo plain label entry entries body head sheet digits decimal refusedBy noVerdict verdictText
 seven-at-23 = refl
+
+-- sheets A to E
+pub reference-is : referenceText ≡ reference
+unfolding allOf sum q X x W durationOf amountOf amounts room passes least boundBy judge resultsTo resultOf holds fixedSheet digits decimal told words.head line numbered lines board section sections referenceText
+reference-is = refl

@@ -27,8 +27,9 @@ use Rattle.dashboard.specs.Labels.{ownLabel}
 use Rattle.dashboard.specs.Texts.{lines, board, verdictText, referenceText}
 use Rattle.dashboard.specs.Pages.{Page, written}
 use Rattle.dashboard.specs.Longest.{longestLine, longestText, textSize}
+use Rattle.dashboard.proofs.Cases.{reference-is}
 use Rattle.dashboard.proofs.Decimals.{decimal-grows, decimal-is-short}
-use Rattle.dashboard.proofs.Verdicts.{by-outcome, accepted-prints-its-rows, refused-prints-one-line}
+use Rattle.dashboard.proofs.Outcomes.{by-outcome, accepted-prints-its-rows, refused-prints-one-line}
 
 -- what the limits have to be: the bound of the longest line is no shorter than the word unreached, and the longest text is no shorter than a refusal
 wide-separation : 5 ≤ length (decimal mostSeparation)
@@ -123,3 +124,9 @@ whole t o h g =
 
 pub verdict-is-whole : (s o : List ℕ) → textSize ≤ length o → written (verdictText s) o ≡ (verdictText s ++ drop (length (verdictText s)) o, length (verdictText s))
 verdict-is-whole s o = whole (verdictText s) o (omega (arith, verdict-is-short s, longest-fits))
+
+pub reference-is-short : length referenceText ≤ textSize
+reference-is-short = rw reference-is (omega arith)
+
+pub reference-is-whole : (o : List ℕ) → textSize ≤ length o → written referenceText o ≡ (referenceText ++ drop (length referenceText) o, length referenceText)
+reference-is-whole o = whole referenceText o reference-is-short

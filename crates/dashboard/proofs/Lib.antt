@@ -4,6 +4,8 @@ pub mod Cases
 pub mod Decimals
 pub mod Fits
 pub mod General
+pub mod Outcomes
+pub mod Refused
 pub mod Reports
 pub mod Saying
 pub mod Verdicts

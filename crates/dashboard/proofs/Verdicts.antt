@@ -1,54 +1,29 @@
--- What a verdict says: the last line is HOLDS exactly if the bytes are green, so that no job is late; the number after NO VERDICT is 1 to 9; a refused sheet prints
--- one line and no row.
+-- The last line is HOLDS exactly if the bytes are green, and then no job is ever late.
 -- Assumes nothing.
-use Prim.Native.Nat.{ℕ, zero, suc, _+_, _≤_, _<_}
+use Prim.Native.Nat.{ℕ, zero, suc, _+_, _<_}
 use mathlib.Core.Path.{_≡_, refl, sym, ap, subst, _∙_}
 use mathlib.Core.Bool.{Bool, true, false}
 use mathlib.Core.Logic.{_⊎_, inl, inr, _↔_}
 use mathlib.Core.List.{List, [], _∷_, _++_, append-assoc}
 use native.Mathlib.Omega.{arith}
 use lib.ListN.{length}
-use Rattle.basis.specs.Words.{both}
-use Rattle.basis.specs.Refusals.{Outcome, accepted, refused, isAccepted}
+use Rattle.basis.specs.Refusals.{accepted, isAccepted}
 use Rattle.basis.proofs.Words.{true-not-false, both-left, both-right}
-use Rattle.sheet.specs.Legal.{rowAt, legal}
 use Rattle.sheet.specs.Answers.{reading}
 use Rattle.sheet.specs.declared.row.Sheet.{Sheet}
 use Rattle.sheet.proofs.Accepted.{accepted-is-legal}
-use Rattle.sheet.proofs.Legality.{legal-is}
-use Rattle.sheet.proofs.Reach.{refusal-is-listed}
 use Rattle.bound.specs.Test.{passes}
-use Rattle.bound.specs.Bound.{Word, resultOf, holds, judged, boundsOf, Answer}
-use Rattle.bound.proofs.Answers.{legal-is-judged}
+use Rattle.bound.specs.Bound.{Word, resultOf, holds}
 use Rattle.green.specs.Demand.{NoJobIsLate}
 use Rattle.green.specs.Green.{greenOf}
 use Rattle.green.proofs.Theorem.{no-job-is-late}
-use Rattle.dashboard.specs.Words.{digits, decimal, space, newline, told, head, line, holdsLine, failsLine, ending, noVerdictWord, refusedBy, noVerdict}
+use Rattle.dashboard.specs.Words.{decimal, space, newline, told, head, line, holdsLine, ending, refusedBy, noVerdict}
 use Rattle.dashboard.specs.Labels.{ownLabel}
-use Rattle.dashboard.specs.Texts.{lines, board, textOf, verdictText}
-use Rattle.dashboard.specs.Lasts.{EndsIn, LastLine, Reported}
+use Rattle.dashboard.specs.Texts.{lines, board, verdictText}
+use Rattle.dashboard.specs.Lasts.{EndsIn, LastLine}
 use Rattle.dashboard.proofs.Decimals.{last-digit}
 use Rattle.dashboard.proofs.General.{ends-same}
-
--- ---- the text by the reader's outcome
-
-pub accepted-prints-its-rows : (s : List ℕ) → reading s .0 ≡ accepted → verdictText s ≡ board (ownLabel s) (reading s .1)
-unfolding verdictText
-accepted-prints-its-rows s e = ap (λ (o : Outcome). textOf s (o, reading s .1)) e
-
--- a refused sheet prints one line, and no row
-pub refused-prints-one-line : (s : List ℕ) (k p : ℕ) → reading s .0 ≡ refused k p → verdictText s ≡ noVerdict k p
-unfolding verdictText
-refused-prints-one-line s k p e = ap (λ (o : Outcome). textOf s (o, reading s .1)) e
-
-pub by-outcome : {A : Type 0} (s : List ℕ) → (reading s .0 ≡ accepted → A) → ((k p : ℕ) → reading s .0 ≡ refused k p → A) → A
-by-outcome {A} s f g = go (reading s .0) refl
-  where
-    go : (o : Outcome) → reading s .0 ≡ o → A
-    go accepted e = f e
-    go (refused k p) e = g k p e
-
--- ---- the last line
+use Rattle.dashboard.proofs.Outcomes.{accepted-prints-its-rows, refused-prints-one-line, by-outcome}
 
 module _ (label : ℕ → List ℕ) (result : ℕ → Word) where
   lines-end : (n : ℕ) → (lines label result n ≡ []) ⊎ EndsIn (lines label result n) newline
@@ -59,12 +34,6 @@ module _ (label : ℕ → List ℕ) (result : ℕ → Word) where
         before = lines label result n ++ (head n (label n) ++ told (result n));
         whole = sym (append-assoc (lines label result n) (head n (label n) ++ told (result n)) newline);
       })
-
-  -- the first byte is the digit of row 0
-  lines-begin : (n : ℕ) → (rest : List ℕ) × (lines label result (suc n) ≡ 0x30 ∷ rest)
-  unfolding lines line head decimal digits
-  lines-begin zero = (_, refl)
-  lines-begin (suc n) = let (rest, e) = lines-begin n in (rest ++ line (suc n) (label (suc n)) (result (suc n)), ap (λ (x : List ℕ). x ++ line (suc n) (label (suc n)) (result (suc n))) e)
 
 -- HOLDS or FAILS is the last line of a sheet's text
 board-ends : (label : ℕ → List ℕ) (h : Sheet) → LastLine (board label h) (ending (holds passes h))
@@ -129,10 +98,3 @@ pub holds-means-no-job-is-late : (s : List ℕ) → EndsIn (verdictText s) holds
 holds-means-no-job-is-late s t =
     let (e, all) = green-is-accepted s (ends-in-holds-is-green s t) in
     no-job-is-late (reading s .1) (accepted-is-legal s e .0) all
-
--- ---- NO VERDICT
-
--- the bounds never refuse a sheet that was read
-pub bounds-follow-the-reader : (s : List ℕ) → reading s .0 ≡ accepted → boundsOf (reading s .1) .0 ≡ accepted
-unfolding judged
-bounds-follow-the-reader s e = ap (λ (a : Answer). a .0) (legal-is-judged passes (reading s .1) (accepted-is-legal s e .0))
