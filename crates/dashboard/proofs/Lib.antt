@@ -4,6 +4,7 @@ pub mod Cases
 pub mod Decimals
 pub mod Fits
 pub mod General
+pub mod Inputs
 pub mod Outcomes
 pub mod Refused
 pub mod Reports

@@ -9,9 +9,6 @@ use crate::line::put_no_verdict;
 use crate::page::put;
 use basis::Refusal;
 
-// The size of a buffer that holds any text.
-pub const TEXT_SIZE: usize = 8192;
-
 // The sheets of the reference: A to E.
 const FIXED_COUNT: usize = 5;
 
