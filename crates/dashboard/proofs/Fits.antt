@@ -6,7 +6,7 @@ use mathlib.Core.Bool.{Bool, true, false}
 use mathlib.Core.List.{List, [], _∷_, _++_}
 use native.Mathlib.Omega.{arith}
 use native.Mathlib.Nat.{mul-le-mul-right}
-use lib.ListN.{length, take, drop, length-append, length-take, length-replicate}
+use lib.ListN.{length, take, drop, length-append, length-take}
 use lib.Seq.{take-all}
 use Rattle.basis.specs.Limits.{mostRows, longestLabel, mostSeparation}
 use Rattle.basis.specs.Refusals.{Outcome, accepted, refused}
@@ -26,7 +26,7 @@ use Rattle.dashboard.specs.Words.{digits, decimal, mostDigits, space, ne
 use Rattle.dashboard.specs.Labels.{ownLabel}
 use Rattle.dashboard.specs.Texts.{lines, board, verdictText, referenceText}
 use Rattle.dashboard.specs.Pages.{Page, written}
-use Rattle.dashboard.specs.Longest.{longestLine, longestText, inputSize, inputBuffer, textSize, textBuffer}
+use Rattle.dashboard.specs.Longest.{longestLine, longestText, textSize}
 use Rattle.dashboard.proofs.Cases.{reference-is}
 use Rattle.dashboard.proofs.Decimals.{decimal-grows, decimal-is-short}
 use Rattle.dashboard.proofs.Outcomes.{by-outcome, accepted-prints-its-rows, refused-prints-one-line}
@@ -130,10 +130,3 @@ reference-is-short = rw reference-is (omega arith)
 
 pub reference-is-whole : (o : List ℕ) → textSize ≤ length o → written referenceText o ≡ (referenceText ++ drop (length referenceText) o, length referenceText)
 reference-is-whole o = whole referenceText o reference-is-short
-
--- the buffers have these sizes
-pub input-size : (b : List ℕ) → b ≡ inputBuffer → inputSize ≡ length b
-input-size b e = sym (ap length e ∙ length-replicate {A = ℕ} inputSize 0)
-
-pub text-size : (b : List ℕ) → b ≡ textBuffer → textSize ≡ length b
-text-size b e = sym (ap length e ∙ length-replicate {A = ℕ} textSize 0)

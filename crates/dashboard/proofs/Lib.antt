@@ -8,5 +8,6 @@ pub mod Inputs
 pub mod Outcomes
 pub mod Refused
 pub mod Reports
+pub mod Rooms
 pub mod Saying
 pub mod Verdicts
