@@ -3,7 +3,7 @@
 use Prim.Native.Nat.{ℕ, zero, suc, _+_, _≤_, _<_}
 use mathlib.Core.Path.{_≡_, refl, sym, ap, ap₂, _∙_}
 use mathlib.Core.Bool.{Bool, true, false}
-use mathlib.Core.List.{List, [], _∷_, _++_, map}
+use mathlib.Core.List.{List, _++_}
 use native.Mathlib.Numerals.{add-one}
 use native.Mathlib.Nat.{le-antisymm}
 use native.Mathlib.Omega.{arith}
@@ -15,10 +15,9 @@ use Rattle.sheet.proofs.Legality.{legal-is}
 use Rattle.sheet.specs.Answers.{shown, part, labelIn}
 use Rattle.sheet.specs.declared.row.Sheet.{Sheet}
 use Rattle.bound.specs.Test.{passes}
-use Rattle.bound.specs.Bound.{Word, bound, none, unreached, word, wordIn, resultOf, holds, Answer, answer, judged, boundsOf}
+use Rattle.bound.specs.Bound.{Word, unreached, word, wordIn, resultOf, holds, Answer, answer, judged, boundsOf}
 use Rattle.bound.specs.declared.results.Result.{Result}
 use Rattle.bound.specs.declared.results.Result.the-variants.{Unreached, Bound, NoBound}
-use Rattle.bound.specs.declared.results.Judged.{Judged}
 use Rattle.bound.specs.declared.results.Results.{Results}
 use Rattle.bound.proofs.Answers as bounds
 use Rattle.dashboard.specs.Words.{decimal, boundWord, noneWord, unreachedWord, told, line, holdsLine, failsLine, ending}

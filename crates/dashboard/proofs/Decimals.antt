@@ -1,7 +1,7 @@
 -- The digits of a number: the last and those before it, how many there are, and that each is a digit.
 -- Assumes nothing.
 use Prim.Native.Nat.{ℕ, zero, suc, _+_, _/_, _%_, _^_, _≤_, _<_}
-use mathlib.Core.Path.{_≡_, refl, sym, ap, _∙_}
+use mathlib.Core.Path.{_≡_, refl, ap}
 use mathlib.Core.Bool.{Bool, true, false}
 use mathlib.Core.List.{List, [], _∷_, _++_}
 use native.Mathlib.Nat.{pow-succ'}
@@ -47,10 +47,6 @@ by-test {A} a b f g = go (ltb a b) refl
     go : (t : Bool) → ltb a b ≡ t → A
     go true e = f e (ltb-true a b e)
     go false e = g e (ltb-false a b e)
-
-some-digits : (k n : ℕ) → 1 ≤ length (digits (suc k) n)
-unfolding digits
-some-digits k n = by-test n 10 (λ e l. simp e (omega arith)) (λ e l. simp (e, length-append) (omega arith))
 
 digits-grow : (k n m : ℕ) → n ≤ m → length (digits k n) ≤ length (digits k m)
 unfolding digits

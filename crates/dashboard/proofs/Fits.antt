@@ -1,18 +1,18 @@
 -- How long a text can be: any is whole in the buffer that the programs lend.
 -- Assumes nothing.
 use Prim.Native.Nat.{ℕ, zero, suc, _+_, _*_, _≤_, _<_, min}
-use mathlib.Core.Path.{_≡_, refl, sym, ap, subst, _∙_}
+use mathlib.Core.Path.{_≡_, refl}
 use mathlib.Core.Bool.{Bool, true, false}
-use mathlib.Core.List.{List, [], _∷_, _++_}
+use mathlib.Core.List.{List, _++_}
 use native.Mathlib.Omega.{arith}
 use native.Mathlib.Nat.{mul-le-mul-right}
-use lib.ListN.{length, take, drop, length-append, length-take}
+use lib.ListN.{length, drop, length-append, length-take}
 use lib.Seq.{take-all}
 use Rattle.basis.specs.Limits.{mostRows, longestLabel, mostSeparation}
-use Rattle.basis.specs.Refusals.{Outcome, accepted, refused}
+use Rattle.basis.specs.Refusals.{accepted}
 use Rattle.sheet.specs.Form.{Held, sheet}
-use Rattle.sheet.specs.Legal.{rowAt, Legal, legal}
-use Rattle.sheet.specs.Answers.{handed, reading, rowsRead, labelIn}
+use Rattle.sheet.specs.Legal.{Legal}
+use Rattle.sheet.specs.Answers.{handed, reading, rowsRead}
 use Rattle.sheet.specs.declared.row.Sheet.{Sheet}
 use Rattle.sheet.proofs.Accepted.{accepted-is-legal}
 use Rattle.sheet.proofs.Legality.{legal-is}
@@ -22,10 +22,10 @@ use Rattle.bound.specs.Test.{passes}
 use Rattle.bound.specs.Bound.{Word, bound, none, unreached, isBound, valueOf, resultOf, holds}
 use Rattle.bound.proofs.Meaning.{bound-in-range}
 use Rattle.bound.proofs.Judging.{passes-local}
-use Rattle.dashboard.specs.Words.{digits, decimal, mostDigits, space, newline, boundWord, told, head, line, holdsLine, ending, refusedBy, noVerdict}
+use Rattle.dashboard.specs.Words.{digits, decimal, mostDigits, boundWord, told, head, line, holdsLine, ending, refusedBy, noVerdict}
 use Rattle.dashboard.specs.Labels.{ownLabel}
 use Rattle.dashboard.specs.Texts.{lines, board, verdictText, referenceText}
-use Rattle.dashboard.specs.Pages.{Page, written}
+use Rattle.dashboard.specs.Pages.{written}
 use Rattle.dashboard.specs.Longest.{longestLine, longestText, textSize}
 use Rattle.dashboard.proofs.Cases.{reference-is}
 use Rattle.dashboard.proofs.Decimals.{decimal-grows, decimal-is-short}
@@ -62,8 +62,11 @@ unfolding lines
 lines-are-short label result zero m l s = omega arith
 lines-are-short label result (suc n) m l s =
     rw length-append
-    (omega (arith, lines-are-short label result n (omega arith) (λ i k. l i (omega arith)) (λ i k. s i (omega arith)),
-    line-is-short n (label n) (result n) (omega arith) (l n (omega arith)) (s n (omega arith))))
+    (omega (
+      arith,
+      lines-are-short label result n (omega arith) (λ i k. l i (omega arith)) (λ i k. s i (omega arith)),
+      line-is-short n (label n) (result n) (omega arith) (l n (omega arith)) (s n (omega arith)),
+    ))
 
 -- ---- a sheet
 

@@ -7,7 +7,7 @@ use mathlib.Core.List.{List}
 use native.Mathlib.Omega.{arith}
 use lib.ListN.{length, take}
 use lib.Seq.{take-all}
-use Rattle.basis.specs.Refusals.{Outcome, accepted, refused}
+use Rattle.basis.specs.Refusals.{Outcome, accepted}
 use Rattle.basis.specs.Readers.{Step, ok, refuse}
 use Rattle.basis.proofs.Words.{lt-or-le}
 use Rattle.numbers.specs.Numbers.{spelt, width}

@@ -1,12 +1,12 @@
 -- NO VERDICT: the number after it is 1 to 9, and no row is printed of a sheet that the reader refuses.
 -- Assumes nothing.
-use Prim.Native.Nat.{ℕ, zero, suc, _+_, _≤_, _<_}
+use Prim.Native.Nat.{ℕ, zero, suc, _≤_, _<_}
 use mathlib.Core.Path.{_≡_, refl, sym, ap, _∙_}
-use mathlib.Core.List.{List, [], _∷_, _++_}
+use mathlib.Core.List.{List, _∷_, _++_}
 use native.Mathlib.Omega.{arith}
-use lib.ListN.{length, drop}
+use lib.ListN.{length, getD, drop}
 use Rattle.basis.specs.Refusals.{accepted, refused}
-use Rattle.sheet.specs.Legal.{rowAt, legal, Legal}
+use Rattle.sheet.specs.Legal.{rowAt}
 use Rattle.sheet.specs.Answers.{reading}
 use Rattle.sheet.specs.declared.row.Sheet.{Sheet}
 use Rattle.sheet.proofs.Accepted.{accepted-is-legal}
@@ -72,8 +72,17 @@ pub bounds-follow-the-reader : (s : List ℕ) → reading s .0 ≡ accepted → 
 unfolding judged
 bounds-follow-the-reader s e = ap (λ (a : Answer). a .0) (legal-is-judged passes (reading s .1) (accepted-is-legal s e .0))
 
--- every row that is printed is one of a sheet whose rows are all reported: a zero in threads, separation, deadline or budget prints no row
-pub printed-rows-are-reported : (s : List ℕ) → reading s .0 ≡ accepted → (i : ℕ) → i < reading s .1 .count → Reported (rowAt (reading s .1) i)
-printed-rows-are-reported s e i l =
+-- every row of a sheet that was read is reported
+read-is-reported : (s : List ℕ) → reading s .0 ≡ accepted → (i : ℕ) → i < reading s .1 .count → Reported (rowAt (reading s .1) i)
+read-is-reported s e i l =
     let r = legal-is (reading s .1) (accepted-is-legal s e .0) .rows i l in
     record { threads = r .some-threads; separation = r .some-separation; deadline = r .some-deadline; budget = r .some-budget }
+
+no-row-zero : (k p : ℕ) (rest : List ℕ) → 0x30 ∷ rest ≡ noVerdict k p → ⊥
+unfolding noVerdict refusedBy
+no-row-zero k p rest e = let z : _≡_ {A = ℕ} 0x30 0x4E = ap (λ (t : List ℕ). getD t 0 0) e in omega arith
+
+-- where row 0 is printed every row is reported: a sheet with a zero in threads, separation, deadline or budget prints no row
+pub printed-rows-are-reported : (s rest : List ℕ) → verdictText s ≡ 0x30 ∷ rest → (i : ℕ) → i < reading s .1 .count → Reported (rowAt (reading s .1) i)
+printed-rows-are-reported s rest t =
+    by-outcome s (read-is-reported s) (λ k p e. absurd (no-row-zero k p rest (sym t ∙ refused-prints-one-line s k p e)))

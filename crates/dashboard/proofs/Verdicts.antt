@@ -79,9 +79,10 @@ ends-in-holds-is-green s t =
 
 green-is-accepted : (s : List ℕ) → greenOf s ≡ true → (reading s .0 ≡ accepted) × (holds passes (reading s .1) ≡ true)
 unfolding greenOf
-green-is-accepted s g =
-    (by-outcome s (λ e. e) (λ k p e. true-not-false (sym (both-left (isAccepted (reading s .0)) (holds passes (reading s .1)) g) ∙ ap isAccepted e)),
-    both-right (isAccepted (reading s .0)) (holds passes (reading s .1)) g)
+green-is-accepted s g = (
+  by-outcome s (λ e. e) (λ k p e. true-not-false (sym (both-left (isAccepted (reading s .0)) (holds passes (reading s .1)) g) ∙ ap isAccepted e)),
+  both-right (isAccepted (reading s .0)) (holds passes (reading s .1)) g,
+)
 
 green-ends-in-holds : (s : List ℕ) → greenOf s ≡ true → LastLine (verdictText s) holdsLine
 green-ends-in-holds s g =

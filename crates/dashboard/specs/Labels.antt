@@ -1,6 +1,6 @@
 -- The labels that stand in the lines.
 use Prim.Native.Nat.{ℕ}
-use mathlib.Core.List.{List, [], _∷_, _++_}
+use mathlib.Core.List.{List, _++_}
 use lib.ListN.{getD, take, drop}
 use Rattle.sheet.specs.Answers.{Part, labelIn}
 use Rattle.bound.specs.Bound.{Word, wordIn}
