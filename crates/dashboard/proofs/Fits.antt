@@ -1,0 +1,135 @@
+-- How long a text can be: any is whole in the buffer that the programs lend.
+-- Assumes nothing.
+use Prim.Native.Nat.{ℕ, zero, suc, _+_, _*_, _≤_, _<_, min}
+use mathlib.Core.Path.{_≡_, refl}
+use mathlib.Core.Bool.{Bool, true, false}
+use mathlib.Core.List.{List, _++_}
+use native.Mathlib.Omega.{arith}
+use native.Mathlib.Nat.{mul-le-mul-right}
+use lib.ListN.{length, drop, length-append, length-take}
+use lib.Seq.{take-all}
+use Rattle.basis.specs.Limits.{mostRows, longestLabel, mostSeparation}
+use Rattle.basis.specs.Refusals.{accepted}
+use Rattle.sheet.specs.Form.{Held, sheet}
+use Rattle.sheet.specs.Legal.{Legal}
+use Rattle.sheet.specs.Answers.{handed, reading, rowsRead}
+use Rattle.sheet.specs.declared.row.Sheet.{Sheet}
+use Rattle.sheet.proofs.Accepted.{accepted-is-legal}
+use Rattle.sheet.proofs.Legality.{legal-is}
+use Rattle.sheet.proofs.Naming.{label-of-row}
+use Rattle.basis.specs.Readers.{Step, ok, refuse}
+use Rattle.bound.specs.Test.{passes}
+use Rattle.bound.specs.Bound.{Word, bound, none, unreached, isBound, valueOf, resultOf, holds}
+use Rattle.bound.proofs.Meaning.{bound-in-range}
+use Rattle.bound.proofs.Judging.{passes-local}
+use Rattle.dashboard.specs.Words.{digits, decimal, mostDigits, boundWord, told, head, line, holdsLine, ending, refusedBy, noVerdict}
+use Rattle.dashboard.specs.Labels.{ownLabel}
+use Rattle.dashboard.specs.Texts.{lines, board, verdictText, referenceText}
+use Rattle.dashboard.specs.Pages.{written}
+use Rattle.dashboard.specs.Longest.{longestLine, longestText, textSize}
+use Rattle.dashboard.proofs.Cases.{reference-is}
+use Rattle.dashboard.proofs.Decimals.{decimal-grows, decimal-is-short}
+use Rattle.dashboard.proofs.Outcomes.{by-outcome, accepted-prints-its-rows, refused-prints-one-line}
+
+-- what the limits have to be: the bound of the longest line is no shorter than the word unreached, and the longest text is no shorter than a refusal
+wide-separation : 5 ≤ length (decimal mostSeparation)
+unfolding decimal digits
+wide-separation = omega arith
+
+refusal-fits : 13 + 2 * mostDigits ≤ longestText
+unfolding longestText longestLine decimal digits
+refusal-fits = omega arith
+
+-- ---- a line
+
+-- a result whose bound is no larger than a separation
+abbrev Small : Word → Type 0
+Small w = isBound w ≡ true → valueOf w .0 ≤ mostSeparation
+
+told-is-short : (w : Word) → Small w → length (told w) ≤ length boundWord + length (decimal mostSeparation)
+unfolding told
+told-is-short (bound r) h = rw length-append (omega (arith, decimal-grows r mostSeparation (h refl)))
+told-is-short none h = omega (arith, wide-separation)
+told-is-short unreached h = omega (arith, wide-separation)
+
+line-is-short : (row : ℕ) (label : List ℕ) (w : Word) → row < mostRows → length label ≤ longestLabel → Small w → length (line row label w) ≤ longestLine
+unfolding line head longestLine
+line-is-short row label w h l s = simp length-append (omega (arith, decimal-grows row mostRows (omega arith), told-is-short w s))
+
+lines-are-short : (label : ℕ → List ℕ) (result : ℕ → Word) (n : ℕ) → n ≤ mostRows → ((i : ℕ) → i < n → length (label i) ≤ longestLabel) → ((i : ℕ) → i < n → Small (result i))
+    → length (lines label result n) ≤ n * longestLine
+unfolding lines
+lines-are-short label result zero m l s = omega arith
+lines-are-short label result (suc n) m l s =
+    rw length-append
+    (omega (
+      arith,
+      lines-are-short label result n (omega arith) (λ i k. l i (omega arith)) (λ i k. s i (omega arith)),
+      line-is-short n (label n) (result n) (omega arith) (l n (omega arith)) (s n (omega arith)),
+    ))
+
+-- ---- a sheet
+
+ending-is-short : (b : Bool) → length (ending b) ≤ length holdsLine
+ending-is-short true = omega arith
+ending-is-short false = omega arith
+
+module _ (label : ℕ → List ℕ) (h : Sheet) (fine : Legal h) where
+  small : (i : ℕ) → i < h .count → Small (resultOf passes h i)
+  small i l e =
+      omega (arith, bound-in-range passes passes-local h i e, fine .rows i l)
+
+  board-is-short : ((i : ℕ) → i < h .count → length (label i) ≤ longestLabel) → length (board label h) ≤ longestText
+  unfolding board longestText
+  board-is-short l =
+      let few : h .count * longestLine ≤ mostRows * longestLine = mul-le-mul-right longestLine (fine .most-rows) in
+      rw length-append (omega (arith, lines-are-short label (resultOf passes h) (h .count) (fine .most-rows) l small, ending-is-short (holds passes h)))
+
+-- the labels of a sheet that was read
+rows-of : (s : List ℕ) → reading s .0 ≡ accepted → rowsRead (sheet s 0) ≡ reading s .1 .count
+rows-of s e = go (sheet s 0) e
+  where
+    go : (x : Step Held) → handed x .0 ≡ accepted → rowsRead x ≡ handed x .1 .count
+    go (ok h n) f = refl
+    go (refuse k p) f = let z : _≡_ {A = ℕ} 0 1 = cc in absurd (omega arith)
+
+own-label-is-short : (s : List ℕ) → reading s .0 ≡ accepted → (i : ℕ) → i < reading s .1 .count → length (ownLabel s i) ≤ longestLabel
+unfolding ownLabel
+own-label-is-short s e i l = rw length-take (omega (arith, label-of-row s i (rw (rows-of s e) l) .short))
+
+no-verdict-is-short : (k p : ℕ) → length (noVerdict k p) ≤ longestText
+unfolding noVerdict refusedBy
+no-verdict-is-short k p = simp length-append (omega (arith, decimal-is-short k, decimal-is-short p, refusal-fits))
+
+-- the text of any bytes is no longer than the longest
+pub verdict-is-short : (s : List ℕ) → length (verdictText s) ≤ longestText
+verdict-is-short s =
+    by-outcome s
+    (λ e. rw (accepted-prints-its-rows s e) (board-is-short (ownLabel s) (reading s .1) (legal-is (reading s .1) (accepted-is-legal s e .0)) (own-label-is-short s e)))
+    (λ k p e. rw (refused-prints-one-line s k p e) (no-verdict-is-short k p))
+
+-- which is 1,094 bytes at these limits
+pub longest-is-1094 : longestText ≡ 1094
+unfolding longestText longestLine decimal digits
+longest-is-1094 = refl
+
+pub longest-fits : longestText ≤ textSize
+unfolding longestText longestLine decimal digits
+longest-fits = omega arith
+
+-- ---- whole in a buffer of the size that the programs lend
+
+whole : (t o : List ℕ) → length t ≤ textSize → textSize ≤ length o → written t o ≡ (t ++ drop (length t) o, length t)
+unfolding written
+whole t o h g =
+    let m : min (length t) (length o) ≡ length t = omega arith in
+    rw (take-all (length o) t (omega arith), m)
+
+pub verdict-is-whole : (s o : List ℕ) → textSize ≤ length o → written (verdictText s) o ≡ (verdictText s ++ drop (length (verdictText s)) o, length (verdictText s))
+verdict-is-whole s o = whole (verdictText s) o (omega (arith, verdict-is-short s, longest-fits))
+
+pub reference-is-short : length referenceText ≤ textSize
+reference-is-short = rw reference-is (omega arith)
+
+pub reference-is-whole : (o : List ℕ) → textSize ≤ length o → written referenceText o ≡ (referenceText ++ drop (length referenceText) o, length referenceText)
+reference-is-whole o = whole referenceText o reference-is-short

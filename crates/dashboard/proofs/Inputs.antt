@@ -1,0 +1,46 @@
+-- The bytes that a program reads decide the text.
+-- Assumes nothing.
+use Prim.Native.Nat.{ℕ, _+_, _≤_, _<_}
+use mathlib.Core.Path.{_≡_, refl, sym, ap, _∙_}
+use mathlib.Core.Logic.{⊎-elim}
+use mathlib.Core.List.{List}
+use native.Mathlib.Omega.{arith}
+use lib.ListN.{length, take}
+use lib.Seq.{take-all}
+use Rattle.basis.specs.Refusals.{Outcome, accepted}
+use Rattle.basis.specs.Readers.{Step, ok, refuse}
+use Rattle.basis.proofs.Words.{lt-or-le}
+use Rattle.numbers.specs.Numbers.{spelt, width}
+use Rattle.sheet.specs.Form.{Held, sheet}
+use Rattle.sheet.specs.Answers.{handed, reading}
+use Rattle.sheet.specs.Longest.{longestRow, longestSheet}
+use Rattle.sheet.specs.declared.row.Sheet.{Sheet}
+use Rattle.sheet.proofs.Reach.{accepted-is-short, first-bytes-decide}
+use Rattle.dashboard.specs.Texts.{verdictText}
+use Rattle.dashboard.specs.Longest.{inputSize}
+use Rattle.dashboard.proofs.Outcomes.{refused-prints-one-line, by-outcome}
+
+-- 871 bytes at these limits
+pub input-is-871 : inputSize ≡ 871
+unfolding inputSize longestSheet longestRow width spelt
+input-is-871 = refl
+
+read-is-short : (s : List ℕ) → reading s .0 ≡ accepted → length s ≤ longestSheet
+read-is-short s e = go (sheet s 0) refl e
+  where
+    go : (x : Step Held) → sheet s 0 ≡ x → handed x .0 ≡ accepted → length s ≤ longestSheet
+    go (ok h n) q f = accepted-is-short s h n q
+    go (refuse k p) q f = let z : _≡_ {A = ℕ} 0 1 = cc in absurd (omega arith)
+
+-- what stands past them changes nothing
+pub first-bytes-decide-the-text : (s : List ℕ) → verdictText (take inputSize s) ≡ verdictText s
+unfolding inputSize
+first-bytes-decide-the-text s = ⊎-elim long (λ h. ap verdictText (take-all (longestSheet + 1) s h)) (lt-or-le (longestSheet + 1) (length s))
+  where
+    long : longestSheet + 1 < length s → verdictText (take (longestSheet + 1) s) ≡ verdictText s
+    long h =
+        by-outcome s
+        (λ e. absurd (omega (arith, read-is-short s e)))
+        (λ k p e.
+        refused-prints-one-line (take (longestSheet + 1) s) k p (ap (λ (a : Outcome × Sheet). a .0) (first-bytes-decide s) ∙ e)
+        ∙ sym (refused-prints-one-line s k p e))

@@ -1,0 +1,14 @@
+pub mod Answered
+pub mod Boards
+pub mod Cases
+pub mod Decimals
+pub mod Fits
+pub mod General
+pub mod Inputs
+pub mod Outcomes
+pub mod Refused
+pub mod Reports
+pub mod Rooms
+pub mod Saying
+pub mod Verdicts
+pub mod Starred

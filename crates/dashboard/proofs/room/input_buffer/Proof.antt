@@ -1,0 +1,14 @@
+-- `input_buffer` meets its promise: its size is computed from the limits. Assumes nothing.
+use mathlib.Core.Path.{refl}
+use Rattle.numbers.specs.Numbers.{spelt, width}
+use Rattle.sheet.specs.Longest.{longestRow, longestSheet}
+use Rattle.dashboard.specs.Longest.{inputSize}
+use Rattle.dashboard.proofs.room.input_buffer.Statement.{statement}
+use Rattle.dashboard.proofs.room.input_buffer.Tie as tie
+
+returns : tie.Need-returns
+unfolding inputSize longestSheet longestRow width spelt
+returns c = refl
+
+pub input-buffer-spec : {M : Type 1} → statement M
+input-buffer-spec = tie.close (tie.spec returns)

@@ -1,0 +1,32 @@
+-- The labels that stand in the lines.
+use Prim.Native.Nat.{ℕ}
+use mathlib.Core.List.{List, _++_}
+use lib.ListN.{getD, take, drop}
+use Rattle.sheet.specs.Answers.{Part, labelIn}
+use Rattle.bound.specs.Bound.{Word, wordIn}
+use Rattle.bound.specs.declared.results.Result.the-variants.{Unreached}
+use Rattle.bound.specs.declared.results.Judged.{Judged}
+use Rattle.dashboard.specs.Words.{decimal}
+use Rattle.dashboard.specs.declared.line.Labels.{Labels}
+use Rattle.dashboard.specs.declared.line.Labels.the-variants.{Own, Numbered}
+
+-- The bytes of a part.
+abbrev pub bytesOf : List ℕ → Part → List ℕ
+bytesOf s p = take (p .long) (drop (p .start) s)
+
+-- The sheet's own label of row i.
+unfoldable pub ownLabel : List ℕ → ℕ → List ℕ
+ownLabel s i = bytesOf s (labelIn s i)
+
+-- Some bytes, and the row number.
+unfoldable pub numbered : List ℕ → ℕ → List ℕ
+numbered s i = s ++ decimal i
+
+-- The label of row i, by where the labels come from.
+unfoldable pub labelBy : Labels → List ℕ → ℕ → List ℕ
+labelBy Own = ownLabel
+labelBy Numbered = numbered
+
+-- The result at place i of the code's array.
+abbrev pub wordAt : List Judged → ℕ → Word
+wordAt rows i = wordIn (getD rows i (record { result = Unreached }))

@@ -1,0 +1,31 @@
+-- The longest text, and the buffers that a program lends.
+use Prim.Native.Nat.{ℕ, _+_, _*_}
+use mathlib.Core.List.{List}
+use lib.ListN.{length, replicate}
+use Rattle.basis.specs.Limits.{mostRows, longestLabel, mostSeparation}
+use Rattle.sheet.specs.Longest.{longestSheet}
+use Rattle.dashboard.specs.Words.{decimal, space, newline, boundWord, holdsLine}
+
+-- The most bytes of a row's line: a row number, the longest label, and a bound of as many digits as the largest separation.
+unfoldable pub longestLine : ℕ
+longestLine = length (decimal mostRows) + length space + longestLabel + length space + (length boundWord + length (decimal mostSeparation)) + length newline
+
+-- The most bytes of a verdict: the most rows, and the last line.
+unfoldable pub longestText : ℕ
+longestText = mostRows * longestLine + length holdsLine
+
+-- How many bytes a program reads: one more than the longest sheet has.
+unfoldable pub inputSize : ℕ
+inputSize = longestSheet + 1
+
+-- The buffer that it reads into.
+abbrev pub inputBuffer : List ℕ
+inputBuffer = replicate inputSize 0
+
+-- The size of the buffer that a program lends for the text.
+abbrev pub textSize : ℕ
+textSize = 8192
+
+-- That buffer.
+abbrev pub textBuffer : List ℕ
+textBuffer = replicate textSize 0

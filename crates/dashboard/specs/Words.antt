@@ -1,0 +1,78 @@
+-- The words of a verdict and its lines, byte for byte.
+use Prim.Native.Nat.{ℕ, zero, suc, _+_, _/_, _%_}
+use mathlib.Core.Bool.{Bool}
+use mathlib.Core.List.{List, [], _∷_, _++_}
+use lib.Dec.{ltb}
+use Rattle.basis.specs.Words.{pick}
+use Rattle.bound.specs.Bound.{Word, bound, none, unreached}
+
+-- The last k decimal digits of n, the highest first, with no zero in front.
+unfoldable pub digits : ℕ → ℕ → List ℕ
+digits zero n = []
+digits (suc k) n = pick (ltb n 10) ((0x30 + n) ∷ []) (digits k (n / 10) ++ ((0x30 + n % 10) ∷ []))
+
+-- No number of the code has more digits.
+abbrev pub mostDigits : ℕ
+mostDigits = 20
+
+-- A number in decimal.
+unfoldable pub decimal : ℕ → List ℕ
+decimal n = digits mostDigits n
+
+-- A space.
+abbrev pub space : List ℕ
+space = 0x20 ∷ []
+
+-- The end of a line.
+abbrev pub newline : List ℕ
+newline = 0x0A ∷ []
+
+-- `bound` and a space.
+abbrev pub boundWord : List ℕ
+boundWord = 0x62 ∷ 0x6F ∷ 0x75 ∷ 0x6E ∷ 0x64 ∷ 0x20 ∷ []
+
+-- `none -`.
+abbrev pub noneWord : List ℕ
+noneWord = 0x6E ∷ 0x6F ∷ 0x6E ∷ 0x65 ∷ 0x20 ∷ 0x2D ∷ []
+
+-- `unreached -`.
+abbrev pub unreachedWord : List ℕ
+unreachedWord = 0x75 ∷ 0x6E ∷ 0x72 ∷ 0x65 ∷ 0x61 ∷ 0x63 ∷ 0x68 ∷ 0x65 ∷ 0x64 ∷ 0x20 ∷ 0x2D ∷ []
+
+-- The word of a result, and the bound or a dash.
+unfoldable pub told : Word → List ℕ
+told (bound r) = boundWord ++ decimal r
+told none = noneWord
+told unreached = unreachedWord
+
+-- The row number and the label, each before a space.
+unfoldable pub head : ℕ → List ℕ → List ℕ
+head row label = decimal row ++ space ++ label ++ space
+
+-- The line of a row: row number, label, word, and the bound or a dash.
+unfoldable pub line : ℕ → List ℕ → Word → List ℕ
+line row label result = head row label ++ told result ++ newline
+
+-- The line `HOLDS`.
+abbrev pub holdsLine : List ℕ
+holdsLine = 0x48 ∷ 0x4F ∷ 0x4C ∷ 0x44 ∷ 0x53 ∷ 0x0A ∷ []
+
+-- The line `FAILS`.
+abbrev pub failsLine : List ℕ
+failsLine = 0x46 ∷ 0x41 ∷ 0x49 ∷ 0x4C ∷ 0x53 ∷ 0x0A ∷ []
+
+-- The last line: whether the sheet holds.
+abbrev pub ending : Bool → List ℕ
+ending holds = pick holds holdsLine failsLine
+
+-- `NO VERDICT` and a space.
+abbrev pub noVerdictWord : List ℕ
+noVerdictWord = 0x4E ∷ 0x4F ∷ 0x20 ∷ 0x56 ∷ 0x45 ∷ 0x52 ∷ 0x44 ∷ 0x49 ∷ 0x43 ∷ 0x54 ∷ 0x20 ∷ []
+
+-- `NO VERDICT` and the number.
+unfoldable pub refusedBy : ℕ → List ℕ
+refusedBy number = noVerdictWord ++ decimal number
+
+-- The one line of a refused sheet: NO VERDICT, number, place.
+unfoldable pub noVerdict : ℕ → ℕ → List ℕ
+noVerdict number place = refusedBy number ++ space ++ decimal place ++ newline

@@ -1,0 +1,11 @@
+// The exact text of a verdict and of the reference, and the buffers for it.
+mod board;
+mod line;
+mod page;
+mod report;
+mod room;
+
+pub use report::write_reference;
+pub use report::write_verdict;
+pub use room::input_buffer;
+pub use room::text_buffer;
