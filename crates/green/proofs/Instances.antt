@@ -18,7 +18,7 @@ use Rattle.machine.specs.Checks.{checkRow, checkReleases, checkState, checkRoom
 use Rattle.machine.specs.Answers.{fresh, given, nextState, nextCodes, slot, slotAt, onward, course, run}
 use Rattle.green.specs.Calls.{freshOf, runDone, history}
 use Rattle.green.specs.Demand.{releaseIn, codeIn, NoJobIsLate}
-use Rattle.green.specs.Wrong.{tight}
+use Rattle.green.specs.Tight.{tight}
 use Rattle.green.proofs.Theorem.{no-job-is-late}
 
 -- no job of these is ever late

@@ -2,4 +2,5 @@ pub mod Calls
 pub mod Demand
 pub mod Green
 pub mod Model
+pub mod Tight
 pub mod Wrong
