@@ -3,5 +3,5 @@ pub mod Labels
 pub mod Texts
 pub mod Pages
 pub mod Longest
-pub mod Lasts
+pub mod Meaning
 pub mod Cases
