@@ -1,7 +1,7 @@
--- The digits of a number: the last and those before it, how many there are, and that each is a digit.
+-- The digits of a number: the last and those before it, how many there are, and what they stand for.
 -- Assumes nothing.
-use Prim.Native.Nat.{ℕ, zero, suc, _+_, _/_, _%_, _^_, _≤_, _<_}
-use mathlib.Core.Path.{_≡_, refl, ap}
+use Prim.Native.Nat.{ℕ, zero, suc, _+_, _-_, _*_, _/_, _%_, _^_, _≤_, _<_}
+use mathlib.Core.Path.{_≡_, refl, ap, _∙_}
 use mathlib.Core.Bool.{Bool, true, false}
 use mathlib.Core.List.{List, [], _∷_, _++_}
 use native.Mathlib.Nat.{pow-succ'}
@@ -11,6 +11,7 @@ use lib.Dec.{ltb}
 use borrow.Author.Tests.{lt-ltb, le-ltb, ltb-true, ltb-false}
 use Rattle.basis.specs.Words.{pick}
 use Rattle.dashboard.specs.Words.{digits, decimal, mostDigits}
+use Rattle.dashboard.specs.Meaning.{valueAfter, value}
 use Rattle.dashboard.specs.Pages.{Page, said}
 use Rattle.dashboard.proofs.Saying.{two-said}
 
@@ -79,3 +80,23 @@ last-digit n =
     by-test n 10
     (λ e l. ([], n, l, simp e))
     (λ e l. (digits 19 (n / 10), n % 10, omega arith, simp e))
+
+-- ---- what the digits stand for
+
+value-more : (n : ℕ) (bs : List ℕ) (d : ℕ) → valueAfter n (bs ++ ((0x30 + d) ∷ [])) ≡ valueAfter n bs * 10 + d
+unfolding valueAfter
+value-more n [] d = omega arith
+value-more n (b ∷ bs) d = value-more (n * 10 + (b - 0x30)) bs d
+
+digits-value : (k n : ℕ) → n < 10 ^ suc k → value (digits (suc k) n) ≡ n
+unfolding digits valueAfter
+digits-value zero n h = simp (lt-ltb n 10 h) (omega arith)
+digits-value (suc k) n h =
+    by-test n 10
+    (λ e l. simp e (omega arith))
+    (λ e l. simp e (value-more 0 (digits (suc k) (n / 10)) (n % 10) ∙ omega (arith, digits-value k (n / 10) (omega (arith, pow-succ' 10 (suc k))))))
+
+-- any number of the code, printed, reads back as itself
+pub decimal-reads-back : (n : ℕ) → n < 2 ^ 64 → value (decimal n) ≡ n
+unfolding decimal
+decimal-reads-back n h = digits-value 19 n (omega arith)

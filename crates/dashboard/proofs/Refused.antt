@@ -18,7 +18,7 @@ use Rattle.bound.proofs.Answers.{legal-is-judged}
 use Rattle.dashboard.specs.Words.{digits, decimal, space, newline, head, line, ending, noVerdictWord, refusedBy, noVerdict}
 use Rattle.dashboard.specs.Labels.{ownLabel}
 use Rattle.dashboard.specs.Texts.{lines, board, verdictText}
-use Rattle.dashboard.specs.Lasts.{Reported, NoVerdict}
+use Rattle.dashboard.specs.Meaning.{Reported, NoVerdict}
 use Rattle.dashboard.proofs.Outcomes.{accepted-prints-its-rows, refused-prints-one-line, by-outcome}
 
 -- the text of a sheet with a row begins with the digit of row 0

@@ -20,7 +20,7 @@ use Rattle.green.proofs.Theorem.{no-job-is-late}
 use Rattle.dashboard.specs.Words.{decimal, space, newline, told, head, line, holdsLine, ending, refusedBy, noVerdict}
 use Rattle.dashboard.specs.Labels.{ownLabel}
 use Rattle.dashboard.specs.Texts.{lines, board, verdictText}
-use Rattle.dashboard.specs.Lasts.{EndsIn, LastLine}
+use Rattle.dashboard.specs.Meaning.{EndsIn, LastLine}
 use Rattle.dashboard.proofs.Decimals.{last-digit}
 use Rattle.dashboard.proofs.General.{ends-same}
 use Rattle.dashboard.proofs.Outcomes.{accepted-prints-its-rows, refused-prints-one-line, by-outcome}

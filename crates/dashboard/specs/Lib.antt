@@ -3,6 +3,6 @@ pub mod Labels
 pub mod Texts
 pub mod Pages
 pub mod Longest
-pub mod Lasts
+pub mod Meaning
 pub mod Cases
 pub mod Starred

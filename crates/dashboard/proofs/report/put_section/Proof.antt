@@ -23,7 +23,7 @@ slice-aggregate-put-board : tie.Need-slice-aggregate-put-board
 slice-aggregate-put-board c = search needs
 
 put-board-requires : tie.Need-put-board-requires
-put-board-requires c κs = search fixed-legal
+put-board-requires c κs = search (fixed-legal, needs)
 
 same-length : tie.Need-same-length
 same-length c = search needs
