@@ -6,6 +6,7 @@ pub mod Histories
 pub mod Instances
 pub mod Invariant
 pub mod Judged
+pub mod Lent
 pub mod Potential
 pub mod Refuted
 pub mod Sheets

@@ -1,6 +1,7 @@
 pub mod Calls
 pub mod Demand
 pub mod Green
+pub mod Lent
 pub mod Model
 pub mod Tight
 pub mod Wrong

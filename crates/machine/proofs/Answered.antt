@@ -21,6 +21,7 @@ use Rattle.machine.specs.declared.state.State.{State}
 use Rattle.machine.specs.States.{noState, freshState, legalState}
 use Rattle.machine.specs.Checks.{needed, checkReleases, checkState, checkRoom, checkSlot, checkRun}
 use Rattle.machine.specs.Answers.{handed, fresh, nextState, nextCodes, slot, notBegun, course, run, Course}
+use Rattle.machine.specs.Lent.{slottedIn}
 use Rattle.machine.proofs.Checked.{needed-holds, Ready, ready}
 
 -- what is handed over says of itself what the checks did
@@ -84,35 +85,46 @@ module _ (h : Sheet) (t : State) (rel cs : List ℕ) (c : Refusal) (e : outcome 
     unfolding slot
     slot-is-accepted u ds eu ed = rw (sym e ∙ ap outcome f, eu, ed)
 
--- `run`
+-- a lent slot that is refused leaves all as found: the state, and every code
+handed-refused : {A : Type 0} (o : Outcome) (x y : A) (a b : ℕ) → handed o x y .0 ≡ refused a b → handed o x y .1 ≡ y
+handed-refused accepted x y a b e = let z : _≡_ {A = ℕ} 0 1 = cc in absurd (omega arith)
+handed-refused (refused c d) x y a b e = refl
+
+pub refused-leaves-all-as-found : (h : Sheet) (t : State) (rel cs : List ℕ) (a b : ℕ) (u : State) (ds : List ℕ) → slottedIn (Refused a b) u ds ≡ slot h t rel cs → (u ≡ t) × (ds ≡ cs)
+unfolding slot
+refused-leaves-all-as-found h t rel cs a b u ds e =
+    let as-found = handed-refused (checkSlot h t rel (length cs)) (nextState h t rel, nextCodes h t rel cs) (t, cs) a b (sym (ap (λ (x : Outcome × (State × List ℕ)). x .0) e)) in
+    (ap (λ (x : Outcome × (State × List ℕ)). x .1 .0) e ∙ ap (λ (x : State × List ℕ). x .0) as-found, ap (λ (x : Outcome × (State × List ℕ)). x .1 .1) e ∙ ap (λ (x : State × List ℕ). x .1) as-found)
+
+-- `run`: what its checks have shown, with so much room for codes
+module _ (h : Sheet) (t : State) (rel : List ℕ) (room : ℕ) (c : Refusal) (e : outcome c ≡ checkRun h t rel room) (f : c ≡ Accepted) where
+  parts : (checkState h t ≡ accepted) × (leb (length rel) room ≡ true)
+  unfolding checkRun checkRoom
+  parts =
+      let (a, b) = both-accepted (checkState h t) _ (sym e ∙ ap outcome f) in
+      let (p, q) = both-accepted (needed (eqb (length rel % h .count) 0) 11) _ b in
+      (a, needed-holds _ 15 q)
+
+  pub run-sheet : legal h ≡ true
+  run-sheet = ready h t (parts .0) .sheet-legal
+
+  pub run-state : legalState h t ≡ true
+  run-state = ready h t (parts .0) .state-legal
+
+  pub run-rows : 0 < h .count
+  run-rows = ready h t (parts .0) .some-rows
+
+  pub run-list : length rel / h .count * h .count ≤ length rel
+  run-list = omega (arith, div-add-mod' (length rel) (h .count))
+
+  pub run-buffer : length rel / h .count * h .count ≤ room
+  run-buffer = omega (arith, div-add-mod' (length rel) (h .count), leb-true (length rel) room (parts .1))
+
 module _ (h : Sheet) (t : State) (rel cs : List ℕ) (c : Refusal) (e : outcome c ≡ checkRun h t rel (length cs)) where
   pub run-is-refused : (a b : ℕ) → c ≡ Refused a b → notBegun (refused a b) t cs ≡ run h t rel cs
   unfolding run
   run-is-refused a b f = rw (sym e ∙ ap outcome f)
 
-  module _ (f : c ≡ Accepted) where
-    parts : (checkState h t ≡ accepted) × (leb (length rel) (length cs) ≡ true)
-    unfolding checkRun checkRoom
-    parts =
-        let (a, b) = both-accepted (checkState h t) _ (sym e ∙ ap outcome f) in
-        let (p, q) = both-accepted (needed (eqb (length rel % h .count) 0) 11) _ b in
-        (a, needed-holds _ 15 q)
-
-    pub run-sheet : legal h ≡ true
-    run-sheet = ready h t (parts .0) .sheet-legal
-
-    pub run-state : legalState h t ≡ true
-    run-state = ready h t (parts .0) .state-legal
-
-    pub run-rows : 0 < h .count
-    run-rows = ready h t (parts .0) .some-rows
-
-    pub run-list : length rel / h .count * h .count ≤ length rel
-    run-list = omega (arith, div-add-mod' (length rel) (h .count))
-
-    pub run-buffer : length rel / h .count * h .count ≤ length cs
-    run-buffer = omega (arith, div-add-mod' (length rel) (h .count), leb-true (length rel) (length cs) (parts .1))
-
-    pub run-is-done : (a : Course) → a ≡ course h rel (notBegun accepted t cs) (length rel / h .count) → a ≡ run h t rel cs
-    unfolding run
-    run-is-done a g = rw (sym e ∙ ap outcome f) g
+  pub run-is-done : c ≡ Accepted → (a : Course) → a ≡ course h rel (notBegun accepted t cs) (length rel / h .count) → a ≡ run h t rel cs
+  unfolding run
+  run-is-done f a g = rw (sym e ∙ ap outcome f) g

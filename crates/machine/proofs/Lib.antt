@@ -2,6 +2,7 @@ pub mod Agree
 pub mod Alike
 pub mod Answered
 pub mod Cases
+pub mod Boxed
 pub mod Checked
 pub mod Codes
 pub mod Courses
@@ -12,6 +13,7 @@ pub mod Jobs
 pub mod Kept
 pub mod Laws
 pub mod Legals
+pub mod Lending
 pub mod Listed
 pub mod Placement
 pub mod Ranges

@@ -14,6 +14,7 @@ use Rattle.machine.specs.declared.slots.Slotted.{Slotted}
 use Rattle.machine.specs.declared.runs.Ran.{Ran}
 use Rattle.machine.specs.declared.margins.Margin.{Margin}
 use Rattle.machine.specs.declared.margins.Margin.the-variants.{NoJob, Is, Refused}
+use Rattle.machine.specs.Lent.{slottedIn}
 use Rattle.machine.specs.Answers.{started, fresh, slotted, slot, Course, ran, run, told, margin}
 
 -- `fresh`
@@ -39,6 +40,18 @@ pub slot-same : (h : Sheet) (t : State) (rel before : List ℕ) (a b : Slotted) 
     → slotted a cs ≡ slot h t rel before → slotted b ds ≡ slot h t rel before → (a ≡ b) × (cs ≡ ds)
 slot-same h t rel before a b cs ds e f = slotted-one-to-one a b cs ds (e ∙ sym f)
 
+-- `slot_in`: the refusal, the lent state and the code buffer after it
+pub slotted-in-one-to-one : (a b : Refusal) (t u : State) (cs ds : List ℕ) → slottedIn a t cs ≡ slottedIn b u ds → (a ≡ b) × (t ≡ u) × (cs ≡ ds)
+slotted-in-one-to-one a b t u cs ds e = (
+  outcome-one-to-one a b (ap (λ (x : Outcome × (State × List ℕ)). x .0) e),
+  ap (λ (x : Outcome × (State × List ℕ)). x .1 .0) e,
+  ap (λ (x : Outcome × (State × List ℕ)). x .1 .1) e,
+)
+
+pub slot-in-same : (h : Sheet) (t : State) (rel before : List ℕ) (a b : Refusal) (t₁ t₂ : State) (cs ds : List ℕ)
+    → slottedIn a t₁ cs ≡ slot h t rel before → slottedIn b t₂ ds ≡ slot h t rel before → (a ≡ b) × (t₁ ≡ t₂) × (cs ≡ ds)
+slot-in-same h t rel before a b t₁ t₂ cs ds e f = slotted-in-one-to-one a b t₁ t₂ cs ds (e ∙ sym f)
+
 -- `run`: the answer, and the code buffer after it
 pub ran-one-to-one : (a b : Ran) (cs ds : List ℕ) → ran a cs ≡ ran b ds → (a ≡ b) × (cs ≡ ds)
 ran-one-to-one a b cs ds e =
@@ -50,6 +63,11 @@ ran-one-to-one a b cs ds e =
 pub run-same : (h : Sheet) (t : State) (rel before : List ℕ) (a b : Ran) (cs ds : List ℕ)
     → ran a cs ≡ run h t rel before → ran b ds ≡ run h t rel before → (a ≡ b) × (cs ≡ ds)
 run-same h t rel before a b cs ds e f = ran-one-to-one a b cs ds (e ∙ sym f)
+
+-- `box_run`: the answer, and the code buffer after it
+pub box-run-same : (h : Sheet) (rel before : List ℕ) (a b : Ran) (cs ds : List ℕ)
+    → ran a cs ≡ run h (fresh h .1) rel before → ran b ds ≡ run h (fresh h .1) rel before → (a ≡ b) × (cs ≡ ds)
+box-run-same h rel before a b cs ds e f = run-same h (fresh h .1) rel before a b cs ds e f
 
 -- `margin`
 pub told-one-to-one : (a b : Margin) → told a ≡ told b → a ≡ b

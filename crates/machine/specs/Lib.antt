@@ -2,5 +2,6 @@ pub mod States
 pub mod Slot
 pub mod Checks
 pub mod Answers
-pub mod Methods
 pub mod Cases
+pub mod Lent
+pub mod Methods

@@ -1,5 +1,6 @@
 // The slot machine: its state, the fresh state, one slot, a run of slots, and the margin of a row.
 mod checks;
+mod lent;
 mod margins;
 mod runs;
 mod slots;
@@ -7,6 +8,8 @@ mod start;
 mod state;
 mod steps;
 
+pub use lent::box_run;
+pub use lent::slot_in;
 pub use margins::Margin;
 pub use runs::Ran;
 pub use slots::Slotted;
