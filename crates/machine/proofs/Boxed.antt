@@ -1,8 +1,8 @@
 -- The box's own loop: what it begins with, a slot on parts of the list and the buffer, and the end of its course.
 -- Assumes nothing.
-use Prim.Native.Nat.{ℕ, zero, suc, _+_, _*_, _-_, _/_, _≤_, _<_}
+use Prim.Native.Nat.{ℕ, _+_, _*_, _-_, _/_, _≤_, _<_, _^_}
 use mathlib.Core.Path.{_≡_, refl, sym, ap, ap₂, subst, _∙_}
-use mathlib.Core.Bool.{Bool, true, false}
+use mathlib.Core.Bool.{true, false}
 use mathlib.Core.List.{List, _++_, append-nil}
 use lib.ListN.{length, take, drop, length-drop, drop-of-length-le}
 use lib.Seq.{take-all}
@@ -16,10 +16,10 @@ use Rattle.machine.specs.declared.state.State.{State}
 use Rattle.machine.specs.declared.start.Started.{Started}
 use Rattle.machine.specs.declared.lent.Begun.{Begun}
 use Rattle.machine.specs.Checks.{checkRun}
-use Rattle.machine.specs.Answers.{started, fresh, handed, slot, entriesOf, behind, slotAt, Course, followed, onward, course, notBegun, runBy, run}
+use Rattle.machine.specs.Answers.{started, fresh, handed, slot, entriesOf, behind, slotAt, Course, course, notBegun, run}
 use Rattle.machine.specs.Lent.{slottedIn, begun, beginning}
 use Rattle.machine.proofs.Answered.{run-list, run-buffer}
-use Rattle.machine.proofs.Courses.{goes-on, stops}
+use Rattle.machine.proofs.Courses.{room-for, goes-on, stops}
 
 -- n entries from a place on
 pub part-of : (at n : ℕ) (l : List ℕ) → take (at + n - at) (drop at l) ≡ take n (drop at l)
@@ -66,6 +66,21 @@ begins h rel cs b e = go (checkRun h (fresh h .1) rel (length cs)) refl e
           going = λ l. absurd (omega (arith, none));
           whole = rw (sym f) (λ i. course h rel (notBegun (g i .0 .0) (g i .1) cs) (g i .0 .1));
         }
+
+-- slot j of so many has its place in the list and in the buffer, and what the code computes of it fits a word
+pub record Place (n j : ℕ) (rel cs now : List ℕ) : Type 0 where
+  pub in-list : j * n + n ≤ length rel
+  pub in-buffer : j * n ≤ length cs
+  pub in-codes : j * n ≤ length now
+  pub small-place : j * n < 2 ^ 64
+  pub small-count : n < 2 ^ 64
+  pub small-rest : length cs - j * n < 2 ^ 64
+
+pub place-of : (n j slots : ℕ) (rel cs now : List ℕ) → j < slots → slots * n ≤ length rel → slots * n ≤ length cs → length now ≡ length cs → length rel < 2 ^ 64 → length cs < 2 ^ 64 → Place n j rel cs now
+place-of n j slots rel cs now l a b e f g =
+    let p : j * n + n ≤ length rel = room-for n j slots (length rel) l a in
+    let q : j * n + n ≤ length cs = room-for n j slots (length cs) l b in
+    record { in-list = p; in-buffer = omega arith; in-codes = omega arith; small-place = omega arith; small-count = omega arith; small-rest = omega arith }
 
 -- a slot of the loop, on its own entries and on the buffer from its place on, is slot j of the list
 pub slot-at-is : (h : Sheet) (t : State) (rel cs : List ℕ) (j : ℕ) (list : List ℕ) → list ≡ entriesOf (h .count) j rel

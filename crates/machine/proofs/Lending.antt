@@ -1,6 +1,6 @@
--- Lending in a walk by hand: the machine values of a state, a sheet and a refusal; a local state that is lent for a lifetime and comes back; the code buffer from a place on, lent in the same way.
+-- What the walks over a lent state share: the machine values of a state, a sheet and a refusal; what a call has told; a local state that is lent for a lifetime and comes back; the code buffer from a place on, lent in the same way.
 -- Assumes `Given`.
-use mathlib.Core.Path.{_≡_, refl, sym, ap, subst, _∙_}
+use mathlib.Core.Path.{_≡_, refl, sym, ap, _∙_}
 use Prim.Native.Nat.{ℕ, _+_, _-_, _≤_}
 use native.Mathlib.Nat.{le-refl}
 use mathlib.Core.List.{List, [], _∷_}
@@ -13,7 +13,8 @@ use base.Logic.{SProp, ent, sep, ex, guard}
 use base.Fml.{Lft, GName, Share, Fml, fat, fsep, flft, fdead, fres, flent}
 use prog.Wp.{Heap}
 use ghost.Atoms.{Atoms, sem}
-use types.Kit.{Given, ‵, _⊛_, some, later, _$_, _∵_, !, qed, move, use1, use2, use3, drop, split, pick, rewrite, fsplit, fjoin, fpick, fpack, feqI, await, updating, now as at-once, show, check, done}
+use contract.Monad.{fact}
+use types.Kit.{Given, ‵, raw, _⊛_, some, given, later, _$_, _∵_, !, qed, move, keep, use1, use2, use3, drop, split, split3, pick, learn, rewrite, fsplit, fjoin, fpick, fpack, feqI, await, updating, now as at-once, show, check, done}
 use types.SemTy.{Body}
 use types.Hole.{here}
 use denote.Laws.{Is, shows}
@@ -22,7 +23,7 @@ use denote.Builtin.{u8}
 use denote.Ref.{RefT, MutRef}
 use denote.Slice.{sliceVal, MutSlice}
 use denote.Lend.{lends-ref, ref-back}
-use denote.Steps.{owned, peeks}
+use denote.Steps.{owned, peeks, heard}
 use denote.Struct.Steps.{spelt}
 use denote.Struct.Laws as LL
 use denote.Enum.Laws as EL
@@ -67,6 +68,23 @@ abbrev pub bare : Lft → ℕ × ℕ → GName → List ℕ → Fml
 bare κ p γ cs = Bare erased κ u8 .own (codesAt p γ cs)
 
 module _ {M : Type 1} (𝓤 : URA M) (H : Heap 𝓤) (A : Atoms 𝓤) (W : Given 𝓤 H A) where
+  -- what a call has told once it has returned: a fact of its answer and of what its parameters had last
+  module _ {X Y : Type 0} (tokens : SProp 𝓤) (own : X → SProp 𝓤) (last : Y → Fml) (φ : X → Y → Type 0) where
+    abbrev pub Returned : SProp 𝓤
+    Returned = H .⇛ (ex 𝓤 (λ (r : X). sep 𝓤 (sep 𝓤 tokens (own r)) (ex 𝓤 (λ (ws : Y). sep 𝓤 (sem 𝓤 H A (last ws)) (fact 𝓤 (φ r ws))))))
+
+    pub answers : ent 𝓤 Returned (H .⇛ (ex 𝓤 (λ (x : X × Y). guard 𝓤 (φ (x .0) (x .1)) (sep 𝓤 tokens (sep 𝓤 (own (x .0)) (sem 𝓤 H A (last (x .1))))))))
+    answers =
+        qed W (later (some (λ (r : X). (raw tokens ⊛ raw (own r)) ⊛ some (λ (ws : Y). ‵ (last ws) ⊛ raw (fact 𝓤 (φ r ws))))) ∷ []) ∵ updating ! $ await ! tt $ pick ! (λ r. split ! $ move ! (1 ∷ []) $ pick ! (λ ws. split ! $ move ! (1 ∷ []) $
+        heard ! (φ r ws) (λ e. at-once ! $ show ! (λ (x : X × Y). guard 𝓤 (φ (x .0) (x .1)) (sep 𝓤 tokens (sep 𝓤 (own (x .0)) (sem 𝓤 H A (last (x .1)))))) (r, ws) $ check ! e $ move ! (1 ∷ []) $ split ! $ done !)))
+
+  -- the same where nothing is wanted of the parameters
+  pub answers-only : {X Y : Type 0} (tokens : SProp 𝓤) (own : X → SProp 𝓤) (last : Y → Fml) (φ : X → Type 0) → ent 𝓤 (Returned tokens own last (λ r _. φ r)) (H .⇛ (ex 𝓤 (λ (r : X). guard 𝓤 (φ r) (sep 𝓤 tokens (own r)))))
+  answers-only {X} {Y} tokens own last φ =
+      qed W (raw (Returned tokens own last (λ r _. φ r)) ∷ []) ∵ updating ! $
+      use1 W (later (some (λ (x : X × Y). given (φ (x .0)) (raw tokens ⊛ raw (own (x .0)) ⊛ ‵ (last (x .1)))))) (answers tokens own last (λ r _. φ r)) $ await ! tt $ pick ! (λ x. learn ! (λ e. split3 ! $
+      at-once ! $ show ! (λ (r : X). guard 𝓤 (φ r) (sep 𝓤 tokens (own r))) (x .0) $ check ! e $ keep ! (0 ∷ 1 ∷ []) $ done !))
+
   -- the state in the local l is lent for κ
   abbrev lentState : Lifetime → Lft → ℕ → State → GName → SProp 𝓤
   lentState ℓ κ l t γ = sep 𝓤 (sem 𝓤 H A (MutRef ℓ κ St.the-row .own (record { ptr = (l, 0); name = γ; now = t }) (vptr l 0 ∷ []))) (A .lent κ (Body (mem St.the-row) l 0 γ))
