@@ -1,18 +1,20 @@
 -- What each function says, from what its calls say.
 -- Assumes nothing.
-use Prim.Native.Nat.{ℕ, zero, suc, _+_, _≤_, _<_}
+use Prim.Native.Nat.{ℕ, zero, suc, _+_, _-_, _≤_, _<_}
 use mathlib.Core.Path.{_≡_, refl, sym, ap, ap₂, _∙_}
 use mathlib.Core.Bool.{Bool, true, false}
 use mathlib.Core.List.{List, _++_}
 use native.Mathlib.Numerals.{add-one}
-use native.Mathlib.Nat.{le-antisymm}
+use native.Mathlib.Nat.{le-antisymm, add-sub-cancel-left}
 use native.Mathlib.Omega.{arith}
-use lib.ListN.{getD, List·getD-map}
+use lib.ListN.{getD, take, drop, List·getD-map}
 use denote.Ref.{RefT}
 use Rattle.basis.specs.Limits.{mostRows}
 use Rattle.sheet.specs.Legal.{legal}
 use Rattle.sheet.proofs.Legality.{legal-is}
-use Rattle.sheet.specs.Answers.{shown, part, labelIn}
+use Rattle.sheet.proofs.Labelled.{label-at}
+use Rattle.sheet.specs.Answers.{shown, part, nowhere, labelIn, labelsIn}
+use Rattle.sheet.specs.declared.labels.Part.{Part}
 use Rattle.sheet.specs.declared.row.Sheet.{Sheet}
 use Rattle.bound.specs.Test.{passes}
 use Rattle.bound.specs.Bound.{Word, unreached, word, wordIn, resultOf, holds, Answer, answer, judged, boundsOf}
@@ -30,11 +32,19 @@ use Rattle.dashboard.proofs.Saying.{two-said}
 
 -- ---- a line
 
+-- what a part of the bytes shows
+pub cut-shown : (s : RefT (List ℕ)) (p : Part) → ((s .ptr .0, p .start + s .ptr .1), take (p .start + p .long - p .start) (drop (p .start) (s .now))) ≡ part s p
+cut-shown s p = rw add-sub-cancel-left refl
+
+-- the label of a row stands at its place among those of all rows
+pub label-taken : (s : List ℕ) (ps : List Part) (i n : ℕ) → n ≤ mostRows → i < n → ps ≡ labelsIn s → getD ps i nowhere ≡ labelIn s i
+label-taken s ps i n h l e = ap (λ (x : List Part). getD x i nowhere) e ∙ label-at s i (omega arith)
+
 module _ (p q : Page) (labels : Labels) (s : RefT (List ℕ)) (i : ℕ) where
   -- the sheet's own label
-  pub own-said : (r : RefT (List ℕ)) → labels ≡ Own → shown r ≡ part s (labelIn (s .now) i) → q ≡ said p (r .now) → q ≡ said p (labelBy labels (s .now) i)
+  pub own-said : (r : RefT (List ℕ)) (l : Part) → labels ≡ Own → l ≡ labelIn (s .now) i → shown r ≡ part s l → q ≡ said p (r .now) → q ≡ said p (labelBy labels (s .now) i)
   unfolding labelBy ownLabel
-  own-said r h l e = rw h (e ∙ ap (λ (x : (ℕ × ℕ) × List ℕ). said p (x .1)) l)
+  own-said r l h k g e = rw h (e ∙ ap (λ (x : (ℕ × ℕ) × List ℕ). said p (x .1)) (g ∙ ap (part s) k))
 
   -- or the bytes and the row number
   pub numbered-said : (r : Page) → labels ≡ Numbered → r ≡ said p (s .now) → q ≡ said r (decimal i) → q ≡ said p (labelBy labels (s .now) i)

@@ -2,7 +2,8 @@
 use Prim.Native.Nat.{ℕ}
 use mathlib.Core.List.{List, _++_}
 use lib.ListN.{getD, take, drop}
-use Rattle.sheet.specs.Answers.{Part, labelIn}
+use Rattle.sheet.specs.Answers.{labelIn}
+use Rattle.sheet.specs.declared.labels.Part.{Part}
 use Rattle.bound.specs.Bound.{Word, wordIn}
 use Rattle.bound.specs.declared.results.Result.the-variants.{Unreached}
 use Rattle.bound.specs.declared.results.Judged.{Judged}

@@ -24,7 +24,7 @@ inputBuffer = replicate inputSize 0
 
 -- The size of the buffer that a program lends for the text.
 abbrev pub textSize : ℕ
-textSize = 8192
+textSize = 1536
 
 -- That buffer.
 abbrev pub textBuffer : List ℕ

@@ -14,7 +14,7 @@ use basis::MOST_ROWS;
 use bound::Judged;
 use sheet::Sheet;
 
-// A line for each of the first rows.
+// A line for each of the first rows; the bytes are read once for all labels.
 fn put_lines(
     text: &mut [u8],
     at: usize,
@@ -26,12 +26,15 @@ fn put_lines(
     requires { ⌜ count ≤ mostRows ⌝ }
     ensures { λ r. ⌜ (now (text .exit), r) ≡ said (now (text .entry), at) (lines (labelBy labels (now (bytes .entry))) (wordAt rows) count) ⌝ }
 {
+    let own = sheet::label_parts(bytes);
+    let parts = own.parts;
     let mut next = at;
     let mut i: usize = 0;
     while i < count {
+        let label = parts[i];
         let judged = rows[i];
         let result = judged.result;
-        next = put_line(text, next, labels, bytes, i, result);
+        next = put_line(text, next, labels, bytes, label, i, result);
         i = i + 1;
     }
     next

@@ -1,5 +1,8 @@
 // The lines of a verdict: a row's, the last one, and that of a refused sheet.
 ghost use mathlib.Core.Path.{_≡_};
+ghost use Prim.Native.Nat.{_+_, _≤_};
+ghost use lib.ListN.{length};
+ghost use Rattle.sheet.specs.Answers.{shown, part, labelIn};
 ghost use Rattle.bound.specs.Bound.{word};
 ghost use Rattle.dashboard.specs.Words.{told, head, line, ending, refusedBy, noVerdict};
 ghost use Rattle.dashboard.specs.Labels.{labelBy};
@@ -8,6 +11,7 @@ use crate::page::put;
 use crate::page::put_bytes;
 use crate::page::put_number;
 use bound::Result;
+use sheet::Part;
 
 // Where the labels of the rows come from.
 pub enum Labels {
@@ -17,12 +21,30 @@ pub enum Labels {
     Numbered,
 }
 
-// The label of a row.
-fn put_label(text: &mut [u8], at: usize, labels: Labels, bytes: &[u8], row: usize) -> usize
+// A label, shown in the bytes themselves.
+fn cut(bytes: &[u8], label: Part) -> &[u8]
+    requires { ⌜ label .start + label .long ≤ length (now bytes) ⌝ }
+    ensures { λ r. ⌜ shown r ≡ part (bytes .entry) label ⌝ }
+{
+    let start = label.start;
+    let end = start + label.long;
+    &bytes[start..end]
+}
+
+// The label of a row; the part is where the bytes, read as a sheet, have it.
+fn put_label(
+    text: &mut [u8],
+    at: usize,
+    labels: Labels,
+    bytes: &[u8],
+    label: Part,
+    row: usize,
+) -> usize
+    requires { ⌜ label ≡ labelIn (now bytes) row ⌝ }
     ensures { λ r. ⌜ (now (text .exit), r) ≡ said (now (text .entry), at) (labelBy labels (now (bytes .entry)) row) ⌝ }
 {
     match labels {
-        Labels::Own => put_bytes(text, at, sheet::label(bytes, row)),
+        Labels::Own => put_bytes(text, at, cut(bytes, label)),
         Labels::Numbered => {
             let next = put_bytes(text, at, bytes);
             put_number(text, next, row as u64)
@@ -31,12 +53,20 @@ fn put_label(text: &mut [u8], at: usize, labels: Labels, bytes: &[u8], row: usiz
 }
 
 // The row number and the label.
-fn put_head(text: &mut [u8], at: usize, labels: Labels, bytes: &[u8], row: usize) -> usize
+fn put_head(
+    text: &mut [u8],
+    at: usize,
+    labels: Labels,
+    bytes: &[u8],
+    label: Part,
+    row: usize,
+) -> usize
+    requires { ⌜ label ≡ labelIn (now bytes) row ⌝ }
     ensures { λ r. ⌜ (now (text .exit), r) ≡ said (now (text .entry), at) (head row (labelBy labels (now (bytes .entry)) row)) ⌝ }
 {
     let a = put_number(text, at, row as u64);
     let b = put(text, a, b' ');
-    let c = put_label(text, b, labels, bytes, row);
+    let c = put_label(text, b, labels, bytes, label, row);
     put(text, c, b' ')
 }
 
@@ -60,12 +90,14 @@ pub(crate) fn put_line(
     at: usize,
     labels: Labels,
     bytes: &[u8],
+    label: Part,
     row: usize,
     result: Result,
 ) -> usize
+    requires { ⌜ label ≡ labelIn (now bytes) row ⌝ }
     ensures { λ r. ⌜ (now (text .exit), r) ≡ said (now (text .entry), at) (line row (labelBy labels (now (bytes .entry)) row) (word result)) ⌝ }
 {
-    let a = put_head(text, at, labels, bytes, row);
+    let a = put_head(text, at, labels, bytes, label, row);
     let b = put_result(text, a, result);
     put(text, b, b'\n')
 }

@@ -1,4 +1,4 @@
--- Equal answers of the reader and of the label.
+-- Equal answers of the reader and of the labels.
 -- Assumes nothing.
 use Prim.Native.Nat.{ℕ}
 use mathlib.Core.Path.{_≡_, sym, ap, ap₂, _∙_}
@@ -7,7 +7,9 @@ use denote.Ref.{RefT}
 use Rattle.basis.specs.Refusals.{Outcome}
 use Rattle.basis.specs.declared.refusal.Refusal.{Refusal}
 use Rattle.basis.proofs.Refusals.{outcome-one-to-one}
-use Rattle.sheet.specs.Answers.{answer, reading, shown, part, labelIn}
+use Rattle.sheet.specs.Answers.{answer, reading, shown, part, labelIn, labelsIn}
+use Rattle.sheet.specs.declared.labels.Part.{Part}
+use Rattle.sheet.specs.declared.labels.Parts.{Parts}
 use Rattle.sheet.specs.declared.row.Sheet.{Sheet}
 use Rattle.sheet.specs.declared.reader.Reading.{Reading}
 
@@ -27,3 +29,11 @@ pub label-same : (s : RefT (List ℕ)) (i : ℕ) (a b : RefT (List ℕ)) → sho
 label-same s i a b e f =
     let g = e ∙ sym f in
     (ap (λ (x : (ℕ × ℕ) × List ℕ). x .0) g, ap (λ (x : (ℕ × ℕ) × List ℕ). x .1) g)
+
+-- of the part that is a label
+pub label-part-same : (s : List ℕ) (i : ℕ) (a b : Part) → a ≡ labelIn s i → b ≡ labelIn s i → a ≡ b
+label-part-same s i a b e f = e ∙ sym f
+
+-- `label_parts`
+pub label-parts-same : (s : List ℕ) (a b : Parts) → a .parts ≡ labelsIn s → b .parts ≡ labelsIn s → a ≡ b
+label-parts-same s a b e f = ap (λ (l : List Part). record { parts = l }) (e ∙ sym f)

@@ -2,18 +2,24 @@
 -- Assumes nothing.
 use mathlib.Core.Path.{_≡_, refl}
 use mathlib.Core.List.{List, [], _∷_}
-use lib.ListN.{take, drop}
+use lib.ListN.{take, drop, replicate}
 use Rattle.basis.specs.Refusals.{refused}
+use Rattle.basis.specs.Upto.{upto}
 use Rattle.basis.specs.Readers.{begins}
 use Rattle.numbers.specs.Numbers.{groups, upTo}
 use Rattle.sheet.specs.Form.{plain, label, entry, entries, body, head, sheet, labelHead}
-use Rattle.sheet.specs.Answers.{noSheet, reading, labelIn}
+use Rattle.sheet.specs.Answers.{noSheet, reading, nowhere, labelIn, labelsIn}
 use Rattle.sheet.specs.Cases.{twoPumps, firstPump, secondPump}
 
 -- two equal labels, each at its own place
 pub two-pumps : (labelIn twoPumps 0 ≡ firstPump) × (labelIn twoPumps 1 ≡ secondPump) × (take 4 (drop 7 twoPumps) ≡ take 4 (drop 16 twoPumps))
 unfolding labelIn labelHead sheet head body entries entry label plain upTo groups begins
 two-pumps = (refl, refl, refl)
+
+-- and both at once, with the empty part for each of the thirty rows that it does not have
+pub both-pumps : labelsIn twoPumps ≡ firstPump ∷ secondPump ∷ replicate 30 nowhere
+unfolding labelsIn upto labelIn labelHead sheet head body entries entry label plain upTo groups begins
+both-pumps = refl
 
 -- 47 53 48 01 01 01 03 20 ends before its label does: 2 at 8, and not 6 at 7
 pub short-label : reading (0x47 ∷ 0x53 ∷ 0x48 ∷ 0x01 ∷ 0x01 ∷ 0x01 ∷ 0x03 ∷ 0x20 ∷ []) ≡ (refused 2 8, noSheet)

@@ -17,7 +17,8 @@ use Rattle.basis.specs.declared.refusal.Refusal.the-variants.{Accepted, Refused
 use Rattle.basis.proofs.Steps.{never-ok, after-ok, ok-same, enough-ok, end-ok, end-stays}
 use Rattle.numbers.specs.Numbers.{upTo}
 use Rattle.sheet.specs.Form.{Entry, Held, plain, label, entry, entries, body, Head, head, sheet, labelHead}
-use Rattle.sheet.specs.Answers.{answer, handed, reading, Part, nowhere, rowsRead, partAfter, labelIn}
+use Rattle.sheet.specs.Answers.{answer, handed, reading, nowhere, rowsRead, partAfter, labelIn}
+use Rattle.sheet.specs.declared.labels.Part.{Part}
 use Rattle.sheet.specs.declared.reader.Reading.{Reading}
 use Rattle.sheet.proofs.Plain.{Plainly, plain-ok}
 

@@ -4,6 +4,7 @@ pub mod Cases
 pub mod Entries
 pub mod Found
 pub mod Heads
+pub mod Labelled
 pub mod Legality
 pub mod Naming
 pub mod Plain

@@ -20,7 +20,8 @@ use Rattle.basis.proofs.Steps.{after-ok, ok-same, passed, byte-ok}
 use Rattle.basis.proofs.Words.{lt-or-le}
 use Rattle.numbers.proofs.Bounds.{bounded}
 use Rattle.sheet.specs.Form.{Entry, Held, isPlain, plain, sheet, labelHead}
-use Rattle.sheet.specs.Answers.{sheetOf, handed, reading, Part, nowhere, rowsRead, partAfter, labelIn}
+use Rattle.sheet.specs.Answers.{sheetOf, handed, reading, nowhere, rowsRead, partAfter, labelIn}
+use Rattle.sheet.specs.declared.labels.Part.{Part}
 use Rattle.sheet.proofs.Found.{labelOf, Lies, Found, found}
 use Rattle.sheet.proofs.Accepted.{read-is-legal}
 
@@ -70,7 +71,7 @@ label-of-row s i l = go (sheet s 0) refl l
         })
     go (refuse k p) e g = absurd (not-suc-le-zero g)
 
-no-label : (s : List ℕ) (i : ℕ) → rowsRead (sheet s 0) ≤ i → labelIn s i ≡ nowhere
+pub no-label : (s : List ℕ) (i : ℕ) → rowsRead (sheet s 0) ≤ i → labelIn s i ≡ nowhere
 unfolding labelIn
 no-label s i l = simp (le-ltb i (rowsRead (sheet s 0)) l)
 

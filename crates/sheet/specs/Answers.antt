@@ -6,10 +6,12 @@ use lib.Dec.{ltb}
 use denote.Ref.{RefT}
 use Rattle.basis.specs.Limits.{mostRows}
 use Rattle.basis.specs.Words.{pick}
+use Rattle.basis.specs.Upto.{upto}
 use Rattle.basis.specs.Refusals.{Outcome, accepted, refused, outcome}
 use Rattle.basis.specs.Readers.{Step, ok, refuse}
-use Rattle.sheet.specs.Form.{Held, rowOf, sheet, labelHead}
+use Rattle.sheet.specs.Form.{Held, rowOf, sheet, labelHead, labelFrom}
 use Rattle.sheet.specs.Legal.{noRow}
+use Rattle.sheet.specs.declared.labels.Part.{Part}
 use Rattle.sheet.specs.declared.row.Row.{Row}
 use Rattle.sheet.specs.declared.row.Sheet.{Sheet}
 use Rattle.sheet.specs.declared.reader.Reading.{Reading}
@@ -43,11 +45,6 @@ handed (refuse number place) = (refused number place, noSheet)
 abbrev pub reading : List ℕ → Outcome × Sheet
 reading s = handed (sheet s 0)
 
--- A part of the bytes: where it starts, and how long it is.
-pub record Part : Type 0 where
-  pub start : ℕ
-  pub long : ℕ
-
 -- The empty part.
 abbrev pub nowhere : Part
 nowhere = record { start = 0; long = 0 }
@@ -65,6 +62,18 @@ partAfter (refuse number place) = nowhere
 -- The label of row i, by a whole reading: the empty part for any refusal, and for a row number n or more.
 unfoldable pub labelIn : List ℕ → ℕ → Part
 labelIn s i = pick (ltb i (rowsRead (sheet s 0))) (partAfter (labelHead i s 0)) nowhere
+
+-- The empty part for each row that a sheet may have.
+abbrev pub noParts : List Part
+noParts = replicate mostRows nowhere
+
+-- The labels of all rows, by a whole reading: of each row its label, and the empty part past the rows.
+unfoldable pub labelsIn : List ℕ → List Part
+labelsIn s = upto mostRows (labelIn s) noParts
+
+-- The same, where what stands before the rows was read: x is what the rows on m processors from here on are read as.
+unfoldable pub partsAfter : ℕ → Step Held → List ℕ → ℕ → List Part
+partsAfter m x s at = upto mostRows (λ i. pick (ltb i (rowsRead x)) (partAfter (labelFrom m i s at)) nowhere) noParts
 
 -- What a lent part shows: where in memory it starts, and its bytes.
 abbrev pub shown : RefT (List ℕ) → (ℕ × ℕ) × List ℕ

@@ -1,7 +1,7 @@
 -- A worked sheet with two equal labels.
 use Prim.Native.Nat.{ℕ}
 use mathlib.Core.List.{List, [], _∷_}
-use Rattle.sheet.specs.Answers.{Part}
+use Rattle.sheet.specs.declared.labels.Part.{Part}
 
 -- Two rows, each with the label pump: sheet E of the table.
 abbrev pub twoPumps : List ℕ

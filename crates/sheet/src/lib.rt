@@ -5,7 +5,11 @@ mod legal;
 mod reader;
 mod row;
 
+pub use labels::Part;
+pub use labels::Parts;
 pub use labels::label;
+pub use labels::label_part;
+pub use labels::label_parts;
 pub use legal::is_legal;
 pub use reader::Reading;
 pub use reader::read;
