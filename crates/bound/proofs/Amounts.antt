@@ -12,6 +12,7 @@ use Rattle.basis.specs.Limits.{mostProcessors, mostSeparation}
 use Rattle.basis.specs.Words.{sum}
 use Rattle.basis.proofs.Sums.{sum-le, sum-most, sum-one-more}
 use Rattle.sheet.specs.Legal.{rowAt, LegalRow, Legal}
+use Rattle.sheet.specs.declared.row.Row.{Row}
 use Rattle.sheet.specs.declared.row.Sheet.{Sheet}
 use Rattle.bound.specs.Quantities.{on, noAmount}
 use Rattle.bound.specs.Test.{q, X, x, W, durationOf, amountOf, amounts, room}
@@ -24,8 +25,16 @@ use Rattle.bound.proofs.Workload.{W-mono}
 -- ---- the row that is judged
 
 module _ (h : Sheet) (k : ℕ) (l : Legal h) (b : k < h .count) where
-  pub threads-fit : rowAt h k .threads ≤ h .processors
-  threads-fit = l .rows k b .most-threads
+  module _ (m : ℕ) (row : Row) (em : m ≡ h .processors) (er : row ≡ rowAt h k) where
+    pub threads-fit : row .threads ≤ m
+    threads-fit = rw (em, er) (l .rows k b .most-threads)
+
+    pub busy-fits : Fits w64 (m - row .threads + 1)
+    busy-fits = omega (arith, l .most-processors)
+
+    pub busy-is : m - row .threads + 1 ≡ q h k
+    unfolding q
+    busy-is = rw (em, er)
 
   pub q-small : q h k ≤ mostProcessors
   unfolding q
@@ -36,13 +45,16 @@ module _ (h : Sheet) (k : ℕ) (l : Legal h) (b : k < h .count) where
     unfolding X
     X-small = omega (arith, l .rows k b, n)
 
-    module _ (a : Duration) (ea : a .0 ≡ L .0 - rowAt h k .budget) where
+    pub window-low : (row : Row) → row ≡ rowAt h k → row .budget ≤ L .0
+    window-low row er = rw er (n .low)
+
+    module _ (row : Row) (er : row ≡ rowAt h k) (a : Duration) (ea : a .0 ≡ L .0 - row .budget) where
       pub window-fits : (m : ℕ) → m ≤ mostSeparation → Fits w64 (a .0 + m)
       window-fits m e = omega (arith, l .rows k b, n)
 
       pub window-is : (w : Duration) → w .0 ≡ a .0 + 1 → w ≡ X h k L
       unfolding X
-      window-is w e = same w (X h k L) (omega arith)
+      window-is w e = same w (X h k L) (omega (arith, ap (λ (z : Row). z .budget) er))
 
     pub window-small : (w : Duration) → w ≡ X h k L → w .0 ≤ mostSeparation
     window-small w e = omega (arith, number e, X-small)
@@ -81,16 +93,17 @@ module _ (h : Sheet) (R : ℕ → Duration) (k : ℕ) (r : Ready h R k) where
   pub length-small : (L : Duration) → Length h k L → L .0 ≤ mostSeparation
   length-small L n = omega (arith, r .legal .rows k (r .below), n)
 
-  pub row-above : (i : ℕ) (v L : Duration) → i < k → v ≡ R i → Length h k L → Above (rowAt h i) v L
-  row-above i v L b e n =
-      record {
+  pub row-above : (i : ℕ) (a : Row) (v L : Duration) → i < k → a ≡ rowAt h i → v ≡ R i → Length h k L → Above a v L
+  row-above i a v L b ea e n =
+      rw ea
+      (record {
         most-threads = omega (arith, row i b, r .legal .most-processors);
         some-budget = row i b .some-budget;
         low = omega (arith, r .low i b, number e);
         high = omega (arith, r .high i b, row i b, number e);
         most-separation = row i b .most-separation;
         most-length = length-small L n;
-      }
+      })
 
   -- ---- sums
 
@@ -108,8 +121,8 @@ module _ (h : Sheet) (R : ℕ → Duration) (k : ℕ) (r : Ready h R k) where
   unfolding amounts sum
   sum-none L s e = same-amount s noAmount e
 
-  module _ (L v w : Duration) (len : Length h k L) (i b : ℕ) (a s : Amount) (ev : v ≡ R i) (ew : w ≡ X h k L) (eb : b ≡ q h k)
-      (ea : a ≡ on (durationOf (rowAt h i) v L w) (min (rowAt h i .threads) b)) (es : s ≡ amounts h R k L i) where
+  module _ (L v w : Duration) (len : Length h k L) (i b : ℕ) (row : Row) (a s : Amount) (er : row ≡ rowAt h i) (ev : v ≡ R i) (ew : w ≡ X h k L) (eb : b ≡ q h k)
+      (ea : a ≡ on (durationOf row v L w) (min (row .threads) b)) (es : s ≡ amounts h R k L i) where
     one : a ≡ amountOf h R k L i
     unfolding amountOf
     one = cc
@@ -121,8 +134,9 @@ module _ (h : Sheet) (R : ℕ → Duration) (k : ℕ) (r : Ready h R k) where
     pub sum-fits : i < k → Fits w64 (s .0 + a .0)
     sum-fits l = omega (arith, more, amounts-small L len (i + 1), r .below, r .legal .most-rows)
 
-    pub sum-more : (t : Amount) → t .0 ≡ s .0 + a .0 → t ≡ amounts h R k L (i + 1)
-    sum-more t e = same-amount t (amounts h R k L (i + 1)) (e ∙ more)
+  pub sum-more : (L v w : Duration) (i b : ℕ) (row : Row) (t a s : Amount) → t .0 ≡ s .0 + a .0 → a ≡ on (durationOf row v L w) (min (row .threads) b)
+      → s ≡ amounts h R k L i → row ≡ rowAt h i → v ≡ R i → w ≡ X h k L → b ≡ q h k → Length h k L → t ≡ amounts h R k L (i + 1)
+  sum-more L v w i b row t a s e ea es er ev ew eb len = same-amount t (amounts h R k L (i + 1)) (e ∙ more L v w len i b row a s er ev ew eb ea es)
 
   pub sum-done : (L : Duration) (i : ℕ) (s : Amount) → s ≡ amounts h R k L i → i ≤ k → k ≤ i → s ≡ amounts h R k L k
   sum-done L i s e a b = let t : i ≡ k = omega arith in rw t at e

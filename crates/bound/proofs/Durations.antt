@@ -38,6 +38,13 @@ fills-within a q = div-mul-le-self a q
 pub fills-most : (a q : ℕ) → 1 ≤ q → a < (a / q + 1) * q
 fills-most a q l = omega (arith, div-add-mod' a q, mod-lt a l)
 
+-- what 32 bits hold fits into 64
+pub rounds-fit : (a p : ℕ) → 1 ≤ p → a ≤ 2 * mostSeparation → Fits w64 (a / p)
+rounds-fit a p l m = omega (arith, div-mul-le-self a p, mul-le-mul-left {m = 1} {n = p} (a / p) l)
+
+pub rest-fits : (a p : ℕ) → 1 ≤ p → p ≤ mostSeparation → Fits w64 (a % p)
+rest-fits a p l m = omega (arith, mod-lt a l)
+
 -- x
 pub span-is : (row : Row) (R L e r : Duration) → e .0 ≡ L .0 + R .0 → r .0 ≡ e .0 - row .budget → r ≡ x row R L
 unfolding x
@@ -53,9 +60,12 @@ spans row R L s a e =
       most-span = omega (arith, a, number e);
     }
 
+pub span-small : (row : Row) (R L s : Duration) → Above row R L → s ≡ x row R L → s .0 ≤ 2 * mostSeparation
+span-small row R L s a e = spans row R L s a e .most-span
+
 -- N and W
 module _ (row : Row) (s : Duration) (f : Spans row s) (n : ℕ) (en : n ≡ s .0 / row .separation) where
-  pub periods-within : n * row .separation ≤ s .0
+  periods-within : n * row .separation ≤ s .0
   periods-within = rw en (div-mul-le-self (s .0) (row .separation))
 
   work-within : n * row .budget ≤ s .0
@@ -64,16 +74,16 @@ module _ (row : Row) (s : Duration) (f : Spans row s) (n : ℕ) (en : n ≡ s .0
   pub jobs-fit : Fits w64 (n * row .budget)
   jobs-fit = omega (arith, work-within, f .most-span)
 
-  pub periods-fit : Fits w64 (n * row .separation)
-  periods-fit = omega (arith, periods-within, f .most-span)
+  rest-is : s .0 % row .separation ≡ s .0 - n * row .separation
+  rest-is = rw en (omega (arith, div-add-mod' (s .0) (row .separation)))
 
   module _ (j l : Duration) (ej : j .0 ≡ n * row .budget) where
     pub work-fits : (z : ℕ) → l .0 ≡ min (row .budget) z → Fits w64 (j .0 + l .0)
     work-fits z e = omega (arith, work-within, f .most-span, f .most-budget, f .most-separation)
 
-    pub work-is : (p r w : Duration) → p .0 ≡ n * row .separation → r .0 ≡ s .0 - p .0 → l .0 ≡ min (row .budget) (r .0) → w .0 ≡ j .0 + l .0 → w ≡ W row s
+    pub work-is : (r w : Duration) → r .0 ≡ s .0 % row .separation → l .0 ≡ min (row .budget) (r .0) → w .0 ≡ j .0 + l .0 → w ≡ W row s
     unfolding W
-    work-is p r w ep er el ew = same w (W row s) (rw (← en) (omega arith))
+    work-is r w er el ew = same w (W row s) (rw (← en) (omega (arith, rest-is)))
 
   pub work-small : W row s .0 ≤ 3 * mostSeparation
   unfolding W

@@ -1,7 +1,7 @@
 -- The smallest number of which a test holds: found, passed over, in range; and the turns of the search.
 -- Assumes nothing.
 use Prim.Native.Nat.{ℕ, zero, suc, _+_, _-_, _≤_, _<_}
-use mathlib.Core.Path.{_≡_, refl, sym, _∙_}
+use mathlib.Core.Path.{_≡_, refl, sym, ap, _∙_}
 use mathlib.Core.Bool.{Bool, true, false}
 use mathlib.Core.Logic.{⊎-elim}
 use native.Mathlib.Nat.{eq-or-lt-of-le}
@@ -9,9 +9,11 @@ use native.Mathlib.Omega.{arith}
 use Rattle.basis.specs.Words.{pick}
 use Rattle.basis.proofs.Words.{lt-or-le}
 use Rattle.sheet.specs.Legal.{rowAt}
+use Rattle.sheet.specs.declared.row.Row.{Row}
 use Rattle.sheet.specs.declared.row.Sheet.{Sheet}
 use Rattle.bound.specs.Test.{passes}
 use Rattle.bound.specs.Bound.{bound, none, unreached, least, passesAt, boundBy}
+use Rattle.bound.specs.Ready.{Length}
 use Rattle.bound.specs.Skipping.{Skips, Says}
 use Rattle.bound.specs.declared.quantity.Duration.{Duration}
 use Rattle.bound.specs.declared.search.Tried.{Tried}
@@ -99,10 +101,19 @@ least-same p s e (suc n) l = rw (e l, least-same p s e n (suc l))
 
 -- ---- the search
 
-module _ (h : Sheet) (R : ℕ → Duration) (k : ℕ) where
-  pub search-starts : least (passesAt passes h R k) (rowAt h k .budget) (rowAt h k .deadline + 1 - rowAt h k .budget) ≡ boundBy passes h R k
+module _ (h : Sheet) (R : ℕ → Duration) (k : ℕ) (row : Row) (er : row ≡ rowAt h k) where
+  pub start-low : rowAt h k .budget ≤ row .budget
+  start-low = rw er (omega arith)
+
+  pub search-starts : least (passesAt passes h R k) (row .budget) (rowAt h k .deadline + 1 - row .budget) ≡ boundBy passes h R k
   unfolding boundBy
-  search-starts = refl
+  search-starts = rw er
+
+  same-deadline : row .deadline ≡ rowAt h k .deadline
+  same-deadline = ap (λ (z : Row). z .deadline) er
+
+  pub length-of-row : (L : Duration) → rowAt h k .budget ≤ L .0 → L .0 ≤ row .deadline → Length h k L
+  length-of-row L a b = record { low = a; high = omega (arith, same-deadline) }
 
   module _ (L : Duration) where
     told-passes : (t : Tried) → Says h R k L t → t ≡ Passes → passes h R k L ≡ true
@@ -113,15 +124,15 @@ module _ (h : Sheet) (R : ℕ → Duration) (k : ℕ) where
     told-next Passes n s e = absurd (let z : _≡_ {A = ℕ} 0 1 = cc in omega arith)
     told-next (Next m) n s e = let z : m ≡ n = cc in rw z at s
 
-    pub search-less : (t : Tried) (n : Duration) → Says h R k L t → t ≡ Next n → L .0 ≤ rowAt h k .deadline → rowAt h k .deadline + 1 - n .0 < rowAt h k .deadline + 1 - L .0
-    search-less t n s e b = omega (arith, told-next t n s e .further)
+    pub search-less : (t : Tried) (n : Duration) → Says h R k L t → t ≡ Next n → L .0 ≤ row .deadline → rowAt h k .deadline + 1 - n .0 < rowAt h k .deadline + 1 - L .0
+    search-less t n s e b = omega (arith, same-deadline, told-next t n s e .further)
 
     pub search-low : (t : Tried) (n : Duration) → Says h R k L t → t ≡ Next n → rowAt h k .budget ≤ L .0 → rowAt h k .budget ≤ n .0
     search-low t n s e b = omega (arith, told-next t n s e .further)
 
     module _ (i : least (passesAt passes h R k) (L .0) (rowAt h k .deadline + 1 - L .0) ≡ boundBy passes h R k) where
-      pub search-found : (t : Tried) → Says h R k L t → t ≡ Passes → L .0 ≤ rowAt h k .deadline → bound (L .0) ≡ boundBy passes h R k
-      search-found t s e b = sym (least-hit (passesAt passes h R k) (L .0) (rowAt h k .deadline + 1) (omega arith) (told-passes t s e)) ∙ i
+      pub search-found : (t : Tried) → Says h R k L t → t ≡ Passes → L .0 ≤ row .deadline → bound (L .0) ≡ boundBy passes h R k
+      search-found t s e b = sym (least-hit (passesAt passes h R k) (L .0) (rowAt h k .deadline + 1) (omega (arith, same-deadline)) (told-passes t s e)) ∙ i
 
       pub search-more : (t : Tried) (n : Duration) → Says h R k L t → t ≡ Next n
           → least (passesAt passes h R k) (n .0) (rowAt h k .deadline + 1 - n .0) ≡ boundBy passes h R k
@@ -129,5 +140,5 @@ module _ (h : Sheet) (R : ℕ → Duration) (k : ℕ) where
           let w = told-next t n s e in
           sym (least-skip (passesAt passes h R k) (n .0 - L .0) (L .0) (n .0) (rowAt h k .deadline + 1) (omega (arith, w .further)) (w .fails)) ∙ i
 
-      pub search-ends : rowAt h k .deadline < L .0 → none ≡ boundBy passes h R k
-      search-ends b = sym (least-none (passesAt passes h R k) (L .0) (rowAt h k .deadline + 1) (omega arith)) ∙ i
+      pub search-ends : row .deadline < L .0 → none ≡ boundBy passes h R k
+      search-ends b = sym (least-none (passesAt passes h R k) (L .0) (rowAt h k .deadline + 1) (omega (arith, same-deadline))) ∙ i

@@ -56,8 +56,8 @@ module _ (h : Sheet) (R : ℕ → Duration) (k : ℕ) (r : Ready h R k) (L : Dur
   unfolding amounts sum
   paces-none = record { width = omega arith; stay = omega arith; grows = λ d l. omega arith }
 
-  module _ (i b g : ℕ) (v w s : Duration) (p t : Pace) (l : i < k) (now : Paces h R k L i p) (ev : v ≡ R i) (ew : w ≡ X h k L) (eb : b ≡ q h k)
-      (es : s ≡ stayOf (rowAt h i) v L w) (eg : g ≡ min (rowAt h i .threads) b) (et : t ≡ joined p g s) where
+  module _ (i b g : ℕ) (a : Row) (v w s : Duration) (p t : Pace) (l : i < k) (now : Paces h R k L i p) (ea : a ≡ rowAt h i) (ev : v ≡ R i) (ew : w ≡ X h k L) (eb : b ≡ q h k)
+      (es : s ≡ stayOf a v L w) (eg : g ≡ min (a .threads) b) (et : t ≡ joined p g s) where
     stay-is : s ≡ stayOf (rowAt h i) (R i) L (X h k L)
     stay-is = cc
 
@@ -79,7 +79,7 @@ module _ (h : Sheet) (R : ℕ → Duration) (k : ℕ) (r : Ready h R k) (L : Dur
     taken-in : Paces h R k L (i + 1) (record { width = p .width + g; stay = lesser (p .stay) s })
     taken-in =
         record {
-          width = omega (arith, now .width, capped-small h k (r .legal) (r .below) b g (rowAt h i .threads) eb eg);
+          width = omega (arith, now .width, capped-small h k (r .legal) (r .below) b g (a .threads) eb eg);
           stay = omega (arith, now .stay);
           grows = λ d m.
               omega (

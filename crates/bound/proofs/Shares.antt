@@ -95,10 +95,10 @@ module _ (h : Sheet) (R : ℕ → Duration) (k : ℕ) (r : Ready h R k) (L : Dur
   pub shares-none : (a : Amount) → a .0 ≡ 0 → Shares h R k L 0 a
   shares-none a e = record { small = omega arith; reached = λ l low high. rw e (omega arith) }
 
-  module _ (i b : ℕ) (v w : Duration) (a c : Amount) (l : i < k) (now : Shares h R k L i a) (ev : v ≡ R i) (ew : w ≡ X h k L) (eb : b ≡ q h k)
-      (ec : c ≡ on (shareOf (rowAt h i) v L w) (min (rowAt h i .threads) b)) where
+  module _ (i b : ℕ) (row : Row) (v w : Duration) (a c : Amount) (l : i < k) (now : Shares h R k L i a) (er : row ≡ rowAt h i) (ev : v ≡ R i) (ew : w ≡ X h k L) (eb : b ≡ q h k)
+      (ec : c ≡ on (shareOf row v L w) (min (row .threads) b)) where
     share-is-of : c .0 ≡ shareOf (rowAt h i) (R i) L (X h k L) .0 * min (rowAt h i .threads) (q h k)
-    share-is-of = number-of ec ∙ rw (ev, ew, eb)
+    share-is-of = number-of ec ∙ rw (er, ev, ew, eb)
 
     share-small : c .0 ≤ mostSeparation * mostProcessors
     unfolding shareOf
@@ -110,13 +110,17 @@ module _ (h : Sheet) (R : ℕ → Duration) (k : ℕ) (r : Ready h R k) (L : Dur
     pub shares-fit : Fits w64 (a .0 + c .0)
     shares-fit = omega (arith, share-small, now .small, r .below, r .legal .most-rows)
 
-    pub shares-more : (d : Amount) → d .0 ≡ a .0 + c .0 → Shares h R k L (i + 1) d
+    one-share-more : (d : Amount) → d .0 ≡ a .0 + c .0 → Shares h R k L (i + 1) d
     unfolding amounts
-    shares-more d ed = record { small = omega (arith, share-small, now .small); reached = reached } where
+    one-share-more d ed = record { small = omega (arith, share-small, now .small); reached = reached } where
       reached : (j : ℕ) → rowAt h k .budget ≤ j → j ≤ L .0 → X h k (slots j) .0 * d .0 ≤ X h k L .0 * amounts h R k (slots j) (i + 1) .0
       reached j low high =
           rw (ed, share-is-of, sum-one-more i (λ n. amountOf h R k (slots j) n .0))
           (omega (arith, now .reached j low high, amount-shares i l j low high))
+
+  pub shares-more : (i b : ℕ) (row : Row) (v w : Duration) (d a c : Amount) → d .0 ≡ a .0 + c .0 → c ≡ on (shareOf row v L w) (min (row .threads) b)
+      → Shares h R k L i a → i < k → row ≡ rowAt h i → v ≡ R i → w ≡ X h k L → b ≡ q h k → Shares h R k L (i + 1) d
+  shares-more i b row v w d a c ed ec now l er ev ew eb = one-share-more i b row v w a c l now er ev ew eb ec d ed
 
   pub shares-done : (i : ℕ) (a : Amount) → Shares h R k L i a → i ≤ k → k ≤ i → Shares h R k L k a
   shares-done i a s m n = let e : i ≡ k = omega arith in rw e at s
@@ -139,10 +143,12 @@ module _ (h : Sheet) (R : ℕ → Duration) (k : ℕ) (r : Ready h R k) (L : Dur
 -- ---- none at once
 
 -- the deadline is a length
-pub deadline-is-length : (h : Sheet) (R : ℕ → Duration) (k : ℕ) → Ready h R k → Length h k (slots (rowAt h k .deadline))
-deadline-is-length h R k r = record { low = r .legal .rows k (r .below) .most-budget; high = omega arith }
+pub deadline-is-length : (h : Sheet) (R : ℕ → Duration) (k : ℕ) (row : Row) → row ≡ rowAt h k → Ready h R k → Length h k (slots (row .deadline))
+deadline-is-length h R k row er r = rw er (record { low = r .legal .rows k (r .below) .most-budget; high = omega arith })
 
-pub none-at-once : (h : Sheet) (R : ℕ → Duration) (k : ℕ) (t : Bool) → LeavesRoom h R k (slots (rowAt h k .deadline)) t → t ≡ false → none ≡ boundBy passes h R k
+pub none-at-once : (h : Sheet) (R : ℕ → Duration) (k : ℕ) (row : Row) (t : Bool) → row ≡ rowAt h k → LeavesRoom h R k (slots (row .deadline)) t → t ≡ false
+    → none ≡ boundBy passes h R k
 unfolding boundBy
-none-at-once h R k true s e = absurd (let z : _≡_ {A = ℕ} 0 1 = cc in omega arith)
-none-at-once h R k false s e = sym (none-is-least (λ l. passes h R k (slots l)) (rowAt h k .budget) (rowAt h k .deadline + 1) (λ j a b. s j a (omega arith)))
+none-at-once h R k row true er s e = absurd (let z : _≡_ {A = ℕ} 0 1 = cc in omega arith)
+none-at-once h R k row false er s e =
+    sym (none-is-least (λ l. passes h R k (slots l)) (rowAt h k .budget) (rowAt h k .deadline + 1) (λ j a b. s j a (omega (arith, ap (λ (z : Row). z .deadline) er))))

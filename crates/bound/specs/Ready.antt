@@ -3,29 +3,39 @@ use Prim.Native.Nat.{ℕ, _*_, _≤_, _<_}
 use mathlib.Core.Path.{_≡_}
 use mathlib.Core.Bool.{Bool}
 use mathlib.Core.List.{List}
-use lib.ListN.{getD, replicate}
+use lib.ListN.{length, replicate}
 use Rattle.basis.specs.Limits.{mostProcessors, mostRows, mostSeparation}
 use Rattle.basis.specs.Words.{allOf}
 use Rattle.basis.specs.Upto.{upto}
 use Rattle.sheet.specs.Legal.{rowAt, Legal}
 use Rattle.sheet.specs.declared.row.Row.{Row}
 use Rattle.sheet.specs.declared.row.Sheet.{Sheet}
+use Rattle.flat.specs.Lists.{numberAt, sheetLong}
 use Rattle.bound.specs.Quantities.{slots}
 use Rattle.bound.specs.Test.{passes}
 use Rattle.bound.specs.Bound.{bounds, bounded, resultOf}
 use Rattle.bound.specs.declared.quantity.Duration.{Duration}
 
--- The bounds that an array holds.
-abbrev pub held : List Duration → ℕ → Duration
-held rs i = getD rs i (slots 0)
+-- The bounds that a list of plain numbers holds.
+abbrev pub heldIn : List ℕ → ℕ → Duration
+heldIn l i = slots (numberAt l i)
 
 -- No bounds yet.
-abbrev pub noBounds : List Duration
-noBounds = replicate mostRows (slots 0)
+abbrev pub noBounds : List ℕ
+noBounds = replicate mostRows 0
+
+-- A sheet's list has room for every row.
+abbrev pub Long : List ℕ → Type 0
+Long l = sheetLong mostRows ≤ length l
+
+-- The two lists that rows are judged by, the sheet's and that of the bounds, have room for every row.
+pub record Lent (l b : List ℕ) : Type 0 where
+  pub sheet-long : Long l
+  pub bounds-long : mostRows ≤ length b
 
 -- The loop over the rows has judged the first k: what it holds are their bounds, and whether each has one.
-pub record SoFar (h : Sheet) (rs : List Duration) (reached : Bool) (k : ℕ) : Type 0 where
-  pub above : rs ≡ upto k (bounds (resultOf passes h)) noBounds
+pub record SoFar (h : Sheet) (rs : List ℕ) (reached : Bool) (k : ℕ) : Type 0 where
+  pub above : rs ≡ upto k (λ i. bounds (resultOf passes h) i .0) noBounds
   pub all : reached ≡ allOf k (bounded (resultOf passes h))
 
 -- Row k of a legal sheet can be judged by these bounds: each above is from C to D.

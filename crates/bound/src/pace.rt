@@ -2,7 +2,8 @@
 ghost use mathlib.Core.Path.{_≡_};
 ghost use Prim.Native.Nat.{_*_, _≤_};
 ghost use Rattle.basis.specs.Limits.{mostProcessors, mostRows};
-ghost use Rattle.bound.specs.Ready.{held, Ready, Length, Above};
+ghost use Rattle.flat.specs.Lists.{sheetIn};
+ghost use Rattle.bound.specs.Ready.{heldIn, Lent, Ready, Length, Above};
 ghost use Rattle.bound.specs.Skipping.{stayOf, joined, Paces, Steep};
 use crate::quantity::Amount;
 use crate::quantity::Duration;
@@ -11,10 +12,9 @@ use crate::test::fewer;
 use crate::test::span_above;
 use crate::test::window_of;
 use crate::test::work_above;
-use basis::MOST_ROWS;
 use basis::MOST_SEPARATION;
+use flat::row_at;
 use sheet::Row;
-use sheet::Sheet;
 
 // Rows whose durations grow by one in each of the next `stay` slots, and the processors that they take together.
 pub struct Pace {
@@ -50,14 +50,9 @@ fn joined(pace: Pace, capped: u64, stay: Duration) -> Pace
 }
 
 // The pace at which the sum of the amounts above row `k` grows from a length on.
-pub(crate) fn pace_above(
-    sheet: Sheet,
-    bounds: [Duration; MOST_ROWS],
-    k: usize,
-    length: Duration,
-) -> Pace
-    requires { ⌜ (Ready sheet (held bounds) k) × (Length sheet k length) ⌝ }
-    ensures { λ r. ⌜ Paces sheet (held bounds) k length k r ⌝ }
+pub(crate) fn pace_above(sheet: &[u64], bounds: &[u64], k: usize, length: Duration) -> Pace
+    requires { ⌜ (Lent (now sheet) (now bounds)) × (Ready (sheetIn (now sheet)) (heldIn (now bounds)) k) × (Length (sheetIn (now sheet)) k length) ⌝ }
+    ensures { λ r. ⌜ Paces (sheetIn (now (sheet .entry))) (heldIn (now (bounds .entry))) k length k r ⌝ }
 {
     let busy = busy_of(sheet, k);
     let window = window_of(sheet, k, length);
@@ -67,8 +62,8 @@ pub(crate) fn pace_above(
     };
     let mut i: usize = 0;
     while i < k {
-        let row = sheet.rows[i];
-        let bound = bounds[i];
+        let row = row_at(sheet, i);
+        let bound = Duration(bounds[i]);
         let stay = stay_of_row(row, bound, length, window);
         let capped = fewer(row.threads, busy);
         pace = joined(pace, capped, stay);

@@ -21,6 +21,14 @@ impl Duration {
         Duration(self.0 + other.0)
     }
 
+    // What is left of it after another, which is no longer.
+    pub(crate) fn after(self, other: Duration) -> Duration
+        requires { ⌜ other .0 ≤ self .0 ⌝ }
+        ensures { λ r. ⌜ r .0 ≡ minus self other .0 ⌝ }
+    {
+        Duration(self.0 - other.0)
+    }
+
     // What it is longer by than another.
     pub(crate) fn minus(self, other: Duration) -> Duration
         ensures { λ r. ⌜ r .0 ≡ minus self other .0 ⌝ }
@@ -67,12 +75,20 @@ impl Duration {
         self.0 / period.0
     }
 
-    // What is left of it after whole periods.
+    // How many times a period goes into it, of slots that 32 bits hold, which are faster to divide.
+    pub(crate) fn rounds(self, period: Duration) -> u64
+        requires { ⌜ (1 ≤ period .0) × (period .0 ≤ mostSeparation) × (self .0 ≤ 2 * mostSeparation) ⌝ }
+        ensures { λ r. ⌜ r ≡ into self period ⌝ }
+    {
+        (self.0 as u32 / period.0 as u32) as u64
+    }
+
+    // What is left of it after whole periods, of slots that 32 bits hold.
     pub(crate) fn left(self, period: Duration) -> Duration
-        requires { ⌜ 1 ≤ period .0 ⌝ }
+        requires { ⌜ (1 ≤ period .0) × (period .0 ≤ mostSeparation) × (self .0 ≤ 2 * mostSeparation) ⌝ }
         ensures { λ r. ⌜ r .0 ≡ left self period .0 ⌝ }
     {
-        Duration(self.0 % period.0)
+        Duration((self.0 as u32 % period.0 as u32) as u64)
     }
 
     // Its amount on so many processors: the only way from a duration to an amount.

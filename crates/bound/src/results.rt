@@ -2,13 +2,14 @@
 ghost use mathlib.Core.Path.{_≡_};
 ghost use Prim.Native.Nat.{_<_};
 ghost use Rattle.sheet.specs.Legal.{Legal};
+ghost use Rattle.flat.specs.Lists.{sheetIn};
 ghost use Rattle.bound.specs.Test.{passes};
 ghost use Rattle.bound.specs.Bound.{isBound, valueOf, wordIn, resultOf, answer, judged, boundsOf};
-ghost use Rattle.bound.specs.Ready.{SoFar};
-use crate::quantity::Duration;
+ghost use Rattle.bound.specs.Ready.{Long, Lent, SoFar};
 use crate::search::bound_of;
 use basis::MOST_ROWS;
 use basis::Refusal;
+use flat::SHEET_LONG;
 use sheet::Sheet;
 
 // The result of a row.
@@ -32,15 +33,15 @@ pub struct Results {
 }
 
 impl Judged {
-    // The bound, as a duration.
-    fn value(self) -> Duration
-        ensures { λ r. ⌜ r .0 ≡ valueOf (wordIn self) .0 ⌝ }
+    // The slots of the bound.
+    fn value(self) -> u64
+        ensures { λ r. ⌜ r ≡ valueOf (wordIn self) .0 ⌝ }
     {
         let result = self.result;
         match result {
-            Result::Unreached => Duration(0),
-            Result::Bound(r) => Duration(r),
-            Result::NoBound => Duration(0),
+            Result::Unreached => 0,
+            Result::Bound(r) => r,
+            Result::NoBound => 0,
         }
     }
 
@@ -58,9 +59,9 @@ impl Judged {
 }
 
 // The result of row `k`, by the bounds above, and whether every row above has one.
-fn judge_row(sheet: Sheet, above: [Duration; MOST_ROWS], k: usize, reached: bool) -> Judged
-    requires { ⌜ (Legal sheet) × (k < sheet .count) × (SoFar sheet above reached k) ⌝ }
-    ensures { λ r. ⌜ wordIn r ≡ resultOf passes sheet k ⌝ }
+fn judge_row(sheet: &[u64], above: &[u64], k: usize, reached: bool) -> Judged
+    requires { ⌜ (Lent (now sheet) (now above)) × (Legal (sheetIn (now sheet))) × (k < sheetIn (now sheet) .count) × (SoFar (sheetIn (now sheet)) (now above) reached k) ⌝ }
+    ensures { λ r. ⌜ wordIn r ≡ resultOf passes (sheetIn (now (sheet .entry))) k ⌝ }
 {
     if reached {
         let result = bound_of(sheet, above, k);
@@ -72,19 +73,19 @@ fn judge_row(sheet: Sheet, above: [Duration; MOST_ROWS], k: usize, reached: bool
 }
 
 // The results of a legal sheet.
-fn judge_rows(sheet: Sheet) -> Results
-    requires { ⌜ Legal sheet ⌝ }
-    ensures { λ r. ⌜ answer r ≡ judged passes sheet ⌝ }
+fn judge_rows(sheet: &[u64]) -> Results
+    requires { ⌜ (Long (now sheet)) × (Legal (sheetIn (now sheet))) ⌝ }
+    ensures { λ r. ⌜ answer r ≡ judged passes (sheetIn (now (sheet .entry))) ⌝ }
 {
     let mut rows = [Judged {
         result: Result::Unreached,
     }; MOST_ROWS];
-    let mut above = [Duration(0); MOST_ROWS];
+    let mut above = [0u64; MOST_ROWS];
     let mut reached = true;
-    let n = sheet.count as usize;
+    let n = flat::count(sheet) as usize;
     let mut i: usize = 0;
     while i < n {
-        let judged = judge_row(sheet, above, i, reached);
+        let judged = judge_row(sheet, &above, i, reached);
         rows[i] = judged;
         above[i] = judged.value();
         reached = judged.is_bound();
@@ -102,7 +103,9 @@ pub fn bounds(sheet: Sheet) -> Results
     ensures { λ r. ⌜ answer r ≡ boundsOf sheet ⌝ }
 {
     if sheet::is_legal(sheet) {
-        return judge_rows(sheet);
+        let mut list = [0u64; SHEET_LONG];
+        flat::put_sheet(&mut list, sheet);
+        return judge_rows(&list);
     }
     let rows = [Judged {
         result: Result::Unreached,

@@ -1,9 +1,10 @@
 // The search for the smallest length that passes.
 ghost use mathlib.Core.Path.{_≡_};
 ghost use mathlib.Core.Bool.{false};
+ghost use Rattle.flat.specs.Lists.{sheetIn};
 ghost use Rattle.bound.specs.Test.{amounts, passes};
 ghost use Rattle.bound.specs.Bound.{word, boundBy};
-ghost use Rattle.bound.specs.Ready.{held, Ready, Length};
+ghost use Rattle.bound.specs.Ready.{heldIn, Lent, Ready, Length};
 ghost use Rattle.bound.specs.Skipping.{Skips, Says};
 use crate::pace::pace_above;
 use crate::pace::steep;
@@ -15,8 +16,7 @@ use crate::test::busy_of;
 use crate::test::passes;
 use crate::test::room_of;
 use crate::test::sum_above;
-use basis::MOST_ROWS;
-use sheet::Sheet;
+use flat::row_at;
 
 // What the trial of a length tells: it passes, or the next length that can.
 pub enum Tried {
@@ -25,15 +25,9 @@ pub enum Tried {
 }
 
 // The first length after one that fails, of which this is the sum, that is not known to fail.
-fn next_length(
-    sheet: Sheet,
-    bounds: [Duration; MOST_ROWS],
-    k: usize,
-    length: Duration,
-    sum: Amount,
-) -> Duration
-    requires { ⌜ (Ready sheet (held bounds) k) × (Length sheet k length) × (sum ≡ amounts sheet (held bounds) k length k) × (passes sheet (held bounds) k length ≡ false) ⌝ }
-    ensures { λ r. ⌜ Skips sheet (held bounds) k length r ⌝ }
+fn next_length(sheet: &[u64], bounds: &[u64], k: usize, length: Duration, sum: Amount) -> Duration
+    requires { ⌜ (Lent (now sheet) (now bounds)) × (Ready (sheetIn (now sheet)) (heldIn (now bounds)) k) × (Length (sheetIn (now sheet)) k length) × (sum ≡ amounts (sheetIn (now sheet)) (heldIn (now bounds)) k length k) × (passes (sheetIn (now sheet)) (heldIn (now bounds)) k length ≡ false) ⌝ }
+    ensures { λ r. ⌜ Skips (sheetIn (now (sheet .entry))) (heldIn (now (bounds .entry))) k length r ⌝ }
 {
     let busy = busy_of(sheet, k);
     let room = room_of(sheet, k, length);
@@ -45,9 +39,9 @@ fn next_length(
 }
 
 // The trial of a length of row `k`.
-fn try_length(sheet: Sheet, bounds: [Duration; MOST_ROWS], k: usize, length: Duration) -> Tried
-    requires { ⌜ (Ready sheet (held bounds) k) × (Length sheet k length) ⌝ }
-    ensures { λ r. ⌜ Says sheet (held bounds) k length r ⌝ }
+fn try_length(sheet: &[u64], bounds: &[u64], k: usize, length: Duration) -> Tried
+    requires { ⌜ (Lent (now sheet) (now bounds)) × (Ready (sheetIn (now sheet)) (heldIn (now bounds)) k) × (Length (sheetIn (now sheet)) k length) ⌝ }
+    ensures { λ r. ⌜ Says (sheetIn (now (sheet .entry))) (heldIn (now (bounds .entry))) k length r ⌝ }
 {
     let sum = sum_above(sheet, bounds, k, length);
     if passes(sheet, k, length, sum) {
@@ -58,11 +52,11 @@ fn try_length(sheet: Sheet, bounds: [Duration; MOST_ROWS], k: usize, length: Dur
 }
 
 // The smallest length of row `k` that passes.
-fn smallest(sheet: Sheet, bounds: [Duration; MOST_ROWS], k: usize) -> Result
-    requires { ⌜ Ready sheet (held bounds) k ⌝ }
-    ensures { λ r. ⌜ word r ≡ boundBy passes sheet (held bounds) k ⌝ }
+fn smallest(sheet: &[u64], bounds: &[u64], k: usize) -> Result
+    requires { ⌜ (Lent (now sheet) (now bounds)) × (Ready (sheetIn (now sheet)) (heldIn (now bounds)) k) ⌝ }
+    ensures { λ r. ⌜ word r ≡ boundBy passes (sheetIn (now (sheet .entry))) (heldIn (now (bounds .entry))) k ⌝ }
 {
-    let row = sheet.rows[k];
+    let row = row_at(sheet, k);
     let deadline = Duration(row.deadline);
     let mut length = Duration(row.budget);
     while length.0 <= deadline.0 {
@@ -76,11 +70,11 @@ fn smallest(sheet: Sheet, bounds: [Duration; MOST_ROWS], k: usize) -> Result
 }
 
 // The bound of row `k`, by the bounds above; none at once where the rows above leave no room up to the deadline.
-pub(crate) fn bound_of(sheet: Sheet, bounds: [Duration; MOST_ROWS], k: usize) -> Result
-    requires { ⌜ Ready sheet (held bounds) k ⌝ }
-    ensures { λ r. ⌜ word r ≡ boundBy passes sheet (held bounds) k ⌝ }
+pub(crate) fn bound_of(sheet: &[u64], bounds: &[u64], k: usize) -> Result
+    requires { ⌜ (Lent (now sheet) (now bounds)) × (Ready (sheetIn (now sheet)) (heldIn (now bounds)) k) ⌝ }
+    ensures { λ r. ⌜ word r ≡ boundBy passes (sheetIn (now (sheet .entry))) (heldIn (now (bounds .entry))) k ⌝ }
 {
-    let row = sheet.rows[k];
+    let row = row_at(sheet, k);
     if leaves_room(sheet, bounds, k, Duration(row.deadline)) {
         return smallest(sheet, bounds, k);
     }

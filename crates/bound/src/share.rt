@@ -2,8 +2,9 @@
 ghost use mathlib.Core.Path.{_≡_};
 ghost use Prim.Native.Nat.{_≤_, min};
 ghost use Rattle.basis.specs.Limits.{mostProcessors, mostSeparation};
+ghost use Rattle.flat.specs.Lists.{sheetIn};
 ghost use Rattle.bound.specs.Quantities.{on};
-ghost use Rattle.bound.specs.Ready.{held, Ready, Length, Above};
+ghost use Rattle.bound.specs.Ready.{heldIn, Lent, Ready, Length, Above};
 ghost use Rattle.bound.specs.Skipping.{shareOf, Shares, LeavesRoom};
 use crate::quantity::Amount;
 use crate::quantity::Duration;
@@ -12,9 +13,8 @@ use crate::test::fewer;
 use crate::test::passes;
 use crate::test::span_above;
 use crate::test::window_of;
-use basis::MOST_ROWS;
+use flat::row_at;
 use sheet::Row;
-use sheet::Sheet;
 
 // The amount of a row above with this bound, by its share: its budget of every separation.
 fn share_above(row: Row, bound: Duration, length: Duration, window: Duration, busy: u64) -> Amount
@@ -30,17 +30,17 @@ fn share_above(row: Row, bound: Duration, length: Duration, window: Duration, bu
 }
 
 // The sum of the amounts above row `k` by their shares.
-fn shares_above(sheet: Sheet, bounds: [Duration; MOST_ROWS], k: usize, length: Duration) -> Amount
-    requires { ⌜ (Ready sheet (held bounds) k) × (Length sheet k length) ⌝ }
-    ensures { λ r. ⌜ Shares sheet (held bounds) k length k r ⌝ }
+fn shares_above(sheet: &[u64], bounds: &[u64], k: usize, length: Duration) -> Amount
+    requires { ⌜ (Lent (now sheet) (now bounds)) × (Ready (sheetIn (now sheet)) (heldIn (now bounds)) k) × (Length (sheetIn (now sheet)) k length) ⌝ }
+    ensures { λ r. ⌜ Shares (sheetIn (now (sheet .entry))) (heldIn (now (bounds .entry))) k length k r ⌝ }
 {
     let busy = busy_of(sheet, k);
     let window = window_of(sheet, k, length);
     let mut sum = Amount::none();
     let mut i: usize = 0;
     while i < k {
-        let row = sheet.rows[i];
-        let bound = bounds[i];
+        let row = row_at(sheet, i);
+        let bound = Duration(bounds[i]);
         let share = share_above(row, bound, length, window, busy);
         sum = sum.plus(share);
         i += 1;
@@ -49,14 +49,9 @@ fn shares_above(sheet: Sheet, bounds: [Duration; MOST_ROWS], k: usize, length: D
 }
 
 // Whether the shares leave room in a length; where they do not, no length up to it passes.
-pub(crate) fn leaves_room(
-    sheet: Sheet,
-    bounds: [Duration; MOST_ROWS],
-    k: usize,
-    length: Duration,
-) -> bool
-    requires { ⌜ (Ready sheet (held bounds) k) × (Length sheet k length) ⌝ }
-    ensures { λ r. ⌜ LeavesRoom sheet (held bounds) k length r ⌝ }
+pub(crate) fn leaves_room(sheet: &[u64], bounds: &[u64], k: usize, length: Duration) -> bool
+    requires { ⌜ (Lent (now sheet) (now bounds)) × (Ready (sheetIn (now sheet)) (heldIn (now bounds)) k) × (Length (sheetIn (now sheet)) k length) ⌝ }
+    ensures { λ r. ⌜ LeavesRoom (sheetIn (now (sheet .entry))) (heldIn (now (bounds .entry))) k length r ⌝ }
 {
     let sum = shares_above(sheet, bounds, k, length);
     passes(sheet, k, length, sum)

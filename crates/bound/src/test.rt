@@ -3,14 +3,15 @@ ghost use mathlib.Core.Path.{_≡_};
 ghost use Prim.Native.Nat.{_≤_, _<_, min};
 ghost use Rattle.basis.specs.Limits.{mostProcessors, mostSeparation};
 ghost use Rattle.sheet.specs.Legal.{Legal};
+ghost use Rattle.flat.specs.Lists.{sheetIn};
 ghost use Rattle.bound.specs.Quantities.{on, less};
 ghost use Rattle.bound.specs.Test.{q, X, x, W, durationOf, amounts, room};
-ghost use Rattle.bound.specs.Ready.{held, Ready, Length, Above, Spans};
+ghost use Rattle.bound.specs.Ready.{heldIn, Long, Lent, Ready, Length, Above, Spans};
 use crate::quantity::Amount;
 use crate::quantity::Duration;
-use basis::MOST_ROWS;
+use flat::processors;
+use flat::row_at;
 use sheet::Row;
-use sheet::Sheet;
 
 // The smaller of two counts.
 pub(crate) fn fewer(a: u64, b: u64) -> u64
@@ -20,21 +21,21 @@ pub(crate) fn fewer(a: u64, b: u64) -> u64
 }
 
 // q, of row `k`.
-pub(crate) fn busy_of(sheet: Sheet, k: usize) -> u64
-    requires { ⌜ (Legal sheet) × (k < sheet .count) ⌝ }
-    ensures { λ r. ⌜ r ≡ q sheet k ⌝ }
+pub(crate) fn busy_of(sheet: &[u64], k: usize) -> u64
+    requires { ⌜ (Long (now sheet)) × (Legal (sheetIn (now sheet))) × (k < sheetIn (now sheet) .count) ⌝ }
+    ensures { λ r. ⌜ r ≡ q (sheetIn (now (sheet .entry))) k ⌝ }
 {
-    let row = sheet.rows[k];
-    sheet.processors - row.threads + 1
+    let row = row_at(sheet, k);
+    processors(sheet) - row.threads + 1
 }
 
 // X, of row `k` and a length.
-pub(crate) fn window_of(sheet: Sheet, k: usize, length: Duration) -> Duration
-    requires { ⌜ (Legal sheet) × (k < sheet .count) × (Length sheet k length) ⌝ }
-    ensures { λ r. ⌜ r ≡ X sheet k length ⌝ }
+pub(crate) fn window_of(sheet: &[u64], k: usize, length: Duration) -> Duration
+    requires { ⌜ (Long (now sheet)) × (Legal (sheetIn (now sheet))) × (k < sheetIn (now sheet) .count) × (Length (sheetIn (now sheet)) k length) ⌝ }
+    ensures { λ r. ⌜ r ≡ X (sheetIn (now (sheet .entry))) k length ⌝ }
 {
-    let row = sheet.rows[k];
-    let before = length.minus(Duration(row.budget));
+    let row = row_at(sheet, k);
+    let before = length.after(Duration(row.budget));
     before.plus(Duration(1))
 }
 
@@ -44,7 +45,7 @@ pub(crate) fn span_above(row: Row, bound: Duration, length: Duration) -> Duratio
     ensures { λ r. ⌜ r ≡ x row bound length ⌝ }
 {
     let end = length.plus(bound);
-    end.minus(Duration(row.budget))
+    end.after(Duration(row.budget))
 }
 
 // W, of a row above in so many slots.
@@ -54,9 +55,9 @@ pub(crate) fn work_above(row: Row, span: Duration) -> Duration
 {
     let budget = Duration(row.budget);
     let separation = Duration(row.separation);
-    let periods = span.into(separation);
+    let periods = span.rounds(separation);
     let jobs = budget.times(periods);
-    let rest = span.minus(separation.times(periods));
+    let rest = span.left(separation);
     jobs.plus(budget.lesser(rest))
 }
 
@@ -81,22 +82,17 @@ fn amount_above(row: Row, bound: Duration, length: Duration, window: Duration, b
 }
 
 // The sum of the amounts of the rows above row `k`, by their bounds.
-pub(crate) fn sum_above(
-    sheet: Sheet,
-    bounds: [Duration; MOST_ROWS],
-    k: usize,
-    length: Duration,
-) -> Amount
-    requires { ⌜ (Ready sheet (held bounds) k) × (Length sheet k length) ⌝ }
-    ensures { λ r. ⌜ r ≡ amounts sheet (held bounds) k length k ⌝ }
+pub(crate) fn sum_above(sheet: &[u64], bounds: &[u64], k: usize, length: Duration) -> Amount
+    requires { ⌜ (Lent (now sheet) (now bounds)) × (Ready (sheetIn (now sheet)) (heldIn (now bounds)) k) × (Length (sheetIn (now sheet)) k length) ⌝ }
+    ensures { λ r. ⌜ r ≡ amounts (sheetIn (now (sheet .entry))) (heldIn (now (bounds .entry))) k length k ⌝ }
 {
     let busy = busy_of(sheet, k);
     let window = window_of(sheet, k, length);
     let mut sum = Amount::none();
     let mut i: usize = 0;
     while i < k {
-        let row = sheet.rows[i];
-        let bound = bounds[i];
+        let row = row_at(sheet, i);
+        let bound = Duration(bounds[i]);
         let amount = amount_above(row, bound, length, window, busy);
         sum = sum.plus(amount);
         i += 1;
@@ -105,9 +101,9 @@ pub(crate) fn sum_above(
 }
 
 // q × X, of row `k` and a length.
-pub(crate) fn room_of(sheet: Sheet, k: usize, length: Duration) -> Amount
-    requires { ⌜ (Legal sheet) × (k < sheet .count) × (Length sheet k length) ⌝ }
-    ensures { λ r. ⌜ r ≡ room sheet k length ⌝ }
+pub(crate) fn room_of(sheet: &[u64], k: usize, length: Duration) -> Amount
+    requires { ⌜ (Long (now sheet)) × (Legal (sheetIn (now sheet))) × (k < sheetIn (now sheet) .count) × (Length (sheetIn (now sheet)) k length) ⌝ }
+    ensures { λ r. ⌜ r ≡ room (sheetIn (now (sheet .entry))) k length ⌝ }
 {
     let busy = busy_of(sheet, k);
     let window = window_of(sheet, k, length);
@@ -116,9 +112,9 @@ pub(crate) fn room_of(sheet: Sheet, k: usize, length: Duration) -> Amount
 }
 
 // Whether a length passes, of which this is the sum.
-pub(crate) fn passes(sheet: Sheet, k: usize, length: Duration, sum: Amount) -> bool
-    requires { ⌜ (Legal sheet) × (k < sheet .count) × (Length sheet k length) ⌝ }
-    ensures { λ r. ⌜ r ≡ less sum (room sheet k length) ⌝ }
+pub(crate) fn passes(sheet: &[u64], k: usize, length: Duration, sum: Amount) -> bool
+    requires { ⌜ (Long (now sheet)) × (Legal (sheetIn (now sheet))) × (k < sheetIn (now sheet) .count) × (Length (sheetIn (now sheet)) k length) ⌝ }
+    ensures { λ r. ⌜ r ≡ less sum (room (sheetIn (now (sheet .entry))) k length) ⌝ }
 {
     let room = room_of(sheet, k, length);
     sum.is_less(room)

@@ -1,7 +1,8 @@
 -- `pace_above` is a pace of the sum: the loop has that of the first i rows. Assumes nothing.
 use borrow.Author.Needs.{needs}
 use Prim.Native.Nat.{_≤_, _-_}
-use Rattle.bound.specs.Ready.{held}
+use Rattle.flat.specs.Lists.{sheetIn}
+use Rattle.bound.specs.Ready.{heldIn}
 use Rattle.bound.specs.Skipping.{Paces}
 use Rattle.bound.proofs.Amounts.{row-above, capped-small}
 use Rattle.bound.proofs.Paces.{paces-none, paces-more, width-small, paces-done}
@@ -9,10 +10,10 @@ use Rattle.bound.proofs.pace.pace_above.Statement.{statement}
 use Rattle.bound.proofs.pace.pace_above.Tie as tie
 
 abbrev Inv-loop : tie.InvT-loop
-Inv-loop k length sheet bounds busy window pace₀ i₀ pace i = (i ≤ k) × (Paces sheet (held bounds) k length i pace)
+Inv-loop sheet bounds k length busy window pace₀ i₀ pace i = (i ≤ k) × (Paces (sheetIn sheet) (heldIn bounds) k length i pace)
 
 abbrev μ-loop : tie.MeasureT-loop
-μ-loop k length sheet bounds busy window pace₀ i₀ pace i = k - i
+μ-loop sheet bounds k length busy window pace₀ i₀ pace i = k - i
 
 busy-of-requires : tie.Need-busy-of-requires Inv-loop μ-loop
 busy-of-requires c κs = search needs
@@ -23,17 +24,14 @@ window-of-requires c κs = search needs
 loop-holds : tie.Need-loop-holds Inv-loop μ-loop
 loop-holds c = (search needs, search paces-none)
 
-mul-row : tie.Need-mul-row Inv-loop μ-loop
-mul-row c = search needs
+row-at-requires : tie.Need-row-at-requires Inv-loop μ-loop
+row-at-requires c κs = search needs
 
-element-copy-out-row : tie.Need-element-copy-out-row Inv-loop μ-loop
-element-copy-out-row c = search needs
+mul-t15 : tie.Need-mul-t15 Inv-loop μ-loop
+mul-t15 c = search needs
 
-mul-bound : tie.Need-mul-bound Inv-loop μ-loop
-mul-bound c = search needs
-
-array-copy-out-bound : tie.Need-array-copy-out-bound Inv-loop μ-loop
-array-copy-out-bound c = search needs
+shared-slice-read-t17 : tie.Need-shared-slice-read-t17 Inv-loop μ-loop
+shared-slice-read-t17 c = search needs
 
 stay-of-row-requires : tie.Need-stay-of-row-requires Inv-loop μ-loop
 stay-of-row-requires c κs = search row-above
@@ -65,10 +63,9 @@ pace-above-spec =
     busy-of-requires
     window-of-requires
     loop-holds
-    mul-row
-    element-copy-out-row
-    mul-bound
-    array-copy-out-bound
+    row-at-requires
+    mul-t15
+    shared-slice-read-t17
     stay-of-row-requires
     fewer-requires
     joined-requires

@@ -1,6 +1,6 @@
 -- `stay_of_row` is how long a row above keeps pace. Assumes nothing.
 use borrow.Author.Needs.{needs}
-use Rattle.bound.proofs.Durations.{spans, stay-fits, stay-is}
+use Rattle.bound.proofs.Durations.{spans, span-small, stay-fits, stay-is}
 use Rattle.bound.proofs.pace.stay_of_row.Statement.{statement}
 use Rattle.bound.proofs.pace.stay_of_row.Tie as tie
 
@@ -11,7 +11,7 @@ work-above-requires : tie.Need-work-above-requires
 work-above-requires c κs = search spans
 
 left-requires : tie.Need-left-requires
-left-requires c κs = search needs
+left-requires c κs = (search needs, search needs, search span-small)
 
 minus-requires : tie.Need-minus-requires
 minus-requires c κs = search needs

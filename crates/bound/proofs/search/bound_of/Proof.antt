@@ -4,14 +4,11 @@ use Rattle.bound.proofs.Shares.{deadline-is-length, none-at-once}
 use Rattle.bound.proofs.search.bound_of.Statement.{statement}
 use Rattle.bound.proofs.search.bound_of.Tie as tie
 
-mul-row : tie.Need-mul-row
-mul-row c = search needs
-
-element-copy-out-row : tie.Need-element-copy-out-row
-element-copy-out-row c = search needs
+row-at-requires : tie.Need-row-at-requires
+row-at-requires c κs = search needs
 
 leaves-room-requires : tie.Need-leaves-room-requires
-leaves-room-requires c κs = (search needs, search deadline-is-length)
+leaves-room-requires c κs = (search needs, search needs, search deadline-is-length)
 
 smallest-requires : tie.Need-smallest-requires
 smallest-requires c κs = search needs
@@ -24,11 +21,4 @@ returns-2 c = search none-at-once
 
 pub bound-of-spec : {M : Type 1} → statement M
 bound-of-spec =
-    tie.close
-    (tie.spec
-    mul-row
-    element-copy-out-row
-    leaves-room-requires
-    smallest-requires
-    returns
-    returns-2)
+    tie.close (tie.spec row-at-requires leaves-room-requires smallest-requires returns returns-2)

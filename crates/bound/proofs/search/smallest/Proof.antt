@@ -4,32 +4,30 @@ use Prim.Native.Nat.{_≤_, _-_, _+_}
 use native.Mathlib.Nat.{le-of-lt}
 use mathlib.Core.Path.{_≡_}
 use Rattle.sheet.specs.Legal.{rowAt}
+use Rattle.flat.specs.Lists.{sheetIn}
 use Rattle.bound.specs.Test.{passes}
 use Rattle.bound.specs.Bound.{least, passesAt, boundBy}
-use Rattle.bound.specs.Ready.{held}
-use Rattle.bound.proofs.Lengths.{search-starts, search-less, search-low, search-found, search-more, search-ends}
+use Rattle.bound.specs.Ready.{heldIn}
+use Rattle.bound.proofs.Lengths.{start-low, search-starts, length-of-row, search-less, search-low, search-found, search-more, search-ends}
 use Rattle.bound.proofs.search.smallest.Statement.{statement}
 use Rattle.bound.proofs.search.smallest.Tie as tie
 
 abbrev Inv-loop : tie.InvT-loop
-Inv-loop bounds k sheet deadline length₀ length =
-    (rowAt sheet k .budget ≤ length .0)
-    × (least (passesAt passes sheet (held bounds) k) (length .0) (rowAt sheet k .deadline + 1 - length .0) ≡ boundBy passes sheet (held bounds) k)
+Inv-loop sheet bounds k deadline length₀ length =
+    (rowAt (sheetIn sheet) k .budget ≤ length .0)
+    × (least (passesAt passes (sheetIn sheet) (heldIn bounds) k) (length .0) (rowAt (sheetIn sheet) k .deadline + 1 - length .0) ≡ boundBy passes (sheetIn sheet) (heldIn bounds) k)
 
 abbrev μ-loop : tie.MeasureT-loop
-μ-loop bounds k sheet deadline length₀ length = rowAt sheet k .deadline + 1 - length .0
+μ-loop sheet bounds k deadline length₀ length = rowAt (sheetIn sheet) k .deadline + 1 - length .0
 
-mul-row : tie.Need-mul-row Inv-loop μ-loop
-mul-row c = search needs
-
-element-copy-out-row : tie.Need-element-copy-out-row Inv-loop μ-loop
-element-copy-out-row c = search needs
+row-at-requires : tie.Need-row-at-requires Inv-loop μ-loop
+row-at-requires c κs = search needs
 
 loop-holds : tie.Need-loop-holds Inv-loop μ-loop
-loop-holds c = (search needs, search search-starts)
+loop-holds c = (search start-low, search search-starts)
 
 try-length-requires : tie.Need-try-length-requires Inv-loop μ-loop
-try-length-requires c κs = search needs
+try-length-requires c κs = (search needs, search needs, search (length-of-row, le-of-lt))
 
 enum-known-tried : tie.Need-enum-known-tried Inv-loop μ-loop
 enum-known-tried c = search needs
@@ -55,8 +53,7 @@ smallest-spec =
     (tie.spec
     Inv-loop
     μ-loop
-    mul-row
-    element-copy-out-row
+    row-at-requires
     loop-holds
     try-length-requires
     enum-known-tried

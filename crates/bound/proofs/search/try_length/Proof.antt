@@ -14,7 +14,7 @@ returns : tie.Need-returns
 returns c = search length-passes
 
 next-length-requires : tie.Need-next-length-requires
-next-length-requires c κs = (search needs, search needs, search needs, search length-fails)
+next-length-requires c κs = (search needs, search needs, search needs, search needs, search length-fails)
 
 returns-2 : tie.Need-returns-2
 returns-2 c = search needs

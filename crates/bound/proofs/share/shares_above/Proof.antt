@@ -1,7 +1,8 @@
 -- `shares_above` has what the rows above reach by their shares: the loop has that of the first i rows. Assumes nothing.
 use borrow.Author.Needs.{needs}
 use Prim.Native.Nat.{_≤_, _-_}
-use Rattle.bound.specs.Ready.{held}
+use Rattle.flat.specs.Lists.{sheetIn}
+use Rattle.bound.specs.Ready.{heldIn}
 use Rattle.bound.specs.Skipping.{Shares}
 use Rattle.bound.proofs.Amounts.{row-above, window-small, busy-small}
 use Rattle.bound.proofs.Shares.{shares-none, shares-fit, shares-more, shares-done}
@@ -9,10 +10,10 @@ use Rattle.bound.proofs.share.shares_above.Statement.{statement}
 use Rattle.bound.proofs.share.shares_above.Tie as tie
 
 abbrev Inv-loop : tie.InvT-loop
-Inv-loop k length sheet bounds busy window sum₀ i₀ sum i = (i ≤ k) × (Shares sheet (held bounds) k length i sum)
+Inv-loop sheet bounds k length busy window sum₀ i₀ sum i = (i ≤ k) × (Shares (sheetIn sheet) (heldIn bounds) k length i sum)
 
 abbrev μ-loop : tie.MeasureT-loop
-μ-loop k length sheet bounds busy window sum₀ i₀ sum i = k - i
+μ-loop sheet bounds k length busy window sum₀ i₀ sum i = k - i
 
 busy-of-requires : tie.Need-busy-of-requires Inv-loop μ-loop
 busy-of-requires c κs = search needs
@@ -26,17 +27,14 @@ none-requires c κs = search needs
 loop-holds : tie.Need-loop-holds Inv-loop μ-loop
 loop-holds c = (search needs, search shares-none)
 
-mul-row : tie.Need-mul-row Inv-loop μ-loop
-mul-row c = search needs
+row-at-requires : tie.Need-row-at-requires Inv-loop μ-loop
+row-at-requires c κs = search needs
 
-element-copy-out-row : tie.Need-element-copy-out-row Inv-loop μ-loop
-element-copy-out-row c = search needs
+mul-t13 : tie.Need-mul-t13 Inv-loop μ-loop
+mul-t13 c = search needs
 
-mul-bound : tie.Need-mul-bound Inv-loop μ-loop
-mul-bound c = search needs
-
-array-copy-out-bound : tie.Need-array-copy-out-bound Inv-loop μ-loop
-array-copy-out-bound c = search needs
+shared-slice-read-t15 : tie.Need-shared-slice-read-t15 Inv-loop μ-loop
+shared-slice-read-t15 c = search needs
 
 share-above-requires : tie.Need-share-above-requires Inv-loop μ-loop
 share-above-requires c κs = (search row-above, search window-small, search busy-small)
@@ -66,10 +64,9 @@ shares-above-spec =
     window-of-requires
     none-requires
     loop-holds
-    mul-row
-    element-copy-out-row
-    mul-bound
-    array-copy-out-bound
+    row-at-requires
+    mul-t13
+    shared-slice-read-t15
     share-above-requires
     plus-requires
     add-i

@@ -7,11 +7,11 @@ use Rattle.bound.proofs.test.span_above.Tie as tie
 plus-requires : tie.Need-plus-requires
 plus-requires c κs = search needs
 
-minus-requires : tie.Need-minus-requires
-minus-requires c κs = search needs
+after-requires : tie.Need-after-requires
+after-requires c κs = search needs
 
 returns : tie.Need-returns
 returns c = search span-is
 
 pub span-above-spec : {M : Type 1} → statement M
-span-above-spec = tie.close (tie.spec plus-requires minus-requires returns)
+span-above-spec = tie.close (tie.spec plus-requires after-requires returns)

@@ -1,0 +1,6 @@
+pub mod Back
+pub mod Cells
+pub mod Filling
+pub mod Handed
+pub mod Places
+pub mod Same
