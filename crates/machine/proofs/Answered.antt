@@ -111,20 +111,20 @@ module _ (h : Sheet) (t : State) (rel : List ℕ) (room : ℕ) (c : Refusal) (e 
   pub run-state : legalState h t ≡ true
   run-state = ready h t (parts .0) .state-legal
 
-  pub run-rows : 0 < h .count
-  run-rows = ready h t (parts .0) .some-rows
+  pub run-rows : (n : ℕ) → n ≡ h .count → 0 < n
+  run-rows n en = omega (arith, ready h t (parts .0) .some-rows)
 
-  pub run-list : length rel / h .count * h .count ≤ length rel
-  run-list = omega (arith, div-add-mod' (length rel) (h .count))
+  pub run-list : (n : ℕ) → length rel / n * n ≤ length rel
+  run-list n = omega (arith, div-add-mod' (length rel) n)
 
-  pub run-buffer : length rel / h .count * h .count ≤ room
-  run-buffer = omega (arith, div-add-mod' (length rel) (h .count), leb-true (length rel) room (parts .1))
+  pub run-buffer : (n : ℕ) → length rel / n * n ≤ room
+  run-buffer n = omega (arith, div-add-mod' (length rel) n, leb-true (length rel) room (parts .1))
 
 module _ (h : Sheet) (t : State) (rel cs : List ℕ) (c : Refusal) (e : outcome c ≡ checkRun h t rel (length cs)) where
   pub run-is-refused : (a b : ℕ) → c ≡ Refused a b → notBegun (refused a b) t cs ≡ run h t rel cs
   unfolding run
   run-is-refused a b f = rw (sym e ∙ ap outcome f)
 
-  pub run-is-done : c ≡ Accepted → (a : Course) → a ≡ course h rel (notBegun accepted t cs) (length rel / h .count) → a ≡ run h t rel cs
+  pub run-is-done : c ≡ Accepted → (n : ℕ) → n ≡ h .count → (a : Course) → a ≡ course h rel (notBegun accepted t cs) (length rel / n) → a ≡ run h t rel cs
   unfolding run
-  run-is-done f a g = rw (sym e ∙ ap outcome f) g
+  run-is-done f n en a g = rw (sym e ∙ ap outcome f) (g ∙ ap (λ (m : ℕ). course h rel (notBegun accepted t cs) (length rel / m)) en)

@@ -53,8 +53,8 @@ begins h rel cs b e = go (checkRun h (fresh h .1) rel (length cs)) refl e
     go accepted f g =
         let slots : length rel / h .count ≡ b .slots = sym (ap (λ x. x .0 .1) g) in
         record {
-          in-list = subst (λ (n : ℕ). n * h .count ≤ length rel) slots (run-list h (fresh h .1) rel (length cs) Accepted f refl);
-          in-buffer = subst (λ (n : ℕ). n * h .count ≤ length cs) slots (run-buffer h (fresh h .1) rel (length cs) Accepted f refl);
+          in-list = subst (λ (n : ℕ). n * h .count ≤ length rel) slots (run-list h (fresh h .1) rel (length cs) Accepted f refl (h .count));
+          in-buffer = subst (λ (n : ℕ). n * h .count ≤ length cs) slots (run-buffer h (fresh h .1) rel (length cs) Accepted f refl (h .count));
           going = λ _. ap (λ x. x .0 .0) g;
           whole = rw (sym f) (λ i. course h rel (notBegun (g i .0 .0) (g i .1) cs) (g i .0 .1));
         }

@@ -28,49 +28,57 @@ use Rattle.machine.proofs.Legals.{legal-state-is, legal-state-says}
 use Rattle.machine.specs.Answers.{nextState, nextCodes, handed, slot, slotted, entriesOf, behind, slotAt, Course, followed, onward, course}
 
 -- slot j of a list
-module _ (h : Sheet) (t : State) (rel cs : List ℕ) (j : ℕ) (fine : legal h ≡ true) (kept : legalState h t ≡ true)
-    (list : j * h .count + h .count ≤ length rel) (buffer : j * h .count + h .count ≤ length cs) where
+module _ (h : Sheet) (t : State) (rel cs : List ℕ) (j n : ℕ) (en : n ≡ h .count) (fine : legal h ≡ true) (kept : legalState h t ≡ true)
+    (list : j * n + n ≤ length rel) (buffer : j * n + n ≤ length cs) where
   pub part-rows : h .count ≤ mostRows
   part-rows = legal-is h fine .most-rows
 
-  part-is : take (j * h .count + h .count - j * h .count) (drop (j * h .count) rel) ≡ entriesOf (h .count) j rel
-  part-is = let e : j * h .count + h .count - j * h .count ≡ h .count = omega arith in ap (λ (n : ℕ). take n (drop (j * h .count) rel)) e
+  part-is : take (j * n + n - j * n) (drop (j * n) rel) ≡ entriesOf n j rel
+  part-is = let e : j * n + n - j * n ≡ n = omega arith in ap (λ (m : ℕ). take m (drop (j * n) rel)) e
 
-  part-long : length (entriesOf (h .count) j rel) ≡ h .count
-  part-long = length-take-le (h .count) (drop (j * h .count) rel) (omega (arith, length-drop (j * h .count) rel))
+  part-long : length (entriesOf n j rel) ≡ n
+  part-long = length-take-le n (drop (j * n) rel) (omega (arith, length-drop (j * n) rel))
 
-  rest-is : take (length cs - j * h .count) (drop (j * h .count) cs) ≡ drop (j * h .count) cs
-  rest-is = take-all (length cs - j * h .count) (drop (j * h .count) cs) (omega (arith, length-drop (j * h .count) cs))
+  rest-is : take (length cs - j * n) (drop (j * n) cs) ≡ drop (j * n) cs
+  rest-is = take-all (length cs - j * n) (drop (j * n) cs) (omega (arith, length-drop (j * n) cs))
 
-  pub part-holds : h .count ≤ length (take (j * h .count + h .count - j * h .count) (drop (j * h .count) rel))
-  part-holds = rw part-is (omega (arith, part-long))
+  pub part-holds : h .count ≤ length (take (j * n + n - j * n) (drop (j * n) rel))
+  part-holds = rw part-is (omega (arith, part-long, en))
 
-  pub rest-holds : h .count ≤ length (take (length cs - j * h .count) (drop (j * h .count) cs))
-  rest-holds = rw rest-is (omega (arith, length-drop (j * h .count) cs))
+  pub rest-holds : h .count ≤ length (take (length cs - j * n) (drop (j * n) cs))
+  rest-holds = rw rest-is (omega (arith, length-drop (j * n) cs, en))
 
-  check-is : checkSlot h t (entriesOf (h .count) j rel) (length (drop (j * h .count) cs)) ≡ checkReleases h t (entriesOf (h .count) j rel)
+  check-is : checkSlot h t (entriesOf n j rel) (length (drop (j * n) cs)) ≡ checkReleases h t (entriesOf n j rel)
   unfolding checkSlot checkState checkRoom
   check-is =
-      rw (fine, kept, eq-eqb (length (entriesOf (h .count) j rel)) (h .count) part-long, le-leb (length (entriesOf (h .count) j rel)) (length (drop (j * h .count) cs)) (omega (arith, part-long, length-drop (j * h .count) cs)))
+      rw (fine, kept, eq-eqb (length (entriesOf n j rel)) (h .count) (part-long ∙ en), le-leb (length (entriesOf n j rel)) (length (drop (j * n) cs)) (omega (arith, part-long, length-drop (j * n) cs)))
 
-  module _ (c : Refusal) (e : outcome c ≡ checkReleases h t (take (j * h .count + h .count - j * h .count) (drop (j * h .count) rel))) where
-    same-outcome : (o : Outcome) → outcome c ≡ o → checkSlot h t (entriesOf (h .count) j rel) (length (drop (j * h .count) cs)) ≡ o
+  slot-here : behind (take (j * n) cs) (slot h t (entriesOf n j rel) (drop (j * n) cs)) ≡ slotAt h t rel cs j
+  unfolding slotAt
+  slot-here = ap (λ (m : ℕ). behind (take (j * m) cs) (slot h t (entriesOf m j rel) (drop (j * m) cs))) en
+
+  module _ (c : Refusal) (e : outcome c ≡ checkReleases h t (take (j * n + n - j * n) (drop (j * n) rel))) where
+    same-outcome : (o : Outcome) → outcome c ≡ o → checkSlot h t (entriesOf n j rel) (length (drop (j * n) cs)) ≡ o
     same-outcome o f = check-is ∙ ap (checkReleases h t) (sym part-is) ∙ sym e ∙ f
 
     pub slot-at-refused : (a b : ℕ) → c ≡ Refused a b → (refused a b, (t, cs)) ≡ slotAt h t rel cs j
-    unfolding slotAt slot
+    unfolding slot
     slot-at-refused a b f =
-        rw (same-outcome (refused a b) (ap outcome f)) (ap (λ (l : List ℕ). (refused a b, (t, l))) (sym (take-append-drop (j * h .count) cs)))
+        let so : (refused a b, (t, cs)) ≡ behind (take (j * n) cs) (slot h t (entriesOf n j rel) (drop (j * n) cs)) =
+        rw (same-outcome (refused a b) (ap outcome f)) (ap (λ (l : List ℕ). (refused a b, (t, l))) (sym (take-append-drop (j * n) cs))) in
+        so ∙ slot-here
 
     pub slot-at-accepted : (u : State) (ds : List ℕ) → c ≡ Accepted
-        → u ≡ nextState h t (take (j * h .count + h .count - j * h .count) (drop (j * h .count) rel))
-        → ds ≡ nextCodes h t (take (j * h .count + h .count - j * h .count) (drop (j * h .count) rel)) (take (length cs - j * h .count) (drop (j * h .count) cs))
-        → (accepted, (u, putMid (j * h .count) (length cs - j * h .count) cs ds)) ≡ slotAt h t rel cs j
-    unfolding slotAt slot
+        → u ≡ nextState h t (take (j * n + n - j * n) (drop (j * n) rel))
+        → ds ≡ nextCodes h t (take (j * n + n - j * n) (drop (j * n) rel)) (take (length cs - j * n) (drop (j * n) cs))
+        → (accepted, (u, putMid (j * n) (length cs - j * n) cs ds)) ≡ slotAt h t rel cs j
+    unfolding slot
     slot-at-accepted u ds f eu ed =
+        let so : (accepted, (u, putMid (j * n) (length cs - j * n) cs ds)) ≡ behind (take (j * n) cs) (slot h t (entriesOf n j rel) (drop (j * n) cs)) =
         rw (same-outcome accepted (ap outcome f))
-        (ap₂ (λ (x : State) (l : List ℕ). (accepted, (x, take (j * h .count) cs ++ l))) (eu ∙ ap (nextState h t) part-is)
-        (ap (λ (l : List ℕ). ds ++ l) (drop-of-length-le (drop (j * h .count) cs) {i = length cs - j * h .count} (omega (arith, length-drop (j * h .count) cs))) ∙ append-nil ds ∙ ed ∙ ap₂ (nextCodes h t) part-is rest-is))
+        (ap₂ (λ (x : State) (l : List ℕ). (accepted, (x, take (j * n) cs ++ l))) (eu ∙ ap (nextState h t) part-is)
+        (ap (λ (l : List ℕ). ds ++ l) (drop-of-length-le (drop (j * n) cs) {i = length cs - j * n} (omega (arith, length-drop (j * n) cs))) ∙ append-nil ds ∙ ed ∙ ap₂ (nextCodes h t) part-is rest-is)) in
+        so ∙ slot-here
 
 -- a part of a run has room where the run has
 pub room-for : (n j slots m : ℕ) → j < slots → slots * n ≤ m → j * n + n ≤ m

@@ -15,6 +15,7 @@ pub mod Laws
 pub mod Legals
 pub mod Lending
 pub mod Listed
+pub mod Lists
 pub mod Placement
 pub mod Ranges
 pub mod Records

@@ -8,6 +8,7 @@ use Rattle.basis.specs.Refusals.{Outcome}
 use Rattle.basis.specs.declared.refusal.Refusal.{Refusal}
 use Rattle.basis.proofs.Refusals.{outcome-one-to-one}
 use Rattle.sheet.specs.declared.row.Sheet.{Sheet}
+use Rattle.flat.specs.Lists.{sheetIn}
 use Rattle.machine.specs.declared.state.State.{State}
 use Rattle.machine.specs.declared.start.Started.{Started}
 use Rattle.machine.specs.declared.slots.Slotted.{Slotted}
@@ -40,6 +41,11 @@ pub slot-same : (h : Sheet) (t : State) (rel before : List ℕ) (a b : Slotted) 
     → slotted a cs ≡ slot h t rel before → slotted b ds ≡ slot h t rel before → (a ≡ b) × (cs ≡ ds)
 slot-same h t rel before a b cs ds e f = slotted-one-to-one a b cs ds (e ∙ sym f)
 
+-- `slot_on`: the same of the sheet in a list
+pub slot-on-same : (sheet : List ℕ) (t : State) (rel before : List ℕ) (a b : Slotted) (cs ds : List ℕ)
+    → slotted a cs ≡ slot (sheetIn sheet) t rel before → slotted b ds ≡ slot (sheetIn sheet) t rel before → (a ≡ b) × (cs ≡ ds)
+slot-on-same sheet t rel before a b cs ds e f = slot-same (sheetIn sheet) t rel before a b cs ds e f
+
 -- `slot_in`: the refusal, the lent state and the code buffer after it
 pub slotted-in-one-to-one : (a b : Refusal) (t u : State) (cs ds : List ℕ) → slottedIn a t cs ≡ slottedIn b u ds → (a ≡ b) × (t ≡ u) × (cs ≡ ds)
 slotted-in-one-to-one a b t u cs ds e = (
@@ -63,6 +69,11 @@ ran-one-to-one a b cs ds e =
 pub run-same : (h : Sheet) (t : State) (rel before : List ℕ) (a b : Ran) (cs ds : List ℕ)
     → ran a cs ≡ run h t rel before → ran b ds ≡ run h t rel before → (a ≡ b) × (cs ≡ ds)
 run-same h t rel before a b cs ds e f = ran-one-to-one a b cs ds (e ∙ sym f)
+
+-- `run_on`: the same of the sheet in a list
+pub run-on-same : (sheet : List ℕ) (t : State) (rel before : List ℕ) (a b : Ran) (cs ds : List ℕ)
+    → ran a cs ≡ run (sheetIn sheet) t rel before → ran b ds ≡ run (sheetIn sheet) t rel before → (a ≡ b) × (cs ≡ ds)
+run-on-same sheet t rel before a b cs ds e f = run-same (sheetIn sheet) t rel before a b cs ds e f
 
 -- `box_run`: the answer, and the code buffer after it
 pub box-run-same : (h : Sheet) (rel before : List ℕ) (a b : Ran) (cs ds : List ℕ)

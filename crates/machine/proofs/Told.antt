@@ -68,8 +68,8 @@ module _ (h : Sheet) (t : State) (k : ℕ) (c : Refusal) (e : outcome c ≡ chec
     pub row-scaled : (size : ℕ) → size ≤ 4096 → Fits w64 (k * size)
     row-scaled size l = record { fits = omega (arith, mul-le-mul {n₁ = k} {m₁ = size} {n₂ = mostRows} {m₂ = 4096} (omega (arith, row-in-array)) l) }
 
-    pub small-deadline : rowAt h k .deadline ≤ mostSeparation
-    small-deadline = omega (arith, row-is .most-deadline, row-is .most-separation)
+    pub small-deadline : (row : Row) → row ≡ rowAt h k → row .deadline ≤ mostSeparation
+    small-deadline row er = rw er (omega (arith, row-is .most-deadline, row-is .most-separation))
 
     pub small-since : recordAt t k .since ≤ mostSeparation
     small-since = omega (arith, row-is .most-separation, record-is .most-since)
@@ -77,6 +77,6 @@ module _ (h : Sheet) (t : State) (k : ℕ) (c : Refusal) (e : outcome c ≡ chec
     pub small-remaining : recordAt t k .remaining ≤ mostSeparation
     small-remaining = omega (arith, row-is .most-budget, row-is .most-deadline, row-is .most-separation, record-is .most-remaining)
 
-    pub margin-is-told : (a : Told) → a ≡ marginAt (rowAt h k) (recordAt t k) → a ≡ margin h t k
+    pub margin-is-told : (row : Row) → row ≡ rowAt h k → (a : Told) → a ≡ marginAt row (recordAt t k) → a ≡ margin h t k
     unfolding margin
-    margin-is-told a g = rw (sym e ∙ ap outcome f) g
+    margin-is-told row er a g = rw (sym e ∙ ap outcome f) (g ∙ ap (λ (r : Row). marginAt r (recordAt t k)) er)

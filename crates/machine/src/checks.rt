@@ -4,12 +4,14 @@ ghost use Prim.Native.Nat.{_≤_};
 ghost use lib.ListN.{length};
 ghost use Rattle.basis.specs.Limits.{mostRows};
 ghost use Rattle.basis.specs.Refusals.{outcome};
+ghost use Rattle.sheet.specs.Legal.{rowAt};
+ghost use Rattle.flat.specs.Lists.{sheetIn};
 ghost use Rattle.machine.specs.Checks.{checkRow, checkReleases, checkState, checkSlot, checkRun, checkMargin};
+use crate::sheets::rows_in;
 use crate::state::RowState;
 use crate::state::State;
 use basis::Refusal;
 use sheet::Row;
-use sheet::Sheet;
 
 // Whether a row may be released for so many slots: 12 before 13.
 fn check_row(row: Row, s: RowState, release: u64, place: usize) -> Refusal
@@ -27,12 +29,24 @@ fn check_row(row: Row, s: RowState, release: u64, place: usize) -> Refusal
     Refusal::Accepted
 }
 
+// The same of a row of the sheet in a list; a row without a release is not looked at.
+fn check_at(sheet: &[u64], s: RowState, release: u64, place: usize) -> Refusal
+    ensures { λ r. ⌜ outcome r ≡ checkRow (rowAt (sheetIn (now (sheet .entry))) place) s release place ⌝ }
+{
+    if release == 0 {
+        return Refusal::Accepted;
+    }
+    let row = flat::row_at(sheet, place);
+    check_row(row, s, release, place)
+}
+
 impl State {
     // 10, then 16.
-    pub(crate) fn check_state(self, sheet: Sheet) -> Refusal
-        ensures { λ r. ⌜ outcome r ≡ checkState sheet self ⌝ }
+    pub(crate) fn check_state(self, sheet: &[u64]) -> Refusal
+        ensures { λ r. ⌜ outcome r ≡ checkState (sheetIn (now (sheet .entry))) self ⌝ }
     {
-        let sheet_fine = sheet::is_legal(sheet);
+        let whole = flat::sheet_in(sheet);
+        let sheet_fine = sheet::is_legal(whole);
         if sheet_fine {
             let state_fine = self.is_legal(sheet);
             if state_fine {
@@ -44,16 +58,15 @@ impl State {
     }
 
     // The releases of a slot, rows from the top.
-    pub(crate) fn check_releases(self, sheet: Sheet, releases: &[u64]) -> Refusal
-        requires { ⌜ (sheet .count ≤ mostRows) × (sheet .count ≤ length (now releases)) ⌝ }
-        ensures { λ r. ⌜ outcome r ≡ checkReleases sheet self (now (releases .entry)) ⌝ }
+    pub(crate) fn check_releases(self, sheet: &[u64], releases: &[u64]) -> Refusal
+        requires { ⌜ (sheetIn (now sheet) .count ≤ mostRows) × (sheetIn (now sheet) .count ≤ length (now releases)) ⌝ }
+        ensures { λ r. ⌜ outcome r ≡ checkReleases (sheetIn (now (sheet .entry))) self (now (releases .entry)) ⌝ }
     {
-        let n = sheet.count as usize;
+        let n = rows_in(sheet);
         let mut i: usize = 0;
         while i < n {
-            let row = sheet.rows[i];
             let s = self.rows[i];
-            let refusal = check_row(row, s, releases[i], i);
+            let refusal = check_at(sheet, s, releases[i], i);
             if let Refusal::Refused(number, place) = refusal {
                 return Refusal::Refused(number, place);
             }
@@ -63,14 +76,14 @@ impl State {
     }
 
     // 10, 16, 11, 15, then the releases.
-    pub(crate) fn check_slot(self, sheet: Sheet, releases: &[u64], room: usize) -> Refusal
-        ensures { λ r. ⌜ outcome r ≡ checkSlot sheet self (now (releases .entry)) room ⌝ }
+    pub(crate) fn check_slot(self, sheet: &[u64], releases: &[u64], room: usize) -> Refusal
+        ensures { λ r. ⌜ outcome r ≡ checkSlot (sheetIn (now (sheet .entry))) self (now (releases .entry)) room ⌝ }
     {
         let first = self.check_state(sheet);
         if let Refusal::Refused(number, place) = first {
             return Refusal::Refused(number, place);
         }
-        let n = sheet.count as usize;
+        let n = rows_in(sheet);
         if releases.len() != n {
             return Refusal::Refused(11, 0);
         }
@@ -81,14 +94,14 @@ impl State {
     }
 
     // 10, 16, 11, 15 over the whole list.
-    pub(crate) fn check_run(self, sheet: Sheet, releases: &[u64], room: usize) -> Refusal
-        ensures { λ r. ⌜ outcome r ≡ checkRun sheet self (now (releases .entry)) room ⌝ }
+    pub(crate) fn check_run(self, sheet: &[u64], releases: &[u64], room: usize) -> Refusal
+        ensures { λ r. ⌜ outcome r ≡ checkRun (sheetIn (now (sheet .entry))) self (now (releases .entry)) room ⌝ }
     {
         let refusal = self.check_state(sheet);
         if let Refusal::Refused(number, place) = refusal {
             return Refusal::Refused(number, place);
         }
-        let n = sheet.count as usize;
+        let n = rows_in(sheet);
         let entries = releases.len();
         if entries % n != 0 {
             return Refusal::Refused(11, 0);
@@ -100,14 +113,14 @@ impl State {
     }
 
     // 10, 16, 14.
-    pub(crate) fn check_margin(self, sheet: Sheet, row: usize) -> Refusal
-        ensures { λ r. ⌜ outcome r ≡ checkMargin sheet self row ⌝ }
+    pub(crate) fn check_margin(self, sheet: &[u64], row: usize) -> Refusal
+        ensures { λ r. ⌜ outcome r ≡ checkMargin (sheetIn (now (sheet .entry))) self row ⌝ }
     {
         let refusal = self.check_state(sheet);
         if let Refusal::Refused(number, place) = refusal {
             return Refusal::Refused(number, place);
         }
-        let n = sheet.count as usize;
+        let n = rows_in(sheet);
         if n <= row {
             return Refusal::Refused(14, 0);
         }

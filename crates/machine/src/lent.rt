@@ -2,9 +2,12 @@
 ghost use mathlib.Core.Path.{_≡_};
 ghost use Prim.Native.Nat.{_+_, _≤_};
 ghost use lib.ListN.{length, take, drop};
+ghost use Rattle.basis.specs.Refusals.{outcome};
+ghost use Rattle.machine.specs.Checks.{checkRun};
 ghost use Rattle.machine.specs.Answers.{slot, fresh, ran, run};
 ghost use Rattle.machine.specs.Lent.{slottedIn, begun, beginning};
 use crate::runs::Ran;
+use crate::sheets::listed;
 use crate::start::fresh;
 use crate::state::State;
 use basis::Refusal;
@@ -26,13 +29,21 @@ struct Begun {
     slots: usize,
 }
 
+// The checks of a run, on a sheet by value.
+fn check_whole(state: State, sheet: Sheet, releases: &[u64], room: usize) -> Refusal
+    ensures { λ r. ⌜ outcome r ≡ checkRun sheet state (now (releases .entry)) room ⌝ }
+{
+    let list = listed(sheet);
+    state.check_run(&list, releases, room)
+}
+
 // The checks of a run from the fresh state; where they refuse there is no slot to do.
 fn begin(sheet: Sheet, releases: &[u64], room: usize) -> Begun
     ensures { λ r. ⌜ begun r ≡ beginning sheet (now (releases .entry)) room ⌝ }
 {
     let started = fresh(sheet);
     let state = started.state;
-    let refusal = state.check_run(sheet, releases, room);
+    let refusal = check_whole(state, sheet, releases, room);
     match refusal {
         Refusal::Refused(number, place) => Begun {
             refusal: Refusal::Refused(number, place),

@@ -3,6 +3,7 @@ mod checks;
 mod lent;
 mod margins;
 mod runs;
+mod sheets;
 mod slots;
 mod start;
 mod state;

@@ -2,7 +2,9 @@
 ghost use mathlib.Core.Path.{_≡_};
 ghost use Prim.Native.Nat.{_≤_};
 ghost use Rattle.basis.specs.Limits.{mostSeparation};
+ghost use Rattle.flat.specs.Lists.{sheetIn};
 ghost use Rattle.machine.specs.Answers.{told, marginAt, margin};
+use crate::sheets::listed;
 use crate::state::RowState;
 use crate::state::State;
 use basis::Refusal;
@@ -40,11 +42,19 @@ impl State {
     pub fn margin(self, sheet: Sheet, row: usize) -> Margin
         ensures { λ r. ⌜ told r ≡ margin sheet self row ⌝ }
     {
+        let list = listed(sheet);
+        self.margin_on(&list, row)
+    }
+
+    // The same on a sheet in a list.
+    fn margin_on(self, sheet: &[u64], row: usize) -> Margin
+        ensures { λ r. ⌜ told r ≡ margin (sheetIn (now (sheet .entry))) self row ⌝ }
+    {
         let refusal = self.check_margin(sheet, row);
         match refusal {
             Refusal::Refused(number, place) => Margin::Refused(number, place),
             Refusal::Accepted => {
-                let numbers = sheet.rows[row];
+                let numbers = flat::row_at(sheet, row);
                 let s = self.rows[row];
                 margin_of(numbers, s)
             }

@@ -5,8 +5,11 @@ ghost use Prim.Native.Nat.{_+_, _*_, _≤_};
 ghost use lib.ListN.{length};
 ghost use Rattle.basis.specs.Refusals.{accepted};
 ghost use Rattle.sheet.specs.Legal.{legal};
+ghost use Rattle.flat.specs.Lists.{sheetIn};
 ghost use Rattle.machine.specs.States.{legalState};
 ghost use Rattle.machine.specs.Answers.{slotted, slotAt, ran, notBegun, course, run};
+use crate::sheets::listed;
+use crate::sheets::rows_in;
 use crate::slots::Slotted;
 use crate::state::State;
 use basis::Refusal;
@@ -21,12 +24,18 @@ pub struct Ran {
 
 impl State {
     // Slot j of a run whose checks have passed.
-    fn slot_at(self, sheet: Sheet, releases: &[u64], codes: &mut [u8], j: usize) -> Slotted
-        requires { ⌜ (legal sheet ≡ true) × (legalState sheet self ≡ true)
-            × (j * sheet .count + sheet .count ≤ length (now releases)) × (j * sheet .count + sheet .count ≤ length (now codes)) ⌝ }
-        ensures { λ r. ⌜ slotted r (now (codes .exit)) ≡ slotAt sheet self (now (releases .entry)) (now (codes .entry)) j ⌝ }
+    fn slot_at(
+        self,
+        sheet: &[u64],
+        n: usize,
+        releases: &[u64],
+        codes: &mut [u8],
+        j: usize,
+    ) -> Slotted
+        requires { ⌜ (n ≡ sheetIn (now sheet) .count) × (legal (sheetIn (now sheet)) ≡ true) × (legalState (sheetIn (now sheet)) self ≡ true)
+            × (j * n + n ≤ length (now releases)) × (j * n + n ≤ length (now codes)) ⌝ }
+        ensures { λ r. ⌜ slotted r (now (codes .exit)) ≡ slotAt (sheetIn (now (sheet .entry))) self (now (releases .entry)) (now (codes .entry)) j ⌝ }
     {
-        let n = sheet.count as usize;
         let at = j * n;
         let end = at + n;
         let refusal = self.check_releases(sheet, &releases[at..end]);
@@ -46,15 +55,22 @@ impl State {
     }
 
     // So many slots one after another, to the first that is refused.
-    fn run_slots(self, sheet: Sheet, releases: &[u64], codes: &mut [u8], slots: usize) -> Ran
-        requires { ⌜ (legal sheet ≡ true) × (legalState sheet self ≡ true)
-            × (slots * sheet .count ≤ length (now releases)) × (slots * sheet .count ≤ length (now codes)) ⌝ }
-        ensures { λ r. ⌜ ran r (now (codes .exit)) ≡ course sheet (now (releases .entry)) (notBegun accepted self (now (codes .entry))) slots ⌝ }
+    fn run_slots(
+        self,
+        sheet: &[u64],
+        n: usize,
+        releases: &[u64],
+        codes: &mut [u8],
+        slots: usize,
+    ) -> Ran
+        requires { ⌜ (n ≡ sheetIn (now sheet) .count) × (legal (sheetIn (now sheet)) ≡ true) × (legalState (sheetIn (now sheet)) self ≡ true)
+            × (slots * n ≤ length (now releases)) × (slots * n ≤ length (now codes)) ⌝ }
+        ensures { λ r. ⌜ ran r (now (codes .exit)) ≡ course (sheetIn (now (sheet .entry))) (now (releases .entry)) (notBegun accepted self (now (codes .entry))) slots ⌝ }
     {
         let mut state = self;
         let mut done: usize = 0;
         while done < slots {
-            let slotted = state.slot_at(sheet, releases, codes, done);
+            let slotted = state.slot_at(sheet, n, releases, codes, done);
             let refusal = slotted.refusal;
             let after = slotted.state;
             if let Refusal::Refused(number, place) = refusal {
@@ -78,6 +94,14 @@ impl State {
     pub fn run(self, sheet: Sheet, releases: &[u64], codes: &mut [u8]) -> Ran
         ensures { λ r. ⌜ ran r (now (codes .exit)) ≡ run sheet self (now (releases .entry)) (now (codes .entry)) ⌝ }
     {
+        let list = listed(sheet);
+        self.run_on(&list, releases, codes)
+    }
+
+    // The same on a sheet in a list.
+    pub fn run_on(self, sheet: &[u64], releases: &[u64], codes: &mut [u8]) -> Ran
+        ensures { λ r. ⌜ ran r (now (codes .exit)) ≡ run (sheetIn (now (sheet .entry))) self (now (releases .entry)) (now (codes .entry)) ⌝ }
+    {
         let refusal = self.check_run(sheet, releases, codes.len());
         match refusal {
             Refusal::Refused(number, place) => Ran {
@@ -86,9 +110,9 @@ impl State {
                 state: self,
             },
             Refusal::Accepted => {
-                let n = sheet.count as usize;
+                let n = rows_in(sheet);
                 let slots = releases.len() / n;
-                self.run_slots(sheet, releases, codes, slots)
+                self.run_slots(sheet, n, releases, codes, slots)
             }
         }
     }

@@ -2,10 +2,11 @@
 ghost use mathlib.Core.Path.{_≡_};
 ghost use lib.Dec.{ltb};
 ghost use Rattle.basis.specs.Words.{pick};
+ghost use Rattle.flat.specs.Lists.{sheetIn};
 ghost use Rattle.machine.specs.States.{legalRecord, isZero, legalState};
+use crate::sheets::rows_in;
 use basis::MOST_ROWS;
 use sheet::Row;
-use sheet::Sheet;
 
 // The record of a row: the slots that remain of its job, and the slots since its release.
 pub struct RowState {
@@ -60,10 +61,9 @@ fn is_zero(s: RowState) -> bool
 }
 
 // Whether a record is legal at its place: for its row, or zero past the rows.
-fn is_legal_at(row: Row, s: RowState, place: usize, count: u64) -> bool
-    ensures { λ r. ⌜ r ≡ pick (ltb place count) (legalRecord row s) (isZero s) ⌝ }
+fn is_legal_at(row: Row, s: RowState, place: usize, n: usize) -> bool
+    ensures { λ r. ⌜ r ≡ pick (ltb place n) (legalRecord row s) (isZero s) ⌝ }
 {
-    let n = count as usize;
     if place < n {
         return is_legal_record(row, s);
     }
@@ -72,14 +72,15 @@ fn is_legal_at(row: Row, s: RowState, place: usize, count: u64) -> bool
 
 impl State {
     // Whether the state is legal for a sheet.
-    pub(crate) fn is_legal(self, sheet: Sheet) -> bool
-        ensures { λ r. ⌜ r ≡ legalState sheet self ⌝ }
+    pub(crate) fn is_legal(self, sheet: &[u64]) -> bool
+        ensures { λ r. ⌜ r ≡ legalState (sheetIn (now (sheet .entry))) self ⌝ }
     {
+        let n = rows_in(sheet);
         let mut i: usize = 0;
         while i < MOST_ROWS {
-            let row = sheet.rows[i];
+            let row = flat::row_at(sheet, i);
             let s = self.rows[i];
-            let fine = is_legal_at(row, s, i, sheet.count);
+            let fine = is_legal_at(row, s, i, n);
             if fine {
                 i += 1;
             } else {

@@ -1,16 +1,11 @@
-// The steps of a slot: releases, placement and ageing.
+// The steps of a row's slot: releases, placement and ageing.
 ghost use mathlib.Core.Path.{_≡_};
-ghost use Prim.Native.Nat.{_≤_};
-ghost use lib.ListN.{length};
-ghost use Rattle.basis.specs.Limits.{mostRows};
 ghost use Rattle.machine.specs.Slot.{released, older};
-ghost use Rattle.machine.specs.Methods.{releasedState, placedRow, placedState, placedCodes, judged, agedRow, agedState, agedCodes};
+ghost use Rattle.machine.specs.Methods.{placedRow, judged, agedRow, steppedRow};
 use crate::state::RowState;
-use crate::state::State;
 use sheet::Row;
-use sheet::Sheet;
 
-// What placing a row makes: the processors that it leaves free, its record, and its code so far.
+// What placing a row makes, and what its whole slot makes: the processors that it leaves free, its record, and its code.
 pub struct Placed {
     pub free: u64,
     pub after: RowState,
@@ -21,50 +16,6 @@ pub struct Placed {
 pub struct Aged {
     pub after: RowState,
     pub code: u8,
-}
-
-// A row's record after its release; zero is no release.
-fn release_row(s: RowState, release: u64) -> RowState
-    ensures { λ r. ⌜ r ≡ released release s ⌝ }
-{
-    if release == 0 {
-        return s;
-    }
-    RowState {
-        remaining: release,
-        since: 0,
-    }
-}
-
-// A row's turn, with so many processors free.
-fn place_row(row: Row, s: RowState, free: u64) -> Placed
-    ensures { λ r. ⌜ r ≡ placedRow row s free ⌝ }
-{
-    let remaining = s.remaining;
-    let since = s.since;
-    let threads = row.threads;
-    if remaining <= 0 {
-        return Placed {
-            free,
-            after: RowState { remaining, since },
-            code: 0,
-        };
-    }
-    if free < threads {
-        return Placed {
-            free,
-            after: RowState { remaining, since },
-            code: 1,
-        };
-    }
-    Placed {
-        free: free - threads,
-        after: RowState {
-            remaining: remaining - 1,
-            since,
-        },
-        code: 2,
-    }
 }
 
 // One slot more since the release, up to the separation.
@@ -94,89 +45,90 @@ fn judge(left: u64, since: u64, deadline: u64, code: u8) -> u8
     code
 }
 
-// The end of a row's slot: one slot older, and nothing is left at the deadline.
-fn age_row(row: Row, s: RowState, code: u8) -> Aged
-    ensures { λ r. ⌜ r ≡ agedRow row s code ⌝ }
-{
-    let left = s.remaining;
-    let due = row.deadline;
-    let since = older(s.since, row.separation);
-    let code = judge(left, since, due, code);
-    if since == due {
-        return Aged {
+impl RowState {
+    // Releases: the record after a row's release; zero is no release.
+    pub(crate) fn released(self, release: u64) -> RowState
+        ensures { λ r. ⌜ r ≡ released release self ⌝ }
+    {
+        if release == 0 {
+            return self;
+        }
+        RowState {
+            remaining: release,
+            since: 0,
+        }
+    }
+
+    // Placement: a row's turn, with so many processors free.
+    pub(crate) fn placed(self, row: Row, free: u64) -> Placed
+        ensures { λ r. ⌜ r ≡ placedRow row self free ⌝ }
+    {
+        let remaining = self.remaining;
+        let since = self.since;
+        let threads = row.threads;
+        if remaining <= 0 {
+            return Placed {
+                free,
+                after: RowState { remaining, since },
+                code: 0,
+            };
+        }
+        if free < threads {
+            return Placed {
+                free,
+                after: RowState { remaining, since },
+                code: 1,
+            };
+        }
+        Placed {
+            free: free - threads,
             after: RowState {
-                remaining: 0,
+                remaining: remaining - 1,
+                since,
+            },
+            code: 2,
+        }
+    }
+
+    // Ageing, the end of a row's slot: one slot older, and nothing is left at the deadline.
+    pub(crate) fn aged(self, row: Row, code: u8) -> Aged
+        ensures { λ r. ⌜ r ≡ agedRow row self code ⌝ }
+    {
+        let left = self.remaining;
+        let due = row.deadline;
+        let since = older(self.since, row.separation);
+        let code = judge(left, since, due, code);
+        if since == due {
+            return Aged {
+                after: RowState {
+                    remaining: 0,
+                    since,
+                },
+                code,
+            };
+        }
+        Aged {
+            after: RowState {
+                remaining: left,
                 since,
             },
             code,
-        };
-    }
-    Aged {
-        after: RowState {
-            remaining: left,
-            since,
-        },
-        code,
-    }
-}
-
-impl State {
-    // Releases.
-    pub(crate) fn released(self, sheet: Sheet, releases: &[u64]) -> State
-        requires { ⌜ (sheet .count ≤ mostRows) × (sheet .count ≤ length (now releases)) ⌝ }
-        ensures { λ r. ⌜ r ≡ releasedState sheet self (now (releases .entry)) ⌝ }
-    {
-        let mut state = self;
-        let n = sheet.count as usize;
-        let mut i: usize = 0;
-        while i < n {
-            let s = state.rows[i];
-            let after = release_row(s, releases[i]);
-            state.rows[i] = after;
-            i += 1;
         }
-        state
     }
 
-    // Placement: from the top, with every processor free.
-    pub(crate) fn placed(self, sheet: Sheet, codes: &mut [u8]) -> State
-        requires { ⌜ (sheet .count ≤ mostRows) × (sheet .count ≤ length (now codes)) ⌝ }
-        ensures { λ r. ⌜ (r ≡ placedState sheet self) × (now (codes .exit) ≡ placedCodes sheet self (now (codes .entry))) ⌝ }
+    // A row's slot: released, placed and aged.
+    pub(crate) fn stepped(self, row: Row, release: u64, free: u64) -> Placed
+        ensures { λ r. ⌜ r ≡ steppedRow row self release free ⌝ }
     {
-        let mut state = self;
-        let mut free = sheet.processors;
-        let n = sheet.count as usize;
-        let mut i: usize = 0;
-        while i < n {
-            let row = sheet.rows[i];
-            let s = state.rows[i];
-            let placed = place_row(row, s, free);
-            let after = placed.after;
-            state.rows[i] = after;
-            codes[i] = placed.code;
-            free = placed.free;
-            i += 1;
+        let begun = self.released(release);
+        let placed = begun.placed(row, free);
+        let worked = placed.after;
+        let aged = worked.aged(row, placed.code);
+        let after = aged.after;
+        Placed {
+            free: placed.free,
+            after,
+            code: aged.code,
         }
-        state
-    }
-
-    // Ageing: each row's since, and what of its job is finished or missed.
-    pub(crate) fn aged(self, sheet: Sheet, codes: &mut [u8]) -> State
-        requires { ⌜ (sheet .count ≤ mostRows) × (sheet .count ≤ length (now codes)) ⌝ }
-        ensures { λ r. ⌜ (r ≡ agedState sheet self (now (codes .entry))) × (now (codes .exit) ≡ agedCodes sheet self (now (codes .entry))) ⌝ }
-    {
-        let mut state = self;
-        let n = sheet.count as usize;
-        let mut i: usize = 0;
-        while i < n {
-            let row = sheet.rows[i];
-            let s = state.rows[i];
-            let aged = age_row(row, s, codes[i]);
-            let after = aged.after;
-            state.rows[i] = after;
-            codes[i] = aged.code;
-            i += 1;
-        }
-        state
     }
 }

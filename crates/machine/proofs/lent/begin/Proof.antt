@@ -8,8 +8,8 @@ use Rattle.machine.proofs.lent.begin.Tie as tie
 fresh-requires : tie.Need-fresh-requires
 fresh-requires c κs = search needs
 
-check-run-requires : tie.Need-check-run-requires
-check-run-requires c κs = search needs
+check-whole-requires : tie.Need-check-whole-requires
+check-whole-requires c κs = search needs
 
 enum-known-refusal : tie.Need-enum-known-refusal
 enum-known-refusal c = search needs
@@ -31,7 +31,7 @@ begin-spec =
     tie.close
     (tie.spec
     fresh-requires
-    check-run-requires
+    check-whole-requires
     enum-known-refusal
     enum-told
     div-slots

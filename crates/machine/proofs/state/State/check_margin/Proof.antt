@@ -16,6 +16,9 @@ returns c = search margin-refused
 enum-told : tie.Need-enum-told
 enum-told c = search needs
 
+rows-in-requires : tie.Need-rows-in-requires
+rows-in-requires c κs = search needs
+
 returns-2 : tie.Need-returns-2
 returns-2 c = search margin-14
 
@@ -25,4 +28,4 @@ returns-3 c = search margin-in-order
 pub check-margin-spec : {M : Type 1} → statement M
 check-margin-spec =
     tie.close
-    (tie.spec check-state-requires enum-known-refusal returns enum-told returns-2 returns-3)
+    (tie.spec check-state-requires enum-known-refusal returns enum-told rows-in-requires returns-2 returns-3)

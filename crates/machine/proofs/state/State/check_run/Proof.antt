@@ -16,6 +16,9 @@ returns c = search run-refused
 enum-told : tie.Need-enum-told
 enum-told c = search needs
 
+rows-in-requires : tie.Need-rows-in-requires
+rows-in-requires c κs = search needs
+
 rem-if1 : tie.Need-rem-if1
 rem-if1 c = search some-row
 
@@ -36,7 +39,7 @@ check-run-spec =
     enum-known-refusal
     returns
     enum-told
-    rem-if1
+    rows-in-requires rem-if1
     returns-2
     returns-3
     returns-4)

@@ -16,6 +16,9 @@ returns c = search slot-refused
 enum-told : tie.Need-enum-told
 enum-told c = search needs
 
+rows-in-requires : tie.Need-rows-in-requires
+rows-in-requires c κs = search needs
+
 returns-2 : tie.Need-returns-2
 returns-2 c = search slot-11
 
@@ -36,7 +39,7 @@ check-slot-spec =
     enum-known-first
     returns
     enum-told
-    returns-2
+    rows-in-requires returns-2
     returns-3
     check-releases-requires
     returns-4)

@@ -4,6 +4,9 @@ use Rattle.machine.proofs.Checked.{state-10, state-16, state-in-order}
 use Rattle.machine.proofs.state.State.check_state.Statement.{statement}
 use Rattle.machine.proofs.state.State.check_state.Tie as tie
 
+sheet-in-requires : tie.Need-sheet-in-requires
+sheet-in-requires c κs = search needs
+
 is-legal-requires : tie.Need-is-legal-requires
 is-legal-requires c κs = search needs
 
@@ -21,4 +24,4 @@ returns-3 c = search state-10
 
 pub check-state-spec : {M : Type 1} → statement M
 check-state-spec =
-    tie.close (tie.spec is-legal-requires is-legal-requires-2 returns returns-2 returns-3)
+    tie.close (tie.spec sheet-in-requires is-legal-requires is-legal-requires-2 returns returns-2 returns-3)

@@ -5,26 +5,27 @@ use mathlib.Core.Path.{_≡_, refl}
 use mathlib.Core.Bool.{true}
 use Rattle.basis.specs.Limits.{mostRows}
 use Rattle.basis.specs.Words.{allOf}
+use Rattle.flat.specs.Lists.{sheetIn}
 use Rattle.machine.specs.States.{legalAt}
 use Rattle.machine.proofs.Turns.{legal-more, legal-fails, legal-done}
 use Rattle.machine.proofs.state.State.is_legal.Statement.{statement}
 use Rattle.machine.proofs.state.State.is_legal.Tie as tie
 
 abbrev Inv-loop : tie.InvT-loop
-Inv-loop self sheet i₀ i = (i ≤ mostRows) × (true ≡ allOf i (legalAt sheet self))
+Inv-loop sheet self n i₀ i = (n ≡ sheetIn sheet .count) × (i ≤ mostRows) × (true ≡ allOf i (legalAt (sheetIn sheet) self))
 
 abbrev μ-loop : tie.MeasureT-loop
-μ-loop self sheet i₀ i = mostRows - i
+μ-loop sheet self n i₀ i = mostRows - i
+
+rows-in-requires : tie.Need-rows-in-requires Inv-loop μ-loop
+rows-in-requires c κs = search needs
 
 loop-holds : tie.Need-loop-holds Inv-loop μ-loop
 unfolding allOf
-loop-holds c = (search needs, refl)
+loop-holds c = (search needs, search needs, refl)
 
-mul-row : tie.Need-mul-row Inv-loop μ-loop
-mul-row c = search needs
-
-element-copy-out-row : tie.Need-element-copy-out-row Inv-loop μ-loop
-element-copy-out-row c = search needs
+row-at-requires : tie.Need-row-at-requires Inv-loop μ-loop
+row-at-requires c κs = search needs
 
 mul-s : tie.Need-mul-s Inv-loop μ-loop
 mul-s c = search needs
@@ -42,7 +43,7 @@ loop-less : tie.Need-loop-less Inv-loop μ-loop
 loop-less c = search needs
 
 loop-again : tie.Need-loop-again Inv-loop μ-loop
-loop-again c = (search needs, legal-more _ _ _ (search needs) _ (c .before .is-legal-at .ensures) (search needs))
+loop-again c = (search needs, search needs, search legal-more)
 
 returns : tie.Need-returns Inv-loop μ-loop
 returns c = search legal-fails
@@ -56,9 +57,9 @@ is-legal-spec =
     (tie.spec
     Inv-loop
     μ-loop
+    rows-in-requires
     loop-holds
-    mul-row
-    element-copy-out-row
+    row-at-requires
     mul-s
     element-copy-out-s
     is-legal-at-requires

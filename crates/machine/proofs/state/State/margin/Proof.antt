@@ -1,50 +1,21 @@
--- `margin` meets its promise. Assumes nothing.
+-- `margin` meets its promise: its list holds the sheet. Assumes nothing.
 use borrow.Author.Needs.{needs}
-use Rattle.machine.proofs.Told.{row-in-array, row-scaled, small-deadline, small-since, small-remaining, margin-is-refused, margin-is-told}
+use Rattle.machine.proofs.Lists.{margin-by-list}
 use Rattle.machine.proofs.state.State.margin.Statement.{statement}
 use Rattle.machine.proofs.state.State.margin.Tie as tie
 
-check-margin-requires : tie.Need-check-margin-requires
-check-margin-requires c κs = search needs
+listed-requires : tie.Need-listed-requires
+listed-requires c κs = search needs
 
-enum-known-refusal : tie.Need-enum-known-refusal
-enum-known-refusal c = search needs
+slice-aggregate-margin-on : tie.Need-slice-aggregate-margin-on
+slice-aggregate-margin-on c = search needs
 
-enum-told : tie.Need-enum-told
-enum-told c = search needs
-
-mul-numbers : tie.Need-mul-numbers
-mul-numbers c = search (needs, row-scaled)
-
-element-copy-out-numbers : tie.Need-element-copy-out-numbers
-element-copy-out-numbers c = search row-in-array
-
-mul-s : tie.Need-mul-s
-mul-s c = search (needs, row-scaled)
-
-element-copy-out-s : tie.Need-element-copy-out-s
-element-copy-out-s c = search row-in-array
-
-margin-of-requires : tie.Need-margin-of-requires
-margin-of-requires c κs = (search small-deadline, search small-since, search small-remaining)
+margin-on-requires : tie.Need-margin-on-requires
+margin-on-requires c κs = search needs
 
 returns : tie.Need-returns
-returns c = search margin-is-refused
-
-returns-2 : tie.Need-returns-2
-returns-2 c = search margin-is-told
+returns c = search margin-by-list
 
 pub margin-spec : {M : Type 1} → statement M
 margin-spec =
-    tie.close
-    (tie.spec
-    check-margin-requires
-    enum-known-refusal
-    enum-told
-    mul-numbers
-    element-copy-out-numbers
-    mul-s
-    element-copy-out-s
-    margin-of-requires
-    returns
-    returns-2)
+    tie.close (tie.spec listed-requires slice-aggregate-margin-on margin-on-requires returns)

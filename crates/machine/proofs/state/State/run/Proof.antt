@@ -1,42 +1,24 @@
--- `run` meets its promise. Assumes nothing.
+-- `run` meets its promise: its list holds the sheet. Assumes nothing.
 use borrow.Author.Needs.{needs}
-use Rattle.machine.proofs.Answered.{run-sheet, run-state, run-rows, run-list, run-buffer, run-is-refused, run-is-done}
+use Rattle.machine.proofs.Lists.{run-by-list}
 use Rattle.machine.proofs.state.State.run.Statement.{statement}
 use Rattle.machine.proofs.state.State.run.Tie as tie
 
-check-run-requires : tie.Need-check-run-requires
-check-run-requires c κs = search needs
+listed-requires : tie.Need-listed-requires
+listed-requires c κs = search needs
 
-enum-known-refusal : tie.Need-enum-known-refusal
-enum-known-refusal c = search needs
+slice-aggregate-run-on : tie.Need-slice-aggregate-run-on
+slice-aggregate-run-on c = search needs
 
-enum-told : tie.Need-enum-told
-enum-told c = search needs
-
-div-slots : tie.Need-div-slots
-div-slots c = search run-rows
-
-run-slots-requires : tie.Need-run-slots-requires
-run-slots-requires c κs = (search run-sheet, search run-state, search run-list, search run-buffer)
-
-returns : tie.Need-returns
-returns c = search run-is-refused
+run-on-requires : tie.Need-run-on-requires
+run-on-requires c κs = search needs
 
 same-length : tie.Need-same-length
 same-length c = search needs
 
-returns-2 : tie.Need-returns-2
-returns-2 c = search run-is-done
+returns : tie.Need-returns
+returns c = search run-by-list
 
 pub run-spec : {M : Type 1} → statement M
 run-spec =
-    tie.close
-    (tie.spec
-    check-run-requires
-    enum-known-refusal
-    enum-told
-    div-slots
-    run-slots-requires
-    returns
-    same-length
-    returns-2)
+    tie.close (tie.spec listed-requires slice-aggregate-run-on run-on-requires same-length returns)

@@ -6,6 +6,7 @@ use mathlib.Core.Bool.{true}
 use lib.ListN.{length}
 use Rattle.basis.specs.Refusals.{accepted}
 use Rattle.sheet.specs.Legal.{legal}
+use Rattle.flat.specs.Lists.{sheetIn}
 use Rattle.machine.specs.States.{legalState}
 use Rattle.machine.specs.Answers.{notBegun, course}
 use Rattle.machine.proofs.Courses.{room-for, goes-on, stops, ends, legal-on}
@@ -13,24 +14,25 @@ use Rattle.machine.proofs.state.State.run_slots.Statement.{statement}
 use Rattle.machine.proofs.state.State.run_slots.Tie as tie
 
 abbrev Inv-loop : tie.InvT-loop
-Inv-loop sheet releases codes₀ slots state₀ done₀ codes state done =
+Inv-loop sheet n releases codes₀ slots state₀ done₀ codes state done =
     (done ≤ slots)
-    × (legal sheet ≡ true)
-    × (legalState sheet state ≡ true)
-    × (slots * sheet .count ≤ length releases)
-    × (slots * sheet .count ≤ length codes)
+    × (n ≡ sheetIn sheet .count)
+    × (legal (sheetIn sheet) ≡ true)
+    × (legalState (sheetIn sheet) state ≡ true)
+    × (slots * n ≤ length releases)
+    × (slots * n ≤ length codes)
     × (length codes ≡ length codes₀)
-    × (course sheet releases (notBegun accepted state₀ codes₀) done ≡ record { done = done; outcome = accepted; state = state; codes = codes })
+    × (course (sheetIn sheet) releases (notBegun accepted state₀ codes₀) done ≡ record { done = done; outcome = accepted; state = state; codes = codes })
 
 abbrev μ-loop : tie.MeasureT-loop
-μ-loop sheet releases codes₀ slots state₀ done₀ codes state done = slots - done
+μ-loop sheet n releases codes₀ slots state₀ done₀ codes state done = slots - done
 
 loop-holds : tie.Need-loop-holds Inv-loop μ-loop
 unfolding course
-loop-holds c = (search needs, search needs, search needs, search needs, search needs, refl, refl)
+loop-holds c = (search needs, search needs, search needs, search needs, search needs, search needs, refl, refl)
 
 slot-at-requires : tie.Need-slot-at-requires Inv-loop μ-loop
-slot-at-requires c κs = (search needs, search needs, search room-for, search room-for)
+slot-at-requires c κs = (search needs, search needs, search needs, search room-for, search room-for)
 
 enum-known-refusal : tie.Need-enum-known-refusal Inv-loop μ-loop
 enum-known-refusal c = search needs
@@ -51,7 +53,7 @@ loop-less : tie.Need-loop-less Inv-loop μ-loop
 loop-less c = search needs
 
 loop-again : tie.Need-loop-again Inv-loop μ-loop
-loop-again c = (search needs, search needs, search legal-on, search needs, search needs, search needs, search goes-on)
+loop-again c = (search needs, search needs, search needs, search legal-on, search needs, search needs, search needs, search goes-on)
 
 same-length-2 : tie.Need-same-length-2 Inv-loop μ-loop
 same-length-2 c = search needs

@@ -1,10 +1,10 @@
--- `place_row` meets its promise. Assumes nothing.
+-- `placed` meets its promise. Assumes nothing.
 use borrow.Author.Needs.{needs}
 use Rattle.basis.proofs.Tests.{tests}
 use Rattle.machine.specs.Slot.{fits, freeBelow, worked}
 use Rattle.machine.specs.Methods.{placedRow}
-use Rattle.machine.proofs.steps.place_row.Statement.{statement}
-use Rattle.machine.proofs.steps.place_row.Tie as tie
+use Rattle.machine.proofs.state.RowState.placed.Statement.{statement}
+use Rattle.machine.proofs.state.RowState.placed.Tie as tie
 
 returns : tie.Need-returns
 unfolding placedRow fits freeBelow worked
@@ -21,5 +21,5 @@ returns-3 : tie.Need-returns-3
 unfolding placedRow fits freeBelow worked
 returns-3 c = search tests
 
-pub place-row-spec : {M : Type 1} → statement M
-place-row-spec = tie.close (tie.spec returns returns-2 sub-t11 returns-3)
+pub placed-spec : {M : Type 1} → statement M
+placed-spec = tie.close (tie.spec returns returns-2 sub-t11 returns-3)

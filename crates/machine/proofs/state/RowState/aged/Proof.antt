@@ -1,8 +1,8 @@
--- `age_row` meets its promise. Assumes nothing.
+-- `aged` meets its promise. Assumes nothing.
 use borrow.Author.Needs.{needs}
 use Rattle.machine.proofs.Records.{age-at, age-else}
-use Rattle.machine.proofs.steps.age_row.Statement.{statement}
-use Rattle.machine.proofs.steps.age_row.Tie as tie
+use Rattle.machine.proofs.state.RowState.aged.Statement.{statement}
+use Rattle.machine.proofs.state.RowState.aged.Tie as tie
 
 older-requires : tie.Need-older-requires
 older-requires c κs = search needs
@@ -16,5 +16,5 @@ returns c = search age-at
 returns-2 : tie.Need-returns-2
 returns-2 c = search age-else
 
-pub age-row-spec : {M : Type 1} → statement M
-age-row-spec = tie.close (tie.spec older-requires judge-requires returns returns-2)
+pub aged-spec : {M : Type 1} → statement M
+aged-spec = tie.close (tie.spec older-requires judge-requires returns returns-2)
