@@ -1,0 +1,96 @@
+-- A refused call changes nothing that is lent: where the number told is not 0, every list and number is as it was.
+-- Assumes nothing.
+use Prim.Native.Nat.{ℕ, _/_}
+use mathlib.Core.Path.{_≡_, refl, sym, ap, _∙_}
+use mathlib.Core.List.{List}
+use lib.ListN.{length}
+use lib.IntN.{ℤ}
+use borrow.Author.Tests.{eq-eqb}
+use Rattle.basis.specs.Refusals.{Outcome, accepted, refused, orElse}
+use Rattle.sheet.specs.Answers.{reading}
+use Rattle.sheet.specs.declared.row.Sheet.{Sheet}
+use Rattle.bound.specs.Bound.{boundsOf}
+use Rattle.machine.specs.Checks.{checkSlot, checkRun}
+use Rattle.machine.specs.Answers.{Course, Told, no-job, margin-is, refused-by, fresh, handed, nextState, nextCodes, slot, notBegun, course, run, margin}
+use Rattle.machine.specs.declared.state.State.{State}
+use Rattle.machine.proofs.Done.{Ends, all-done, stopped-at, run-ends, run-not-begun}
+use Rattle.dashboard.specs.Texts.{verdictText}
+use Rattle.flat.specs.Lists.{sheetIn, sheetLong}
+use Rattle.exports.specs.Lists.{stateIn, pairsLong}
+use Rattle.exports.specs.Answers.{told, roomFor, verdictIn, fieldsIn, readIn, labelOutcome, labelAnswer, resultsIn, boundsIn, stateGiven, freshIn, slotGiven, slotOn, runGiven, runOn, marginGiven, marginIn}
+
+-- what is handed over where a number other than 0 is told
+kept : {A : Type 0} (o : Outcome) (done found : A) → (told o .0 ≡ 0 → ⊥) → handed o done found .1 ≡ found
+kept accepted done found n = absurd (n refl)
+kept (refused number place) done found n = refl
+
+-- A refused `giachimu_read` leaves the list.
+pub refused-read-changes-nothing : (s list : List ℕ) → (readIn s list .0 .0 ≡ 0 → ⊥) → readIn s list .1 ≡ list
+unfolding readIn fieldsIn
+refused-read-changes-nothing s list n = kept (orElse (reading s .0) (roomFor (sheetLong (reading s .1 .count)) (length list))) _ list n
+
+-- A refused `giachimu_label` leaves both numbers.
+pub refused-label-changes-nothing : (s : List ℕ) (row : ℕ) (found : ℕ × ℕ) → (labelAnswer s row found .0 .0 ≡ 0 → ⊥) → labelAnswer s row found .1 ≡ found
+unfolding labelAnswer
+refused-label-changes-nothing s row found n = kept (labelOutcome (reading s) row) _ found n
+
+-- A refused `giachimu_bounds` leaves the list and the number.
+pub refused-bounds-changes-nothing : (s : List ℕ) (lent : ℕ × List ℕ) → (boundsIn s lent .0 .0 ≡ 0 → ⊥) → boundsIn s lent .1 ≡ lent
+unfolding boundsIn resultsIn
+refused-bounds-changes-nothing s lent n = kept (orElse (boundsOf (sheetIn s) .0) (roomFor (pairsLong (sheetIn s .count)) (length (lent .1)))) _ lent n
+
+-- A refused `giachimu_fresh` leaves the list.
+pub refused-fresh-changes-nothing : (s list : List ℕ) → (freshIn s list .0 .0 ≡ 0 → ⊥) → freshIn s list .1 ≡ list
+unfolding freshIn stateGiven
+refused-fresh-changes-nothing s list n = kept (orElse (fresh (sheetIn s) .0) (roomFor (pairsLong (sheetIn s .count)) (length list))) _ list n
+
+-- A refused `giachimu_slot` leaves the state's list and the codes.
+pub refused-slot-changes-nothing : (s list rel cs : List ℕ) → (slotOn s list rel cs .0 .0 ≡ 0 → ⊥) → slotOn s list rel cs .1 ≡ (list, cs)
+unfolding slotOn slotGiven slot
+refused-slot-changes-nothing s list rel cs n = go (checkSlot (sheetIn s) (stateIn list) rel (length cs)) n
+  where
+    next : State × List ℕ
+    next = (nextState (sheetIn s) (stateIn list) rel, nextCodes (sheetIn s) (stateIn list) rel cs)
+
+    go : (o : Outcome) → (slotGiven (handed o next (stateIn list, cs)) list .0 .0 ≡ 0 → ⊥) → slotGiven (handed o next (stateIn list, cs)) list .1 ≡ (list, cs)
+    go accepted m = absurd (m refl)
+    go (refused number place) m = refl
+
+-- a run that has done no slot has written no code
+course-writes-nothing : (h : Sheet) (t : State) (rel cs : List ℕ) (n : ℕ) (c : Course) → Ends h rel (notBegun accepted t cs) n c → c ≡ course h rel (notBegun accepted t cs) n → c .done ≡ 0 → c .codes ≡ cs
+unfolding course
+course-writes-nothing h t rel cs n c (all-done u ds e) g z =
+    let none : n ≡ 0 = sym (ap (λ (x : Course). x .done) e) ∙ z in
+    ap (λ (x : Course). x .codes) (g ∙ ap (course h rel (notBegun accepted t cs)) none)
+course-writes-nothing h t rel cs n c (stopped-at i l u ds s a b r e) g z =
+    let none : i ≡ 0 = sym (ap (λ (x : Course). x .done) e) ∙ z in
+    ap (λ (x : Course). x .codes) e ∙ sym (ap (λ (x : Course). x .codes) (sym (ap (course h rel (notBegun accepted t cs)) none) ∙ s))
+
+run-writes-nothing : (h : Sheet) (t : State) (rel cs : List ℕ) → run h t rel cs .done ≡ 0 → run h t rel cs .codes ≡ cs
+unfolding run
+run-writes-nothing h t rel cs z = go (checkRun h t rel (length cs)) refl
+  where
+    go : (o : Outcome) → checkRun h t rel (length cs) ≡ o → run h t rel cs .codes ≡ cs
+    go accepted e = course-writes-nothing h t rel cs (length rel / h .count) (run h t rel cs) (run-ends h t rel cs e) (rw e) z
+    go (refused a b) e = ap (λ (x : Course). x .codes) (run-not-begun h t rel cs a b e)
+
+-- A `giachimu_run` that has done no slot leaves the state's list and the codes.
+pub run-of-none-changes-nothing : (s list rel cs : List ℕ) → runOn s list rel cs .1 .0 ≡ 0 → runOn s list rel cs .1 .1 ≡ (list, cs)
+unfolding runOn runGiven
+run-of-none-changes-nothing s list rel cs z =
+    rw (eq-eqb (run (sheetIn s) (stateIn list) rel cs .done) 0 z, run-writes-nothing (sheetIn s) (stateIn list) rel cs z)
+
+-- A refused `giachimu_margin` leaves both numbers.
+pub refused-margin-changes-nothing : (s list : List ℕ) (row : ℕ) (lent : ℕ × ℤ) → (marginIn s list row lent .0 .0 ≡ 0 → ⊥) → marginIn s list row lent .1 ≡ lent
+unfolding marginIn marginGiven
+refused-margin-changes-nothing s list row lent n = go (margin (sheetIn s) (stateIn list) row) n
+  where
+    go : (m : Told) → (marginGiven m lent .0 .0 ≡ 0 → ⊥) → marginGiven m lent .1 ≡ lent
+    go no-job f = absurd (f refl)
+    go (margin-is d) f = absurd (f refl)
+    go (refused-by number place) f = refl
+
+-- A refused `giachimu_verdict` leaves the buffer and the number.
+pub refused-verdict-changes-nothing : (s text : List ℕ) (long : ℕ) → (verdictIn s text long .0 .0 ≡ 0 → ⊥) → verdictIn s text long .1 ≡ (text, long)
+unfolding verdictIn
+refused-verdict-changes-nothing s text long n = kept (roomFor (length (verdictText s)) (length text)) _ (text, long) n

@@ -1,0 +1,11 @@
+pub mod Back
+pub mod Bounds
+pub mod Calls
+pub mod Cells
+pub mod Copied
+pub mod Fields
+pub mod Kept
+pub mod Meaning
+pub mod Records
+pub mod Same
+pub mod Texts

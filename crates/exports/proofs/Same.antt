@@ -1,0 +1,47 @@
+-- Equal answers: any two answers that the promise of a call allows are equal.
+-- Assumes nothing.
+use Prim.Native.Nat.{ℕ}
+use mathlib.Core.Path.{_≡_, sym, _∙_}
+use mathlib.Core.Bool.{Bool, true}
+use mathlib.Core.List.{List}
+use lib.IntN.{ℤ}
+use Rattle.sheet.specs.Answers.{reading}
+use Rattle.green.specs.Demand.{NoJobIsLate}
+use Rattle.green.specs.Green.{greenOf}
+use Rattle.exports.specs.Answers.{verdictIn, readIn, labelAnswer, boundsIn, freshIn, slotOn, runOn, marginIn}
+
+-- `giachimu_read`: the number and the place, and the list.
+pub read-same : (s list : List ℕ) (a b : (ℕ × ℕ) × List ℕ) → a ≡ readIn s list → b ≡ readIn s list → a ≡ b
+read-same s list a b e f = e ∙ sym f
+
+-- `giachimu_label`: the number and the place, where the label starts and how long it is.
+pub label-same : (s : List ℕ) (row : ℕ) (found : ℕ × ℕ) (a b : (ℕ × ℕ) × (ℕ × ℕ)) → a ≡ labelAnswer s row found → b ≡ labelAnswer s row found → a ≡ b
+label-same s row found a b e f = e ∙ sym f
+
+-- `giachimu_bounds`: the number and the place, whether the sheet holds, and the list.
+pub bounds-same : (s : List ℕ) (lent : ℕ × List ℕ) (a b : (ℕ × ℕ) × (ℕ × List ℕ)) → a ≡ boundsIn s lent → b ≡ boundsIn s lent → a ≡ b
+bounds-same s lent a b e f = e ∙ sym f
+
+-- `giachimu_fresh`: the number and the place, and the list.
+pub fresh-same : (s list : List ℕ) (a b : (ℕ × ℕ) × List ℕ) → a ≡ freshIn s list → b ≡ freshIn s list → a ≡ b
+fresh-same s list a b e f = e ∙ sym f
+
+-- `giachimu_slot`: the number and the place, the list and the codes.
+pub slot-same : (s list rel cs : List ℕ) (a b : (ℕ × ℕ) × (List ℕ × List ℕ)) → a ≡ slotOn s list rel cs → b ≡ slotOn s list rel cs → a ≡ b
+slot-same s list rel cs a b e f = e ∙ sym f
+
+-- `giachimu_run`: the number and the place, the slots done, the list and the codes.
+pub run-same : (s list rel cs : List ℕ) (a b : (ℕ × ℕ) × (ℕ × (List ℕ × List ℕ))) → a ≡ runOn s list rel cs → b ≡ runOn s list rel cs → a ≡ b
+run-same s list rel cs a b e f = e ∙ sym f
+
+-- `giachimu_margin`: the number and the place, whether there is a job, and the margin.
+pub margin-same : (s list : List ℕ) (row : ℕ) (lent : ℕ × ℤ) (a b : (ℕ × ℕ) × (ℕ × ℤ)) → a ≡ marginIn s list row lent → b ≡ marginIn s list row lent → a ≡ b
+margin-same s list row lent a b e f = e ∙ sym f
+
+-- `giachimu_verdict`: the number and the place, the buffer and the text's length.
+pub verdict-same : (s text : List ℕ) (long : ℕ) (a b : (ℕ × ℕ) × (List ℕ × ℕ)) → a ≡ verdictIn s text long → b ≡ verdictIn s text long → a ≡ b
+verdict-same s text long a b e f = e ∙ sym f
+
+-- `giachimu_green`: yes or no.
+pub green-same : (s : List ℕ) (a b : Bool) → (a ≡ greenOf s) × (a ≡ true → NoJobIsLate (reading s .1)) → (b ≡ greenOf s) × (b ≡ true → NoJobIsLate (reading s .1)) → a ≡ b
+green-same s a b e f = e .0 ∙ sym (f .0)

@@ -1,0 +1,45 @@
+-- What `giachimu_verdict` answers at each way out: the text is whole in the buffer that it is written to first, and is copied from there where it fits.
+-- Assumes nothing.
+use Prim.Native.Nat.{ℕ, _≤_, _<_, min}
+use mathlib.Core.Path.{_≡_, sym, ap, _∙_}
+use mathlib.Core.List.{List, _++_}
+use native.Mathlib.Omega.{arith}
+use lib.ListN.{length, take, drop}
+use lib.Seq.{take-all}
+use borrow.Author.Tests.{le-leb, lt-leb}
+use Rattle.dashboard.specs.Longest.{textBuffer}
+use Rattle.dashboard.specs.Pages.{written}
+use Rattle.dashboard.specs.Texts.{verdictText}
+use Rattle.dashboard.proofs.Rooms.{written-part, verdict-is-printed}
+use Rattle.exports.specs.Answers.{verdictIn}
+
+-- a text that fits is written whole
+fits-whole : (t buffer : List ℕ) → length t ≤ length buffer → (t ++ drop (length t) buffer, length t) ≡ written t buffer
+unfolding written
+fits-whole t buffer l =
+    let m : min (length t) (length buffer) ≡ length t = omega arith in
+    rw (take-all (length buffer) t l, m)
+
+-- the text of s was written into the first buffer, n bytes of it
+module _ (s first whole : List ℕ) (n : ℕ) (b : first ≡ textBuffer) (e : (whole, n) ≡ written (verdictText s) first) where
+  part-is-text : take n whole ≡ verdictText s
+  part-is-text = verdict-is-printed whole n s (e ∙ ap (written (verdictText s)) b)
+
+  n-is-long : n ≡ length (verdictText s)
+  n-is-long = written-part (verdictText s) first whole n e ∙ ap length part-is-text
+
+  module _ (text : List ℕ) where
+    -- where it fits, so does the part that is copied
+    pub part-fits-text : n ≤ length text → length (take n whole) ≤ length text
+    part-fits-text l = rw (sym (written-part (verdictText s) first whole n e)) l
+
+    module _ (long : ℕ) (t : ℕ × ℕ) where
+      pub text-needs-room : length text < n → t ≡ (15, 0) → (t, (text, long)) ≡ verdictIn s text long
+      unfolding verdictIn
+      text-needs-room l f = rw (lt-leb (length (verdictText s)) (length text) (omega (arith, n-is-long)), f)
+
+      pub text-is-copied : (after : List ℕ) → n ≤ length text → after ≡ take n whole ++ drop (length (take n whole)) text → t ≡ (0, 0) → (t, (after, n)) ≡ verdictIn s text long
+      unfolding verdictIn
+      text-is-copied after l g f =
+          let fits : length (verdictText s) ≤ length text = omega (arith, n-is-long) in
+          rw (le-leb (length (verdictText s)) (length text) fits, ← fits-whole (verdictText s) text fits, f, g, part-is-text, n-is-long)

@@ -1,0 +1,54 @@
+-- `copy` meets its promise: the bytes so far are copied. Assumes nothing.
+use borrow.Author.Needs.{needs}
+use Prim.Native.Nat.{_≤_, _-_}
+use mathlib.Core.Path.{_≡_}
+use mathlib.Core.List.{_++_}
+use lib.ListN.{length, take, drop}
+use Rattle.exports.proofs.Copied.{byte-copied, all-copied}
+use Rattle.exports.proofs.verdicts.copy.Statement.{statement}
+use Rattle.exports.proofs.verdicts.copy.Tie as tie
+
+abbrev Inv-loop : tie.InvT-loop
+Inv-loop text buffer₀ i₀ buffer i = (i ≤ length text) × (length text ≤ length buffer₀) × (length buffer ≡ length buffer₀) × (buffer ≡ take i text ++ drop i buffer₀)
+
+abbrev μ-loop : tie.MeasureT-loop
+μ-loop text buffer₀ i₀ buffer i = length text - i
+
+loop-holds : tie.Need-loop-holds Inv-loop μ-loop
+loop-holds c = (search needs, search needs, search needs, search needs)
+
+shared-slice-read-buffer : tie.Need-shared-slice-read-buffer Inv-loop μ-loop
+shared-slice-read-buffer c = search needs
+
+slice-write-buffer : tie.Need-slice-write-buffer Inv-loop μ-loop
+slice-write-buffer c = search needs
+
+add-i : tie.Need-add-i Inv-loop μ-loop
+add-i c = search needs
+
+loop-less : tie.Need-loop-less Inv-loop μ-loop
+loop-less c = search needs
+
+loop-again : tie.Need-loop-again Inv-loop μ-loop
+loop-again c = (search needs, search needs, search needs, search byte-copied)
+
+same-length : tie.Need-same-length Inv-loop μ-loop
+same-length c = search needs
+
+returns : tie.Need-returns Inv-loop μ-loop
+returns c = search all-copied
+
+pub copy-spec : {M : Type 1} → statement M
+copy-spec =
+    tie.close
+    (tie.spec
+    Inv-loop
+    μ-loop
+    loop-holds
+    shared-slice-read-buffer
+    slice-write-buffer
+    add-i
+    loop-less
+    loop-again
+    same-length
+    returns)

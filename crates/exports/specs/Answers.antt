@@ -1,0 +1,91 @@
+-- What each call for other programs answers: the number and the place of a refusal, or zeros, and every lent list and number afterwards.
+use Prim.Native.Nat.{ℕ}
+use mathlib.Core.Bool.{Bool}
+use mathlib.Core.List.{List}
+use lib.ListN.{length}
+use lib.IntN.{ℤ}
+use lib.Dec.{ltb, leb, eqb}
+use Rattle.basis.specs.Words.{pick}
+use Rattle.basis.specs.Refusals.{Outcome, accepted, refused, orElse}
+use Rattle.sheet.specs.Answers.{reading, labelIn}
+use Rattle.sheet.specs.declared.labels.Part.{Part}
+use Rattle.sheet.specs.declared.row.Sheet.{Sheet}
+use Rattle.bound.specs.Bound.{Answer, boundsOf}
+use Rattle.machine.specs.Checks.{needed}
+use Rattle.machine.specs.Answers.{Course, Told, no-job, margin-is, refused-by, fresh, handed, slot, run, margin}
+use Rattle.machine.specs.declared.state.State.{State}
+use Rattle.dashboard.specs.Pages.{Page, written}
+use Rattle.dashboard.specs.Texts.{verdictText}
+use Rattle.flat.specs.Lists.{filled, sheetIn, sheetCell, sheetLong}
+use Rattle.exports.specs.Lists.{stateIn, stateCell, pairsLong, resultCell, flag}
+
+-- A refusal's number and place; zeros where nothing is refused.
+abbrev pub told : Outcome → ℕ × ℕ
+told accepted = (0, 0)
+told (refused number place) = (number, place)
+
+-- What a call answers: its outcome is told, and beside a refusal all that was lent is as it was.
+abbrev pub answered : {A : Type 0} → Outcome → A → A → (ℕ × ℕ) × A
+answered o done found = (told o, handed o done found .1)
+
+-- 15 where an answer needs more places than its buffer has.
+abbrev pub roomFor : ℕ → ℕ → Outcome
+roomFor needs room = needed (leb needs room) 15
+
+-- The verdict: its whole text at the start of the buffer, and how long it is.
+unfoldable pub verdictIn : List ℕ → List ℕ → ℕ → (ℕ × ℕ) × Page
+verdictIn s text long =
+    answered (roomFor (length (verdictText s)) (length text)) (written (verdictText s) text) (text, long)
+
+-- The reader's fields: its refusals, then the room for the sheet.
+unfoldable pub fieldsIn : Outcome × Sheet → List ℕ → (ℕ × ℕ) × List ℕ
+fieldsIn (o, h) list = answered (orElse o (roomFor (sheetLong (h .count)) (length list))) (filled (sheetCell h) list) list
+
+unfoldable pub readIn : List ℕ → List ℕ → (ℕ × ℕ) × List ℕ
+readIn s list = fieldsIn (reading s) list
+
+-- The label of a row: the reader's refusals, then 14; where it starts in the bytes, and how long it is.
+abbrev pub labelOutcome : Outcome × Sheet → ℕ → Outcome
+labelOutcome (o, h) row = orElse o (needed (ltb row (h .count)) 14)
+
+unfoldable pub labelAnswer : List ℕ → ℕ → ℕ × ℕ → (ℕ × ℕ) × (ℕ × ℕ)
+labelAnswer s row found = answered (labelOutcome (reading s) row) (labelIn s row .start, labelIn s row .long) found
+
+-- The bounds of a sheet's list: 10, then the room for a word and a bound for each row; whether the sheet holds, and the results.
+unfoldable pub resultsIn : ℕ → Answer → ℕ × List ℕ → (ℕ × ℕ) × (ℕ × List ℕ)
+resultsIn n (o, holds, ws) (found, list) =
+    answered (orElse o (roomFor (pairsLong n) (length list))) (flag holds, filled (resultCell ws) list) (found, list)
+
+unfoldable pub boundsIn : List ℕ → ℕ × List ℕ → (ℕ × ℕ) × (ℕ × List ℕ)
+boundsIn sheet lent = resultsIn (sheetIn sheet .count) (boundsOf (sheetIn sheet)) lent
+
+-- The fresh state of a sheet's list: 10, then the room for a record for each row.
+unfoldable pub stateGiven : ℕ → Outcome × State → List ℕ → (ℕ × ℕ) × List ℕ
+stateGiven n (o, t) list = answered (orElse o (roomFor (pairsLong n) (length list))) (filled (stateCell t) list) list
+
+unfoldable pub freshIn : List ℕ → List ℕ → (ℕ × ℕ) × List ℕ
+freshIn sheet list = stateGiven (sheetIn sheet .count) (fresh (sheetIn sheet)) list
+
+-- One slot: the state's list and the codes after it.
+unfoldable pub slotGiven : Outcome × (State × List ℕ) → List ℕ → (ℕ × ℕ) × (List ℕ × List ℕ)
+slotGiven (o, (t, codes)) list = (told o, (handed o (filled (stateCell t) list) list .1, codes))
+
+unfoldable pub slotOn : List ℕ → List ℕ → List ℕ → List ℕ → (ℕ × ℕ) × (List ℕ × List ℕ)
+slotOn sheet list releases codes = slotGiven (slot (sheetIn sheet) (stateIn list) releases codes) list
+
+-- A run: the slots done, the state's list after them, which is as it was where none is done, and the codes.
+unfoldable pub runGiven : Course → List ℕ → (ℕ × ℕ) × (ℕ × (List ℕ × List ℕ))
+runGiven c list =
+    (told (c .outcome), (c .done, (pick (eqb (c .done) 0) list (filled (stateCell (c .state)) list), c .codes)))
+
+unfoldable pub runOn : List ℕ → List ℕ → List ℕ → List ℕ → (ℕ × ℕ) × (ℕ × (List ℕ × List ℕ))
+runOn sheet list releases codes = runGiven (run (sheetIn sheet) (stateIn list) releases codes) list
+
+-- The margin of a row: 1 and the margin where it has a job, 0 and no margin where it has none.
+unfoldable pub marginGiven : Told → ℕ × ℤ → (ℕ × ℕ) × (ℕ × ℤ)
+marginGiven no-job (found, z) = ((0, 0), (0, z))
+marginGiven (margin-is d) (found, z) = ((0, 0), (1, d))
+marginGiven (refused-by number place) (found, z) = ((number, place), (found, z))
+
+unfoldable pub marginIn : List ℕ → List ℕ → ℕ → ℕ × ℤ → (ℕ × ℕ) × (ℕ × ℤ)
+marginIn sheet list row lent = marginGiven (margin (sheetIn sheet) (stateIn list) row) lent

@@ -1,0 +1,16 @@
+// What other programs link: each function takes any numbers and any lists, and no list may overlap another that is written.
+mod machines;
+mod sheets;
+mod states;
+mod telling;
+mod verdicts;
+
+pub use machines::giachimu_fresh;
+pub use machines::giachimu_margin;
+pub use machines::giachimu_run;
+pub use machines::giachimu_slot;
+pub use sheets::giachimu_label;
+pub use sheets::giachimu_read;
+pub use verdicts::giachimu_bounds;
+pub use verdicts::giachimu_green;
+pub use verdicts::giachimu_verdict;

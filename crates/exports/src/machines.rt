@@ -1,0 +1,108 @@
+// The machine on a sheet and a state in lists: fresh, one slot, a run, the margin of a row.
+ghost use mathlib.Core.Path.{_≡_};
+ghost use Rattle.exports.specs.Answers.{freshIn, slotOn, runOn, marginIn};
+use crate::states::put_state;
+use crate::states::state_in;
+use crate::telling::tell;
+use basis::Refusal;
+use flat::sheet_in;
+use machine::Margin;
+
+// Writes the fresh state of a sheet into a list.
+#[no_mangle]
+pub extern "C" fn giachimu_fresh(sheet: &[u64], list: &mut [u64], place: &mut usize) -> u64
+    ensures { λ r. ⌜ ((r, now (place .exit)), now (list .exit)) ≡ freshIn (now (sheet .entry)) (now (list .entry)) ⌝ }
+{
+    let given = sheet_in(sheet);
+    let started = machine::fresh(given);
+    let refusal = started.refusal;
+    let state = started.state;
+    match refusal {
+        Refusal::Refused(number, at) => tell(Refusal::Refused(number, at), place),
+        Refusal::Accepted => {
+            if list.len() < given.count as usize * 2 {
+                return tell(Refusal::Refused(15, 0), place);
+            }
+            put_state(list, state);
+            tell(Refusal::Accepted, place)
+        }
+    }
+}
+
+// One slot: the state in the list becomes the next one, and the codes are written.
+#[no_mangle]
+pub extern "C" fn giachimu_slot(
+    sheet: &[u64],
+    list: &mut [u64],
+    releases: &[u64],
+    codes: &mut [u8],
+    place: &mut usize,
+) -> u64
+    ensures { λ r. ⌜ ((r, now (place .exit)), (now (list .exit), now (codes .exit))) ≡ slotOn (now (sheet .entry)) (now (list .entry)) (now (releases .entry)) (now (codes .entry)) ⌝ }
+{
+    let state = state_in(list);
+    let slotted = state.slot_on(sheet, releases, codes);
+    let refusal = slotted.refusal;
+    let after = slotted.state;
+    match refusal {
+        Refusal::Refused(number, row) => tell(Refusal::Refused(number, row), place),
+        Refusal::Accepted => {
+            put_state(list, after);
+            tell(Refusal::Accepted, place)
+        }
+    }
+}
+
+// A run of slots: the slots done, the state in the list after them, and their codes.
+#[no_mangle]
+pub extern "C" fn giachimu_run(
+    sheet: &[u64],
+    list: &mut [u64],
+    releases: &[u64],
+    codes: &mut [u8],
+    done: &mut u64,
+    place: &mut usize,
+) -> u64
+    ensures { λ r. ⌜ ((r, now (place .exit)), (now (done .exit), (now (list .exit), now (codes .exit)))) ≡ runOn (now (sheet .entry)) (now (list .entry)) (now (releases .entry)) (now (codes .entry)) ⌝ }
+{
+    let state = state_in(list);
+    let ran = state.run_on(sheet, releases, codes);
+    let refusal = ran.refusal;
+    let slots = ran.done;
+    *done = slots;
+    if slots == 0 {
+        return tell(refusal, place);
+    }
+    let after = ran.state;
+    put_state(list, after);
+    tell(refusal, place)
+}
+
+// The margin of a row: 1 and its margin where it has a job, else 0 and no margin.
+#[no_mangle]
+pub extern "C" fn giachimu_margin(
+    sheet: &[u64],
+    list: &[u64],
+    row: usize,
+    job: &mut u64,
+    margin: &mut i64,
+    place: &mut usize,
+) -> u64
+    ensures { λ r. ⌜ ((r, now (place .exit)), (now (job .exit), now (margin .exit))) ≡ marginIn (now (sheet .entry)) (now (list .entry)) row (now (job .entry), now (margin .entry)) ⌝ }
+{
+    let given = sheet_in(sheet);
+    let state = state_in(list);
+    let told = state.margin(given, row);
+    match told {
+        Margin::Refused(number, at) => tell(Refusal::Refused(number, at), place),
+        Margin::NoJob => {
+            *job = 0;
+            tell(Refusal::Accepted, place)
+        }
+        Margin::Is(value) => {
+            *job = 1;
+            *margin = value;
+            tell(Refusal::Accepted, place)
+        }
+    }
+}

@@ -1,0 +1,132 @@
+// The verdict's text, green, and the bounds.
+ghost use mathlib.Core.Path.{_≡_};
+ghost use mathlib.Core.Bool.{true};
+ghost use mathlib.Core.List.{_++_, map};
+ghost use lib.ListN.{length, drop};
+ghost use Prim.Native.Nat.{_≤_};
+ghost use Rattle.sheet.specs.Answers.{reading};
+ghost use Rattle.bound.specs.Bound.{word, wordIn};
+ghost use Rattle.green.specs.Demand.{NoJobIsLate};
+ghost use Rattle.green.specs.Green.{greenOf};
+ghost use Rattle.flat.specs.Lists.{filled};
+ghost use Rattle.exports.specs.Lists.{wordNumber, boundNumber, resultCell, flag};
+ghost use Rattle.exports.specs.Answers.{verdictIn, boundsIn};
+use crate::states::pair_cell;
+use crate::states::pair_of;
+use crate::telling::tell;
+use basis::Refusal;
+use bound::Result;
+use bound::Results;
+use flat::sheet_in;
+
+// Copies a text to the start of a buffer.
+fn copy(text: &[u8], buffer: &mut [u8])
+    requires { ⌜ length (now text) ≤ length (now buffer) ⌝ }
+    ensures { λ _. ⌜ now (buffer .exit) ≡ now (text .entry) ++ drop (length (now (text .entry))) (now (buffer .entry)) ⌝ }
+{
+    let mut i: usize = 0;
+    while i < text.len() {
+        buffer[i] = text[i];
+        i += 1;
+    }
+}
+
+// Writes the text of the verdict on some bytes, and how long it is.
+#[no_mangle]
+pub extern "C" fn giachimu_verdict(
+    bytes: &[u8],
+    text: &mut [u8],
+    long: &mut usize,
+    place: &mut usize,
+) -> u64
+    ensures { λ r. ⌜ ((r, now (place .exit)), (now (text .exit), now (long .exit))) ≡ verdictIn (now (bytes .entry)) (now (text .entry)) (now (long .entry)) ⌝ }
+{
+    let mut whole = dashboard::text_buffer();
+    let count = dashboard::write_verdict(bytes, &mut whole);
+    if count <= text.len() {
+        copy(&whole[..count], text);
+        *long = count;
+        return tell(Refusal::Accepted, place);
+    }
+    tell(Refusal::Refused(15, 0), place)
+}
+
+// Whether no job of the sheet in these bytes is ever late.
+#[no_mangle]
+pub extern "C" fn giachimu_green(bytes: &[u8]) -> bool
+    ensures { λ r. ⌜ (r ≡ greenOf (now (bytes .entry))) × (r ≡ true → NoJobIsLate (reading (now (bytes .entry)) .1)) ⌝ }
+{
+    green::green(bytes)
+}
+
+// A result's word: 0 unreached, 1 bound, 2 none.
+fn word_number(result: Result) -> u64
+    ensures { λ r. ⌜ r ≡ wordNumber (word result) ⌝ }
+{
+    match result {
+        Result::Unreached => 0,
+        Result::Bound(_) => 1,
+        Result::NoBound => 2,
+    }
+}
+
+// A result's bound, and zero where there is none.
+fn bound_number(result: Result) -> u64
+    ensures { λ r. ⌜ r ≡ boundNumber (word result) ⌝ }
+{
+    match result {
+        Result::Unreached => 0,
+        Result::Bound(bound) => bound,
+        Result::NoBound => 0,
+    }
+}
+
+// Writes results into a list.
+fn put_results(list: &mut [u64], results: Results)
+    ensures { λ _. ⌜ now (list .exit) ≡ filled (resultCell (map wordIn (results .rows))) (now (list .entry)) ⌝ }
+{
+    let rows = results.rows;
+    let mut i: usize = 0;
+    while i < list.len() {
+        let judged = rows[pair_of(i)];
+        let result = judged.result;
+        list[i] = pair_cell(word_number(result), bound_number(result), i);
+        i += 1;
+    }
+}
+
+// Yes and no as numbers.
+fn flag(test: bool) -> u64
+    ensures { λ r. ⌜ r ≡ flag test ⌝ }
+{
+    if test {
+        return 1;
+    }
+    0
+}
+
+// The bounds of a sheet's list: whether it holds, and a word and a bound for each row.
+#[no_mangle]
+pub extern "C" fn giachimu_bounds(
+    sheet: &[u64],
+    list: &mut [u64],
+    holds: &mut u64,
+    place: &mut usize,
+) -> u64
+    ensures { λ r. ⌜ ((r, now (place .exit)), (now (holds .exit), now (list .exit))) ≡ boundsIn (now (sheet .entry)) (now (holds .entry), now (list .entry)) ⌝ }
+{
+    let given = sheet_in(sheet);
+    let results = bound::bounds(given);
+    let refusal = results.refusal;
+    match refusal {
+        Refusal::Refused(number, at) => tell(Refusal::Refused(number, at), place),
+        Refusal::Accepted => {
+            if list.len() < given.count as usize * 2 {
+                return tell(Refusal::Refused(15, 0), place);
+            }
+            put_results(list, results);
+            *holds = flag(results.holds);
+            tell(Refusal::Accepted, place)
+        }
+    }
+}

@@ -1,0 +1,54 @@
+/* A sheet of two programs on two processors, from its bytes to a run of slots: what a dashboard, or a box's firmware, calls. */
+#include "../giachimu.h"
+
+int printf(const char *format, ...);
+
+static const uint8_t SHEET[] = {0x47, 0x53, 0x48, 0x01, 2, 2, 4, 'r', 'o', 'l', 'l', 2, 2, 2, 1, 4, 't', 'r', 'i', 'm', 1, 4, 4, 2};
+
+static const char *const WORDS[] = {"unreached", "bound", "none"};
+
+static void show_verdict(const uint8_t *bytes, size_t count) {
+  uint8_t text[GIACHIMU_TEXT_LONG];
+  size_t length = 0, place;
+  giachimu_verdict(bytes, count, text, sizeof text, &length, &place);
+  printf("%.*s", (int)length, (const char *)text);
+}
+
+static void show_bounds(const uint64_t *sheet) {
+  uint64_t results[GIACHIMU_PAIRS_LONG], holds;
+  size_t place;
+  if (giachimu_bounds(sheet, GIACHIMU_SHEET_LONG, results, GIACHIMU_PAIRS_LONG, &holds, &place) != 0) return;
+  for (uint64_t row = 0; row < sheet[1]; row++) {
+    size_t start, length;
+    giachimu_label(SHEET, sizeof SHEET, row, &start, &length, &place);
+    printf("%.*s: %s %llu\n", (int)length, (const char *)SHEET + start, WORDS[results[2 * row]], (unsigned long long)results[2 * row + 1]);
+  }
+}
+
+static void show_run(const uint64_t *sheet) {
+  static const uint64_t RELEASES[] = {1, 2, 0, 0, 1, 0, 0, 0, 1, 2, 0, 1};
+  uint64_t state[GIACHIMU_PAIRS_LONG], done, job;
+  uint8_t codes[12] = {0};
+  int64_t margin;
+  size_t place;
+  giachimu_fresh(sheet, GIACHIMU_SHEET_LONG, state, GIACHIMU_PAIRS_LONG, &place);
+  uint64_t number = giachimu_run(sheet, GIACHIMU_SHEET_LONG, state, GIACHIMU_PAIRS_LONG, RELEASES, 12, codes, sizeof codes, &done, &place);
+  printf("%llu slots done, refusal %llu at %zu\n", (unsigned long long)done, (unsigned long long)number, place);
+  for (uint64_t slot = 0; slot < done; slot++) printf("slot %llu: %d %d\n", (unsigned long long)slot, codes[2 * slot], codes[2 * slot + 1]);
+  number = giachimu_margin(sheet, GIACHIMU_SHEET_LONG, state, GIACHIMU_PAIRS_LONG, 1, &job, &margin, &place);
+  if (number == 0 && job == 1) printf("trim has a margin of %lld\n", (long long)margin);
+  number = giachimu_margin(sheet, GIACHIMU_SHEET_LONG, state, GIACHIMU_PAIRS_LONG, 2, &job, &margin, &place);
+  printf("row 2: refusal %llu\n", (unsigned long long)number);
+}
+
+int main(void) {
+  uint64_t sheet[GIACHIMU_SHEET_LONG];
+  size_t place;
+  show_verdict(SHEET, sizeof SHEET);
+  printf("green: %d\n", giachimu_green(SHEET, sizeof SHEET));
+  show_verdict(SHEET, sizeof SHEET - 1);
+  if (giachimu_read(SHEET, sizeof SHEET, sheet, GIACHIMU_SHEET_LONG, &place) != 0) return 1;
+  show_bounds(sheet);
+  show_run(sheet);
+  return 0;
+}

@@ -1,0 +1,26 @@
+"""A sheet of two programs on two processors, from its bytes to a run of slots: example.py LIBRARY."""
+import sys
+
+from giachimu import Giachimu, Refused
+
+SHEET = b"GSH\x01\x02\x02\x04roll\x02\x02\x02\x01\x04trim\x01\x04\x04\x02"
+
+giachimu = Giachimu(sys.argv[1])
+print(giachimu.verdict(SHEET), end="")
+print("green:", int(giachimu.green(SHEET)))
+print(giachimu.verdict(SHEET[:-1]), end="")
+processors, rows = giachimu.read(SHEET)
+for row, bound in enumerate(giachimu.bounds(processors, rows)):
+    print(f"{giachimu.label(SHEET, row)}: {'bound' if bound else 'none'} {bound or 0}")
+state = giachimu.fresh(processors, rows)
+ran = giachimu.run(processors, rows, state, [1, 2, 0, 0, 1, 0, 0, 0, 1, 2, 0, 1])
+print(f"{len(ran.codes)} slots done, {ran.refusal}")
+for slot, codes in enumerate(ran.codes):
+    print(f"slot {slot}: {codes[0]} {codes[1]}")
+margin = giachimu.margin(processors, rows, state, 1)
+if margin is not None:
+    print(f"trim has a margin of {margin}")
+try:
+    giachimu.margin(processors, rows, state, 2)
+except Refused as refused:
+    print(f"row 2: refusal {refused.number}")

@@ -1,0 +1,37 @@
+//! A sheet of two programs on two processors, from its bytes to a run of slots.
+
+mod giachimu;
+
+use giachimu::{green, label, verdict, Outcome, Sheet};
+
+const SHEET: &[u8] = b"GSH\x01\x02\x02\x04roll\x02\x02\x02\x01\x04trim\x01\x04\x04\x02";
+
+fn main() {
+    print!("{}", verdict(SHEET));
+    println!("green: {}", green(SHEET) as u8);
+    print!("{}", verdict(&SHEET[..SHEET.len() - 1]));
+    let sheet = Sheet::read(SHEET).expect("a legal sheet");
+    for (row, outcome) in sheet.bounds().expect("a legal sheet").into_iter().enumerate() {
+        let label = String::from_utf8_lossy(label(SHEET, row).expect("a row of the sheet"));
+        match outcome {
+            Outcome::Bound(bound) => println!("{label}: bound {bound}"),
+            Outcome::NoBound => println!("{label}: none 0"),
+            Outcome::Unreached => println!("{label}: unreached 0"),
+        }
+    }
+    let mut state = sheet.fresh().expect("a legal sheet");
+    let run = state.run(&sheet, &[1, 2, 0, 0, 1, 0, 0, 0, 1, 2, 0, 1]);
+    let refusal = run.refusal.expect("the last slot releases too soon");
+    println!("{} slots done, refusal {} at {}", run.done, refusal.number, refusal.place);
+    for (slot, codes) in run.codes.chunks(2).enumerate() {
+        println!("slot {slot}: {} {}", codes[0] as u8, codes[1] as u8);
+    }
+    if let Ok(Some(margin)) = state.margin(&sheet, 1) {
+        println!("trim has a margin of {margin}");
+    }
+    println!("row 2: refusal {}", state.margin(&sheet, 2).expect_err("there is no row 2").number);
+    let before = state.clone();
+    let refused = state.slot(&sheet, &[0, 1]).expect_err("the release is too soon");
+    assert!(refused.number == 13 && refused.place == 1 && state == before);
+    assert!(state.slot(&sheet, &[0, 0]).is_ok() && state != before);
+}

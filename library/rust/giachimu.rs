@@ -1,0 +1,185 @@
+//! A safe wrapper of Giachimu's library: its lists become structs, and its refusals errors.
+
+#[link(name = "exports", kind = "static")]
+extern "C" {
+    fn giachimu_green(bytes: *const u8, bytes_count: usize) -> bool;
+    fn giachimu_verdict(bytes: *const u8, bytes_count: usize, text: *mut u8, text_count: usize, length: *mut usize, place: *mut usize) -> u64;
+    fn giachimu_read(bytes: *const u8, bytes_count: usize, sheet: *mut u64, sheet_count: usize, place: *mut usize) -> u64;
+    fn giachimu_label(bytes: *const u8, bytes_count: usize, row: usize, start: *mut usize, length: *mut usize, place: *mut usize) -> u64;
+    fn giachimu_bounds(sheet: *const u64, sheet_count: usize, results: *mut u64, results_count: usize, holds: *mut u64, place: *mut usize) -> u64;
+    fn giachimu_fresh(sheet: *const u64, sheet_count: usize, state: *mut u64, state_count: usize, place: *mut usize) -> u64;
+    #[rustfmt::skip]
+    fn giachimu_slot(sheet: *const u64, sheet_count: usize, state: *mut u64, state_count: usize, releases: *const u64, releases_count: usize, codes: *mut u8, codes_count: usize, place: *mut usize) -> u64;
+    #[rustfmt::skip]
+    fn giachimu_run(sheet: *const u64, sheet_count: usize, state: *mut u64, state_count: usize, releases: *const u64, releases_count: usize, codes: *mut u8, codes_count: usize, done: *mut u64, place: *mut usize) -> u64;
+    #[rustfmt::skip]
+    fn giachimu_margin(sheet: *const u64, sheet_count: usize, state: *const u64, state_count: usize, row: usize, job: *mut u64, margin: *mut i64, place: *mut usize) -> u64;
+}
+
+/// The most rows of a sheet.
+pub const MOST_ROWS: usize = 32;
+
+/// The bytes of the longest verdict.
+const TEXT_LONG: usize = 1094;
+
+/// Why a call was refused: the number and the place of the table of refusals.
+#[derive(Clone, Copy, Debug, PartialEq, Eq)]
+pub struct Refusal {
+    pub number: u64,
+    pub place: usize,
+}
+
+/// One program of a sheet.
+#[derive(Clone, Copy, Debug, PartialEq, Eq)]
+pub struct Row {
+    pub threads: u64,
+    pub separation: u64,
+    pub deadline: u64,
+    pub budget: u64,
+}
+
+/// A sheet by its numbers; any numbers whatever may stand in it.
+#[derive(Clone, Debug, PartialEq, Eq)]
+pub struct Sheet {
+    pub processors: u64,
+    pub rows: Vec<Row>,
+}
+
+/// What the test says of a row.
+#[derive(Clone, Copy, Debug, PartialEq, Eq)]
+pub enum Outcome {
+    Unreached,
+    Bound(u64),
+    NoBound,
+}
+
+/// What a row did in a slot.
+#[derive(Clone, Copy, Debug, PartialEq, Eq)]
+pub enum Code {
+    NoJob,
+    Waited,
+    Ran,
+    Finished,
+    Missed,
+}
+
+/// The state of a box.
+#[derive(Clone, Debug, PartialEq, Eq)]
+pub struct State([u64; 2 * MOST_ROWS]);
+
+/// What came of a run: the codes of the slots done, n to a slot, and the refusal that ended it, if one did.
+#[derive(Clone, Debug, PartialEq, Eq)]
+pub struct Run {
+    pub done: u64,
+    pub codes: Vec<Code>,
+    pub refusal: Option<Refusal>,
+}
+
+/// The answer beside the number and the place of a call.
+fn answer<A>(number: u64, place: usize, accepted: A) -> Result<A, Refusal> {
+    if number == 0 {
+        return Ok(accepted);
+    }
+    Err(Refusal { number, place })
+}
+
+/// Whether the bytes are a sheet whose every row has a bound: then no job is ever late.
+pub fn green(bytes: &[u8]) -> bool {
+    // SAFETY: the pointer and the count are those of a slice.
+    unsafe { giachimu_green(bytes.as_ptr(), bytes.len()) }
+}
+
+/// The text of the verdict on some bytes.
+pub fn verdict(bytes: &[u8]) -> String {
+    let (mut text, mut length, mut place) = (vec![0; TEXT_LONG], 0, 0);
+    // SAFETY: the pointers and counts are those of slices, and what is written lies apart.
+    let number = unsafe { giachimu_verdict(bytes.as_ptr(), bytes.len(), text.as_mut_ptr(), text.len(), &mut length, &mut place) };
+    assert_eq!(number, 0, "no verdict is longer");
+    text.truncate(length);
+    String::from_utf8(text).expect("a verdict is plain text")
+}
+
+/// The label of a row, a part of the bytes.
+pub fn label(bytes: &[u8], row: usize) -> Result<&[u8], Refusal> {
+    let (mut start, mut length, mut place) = (0, 0, 0);
+    // SAFETY: as above.
+    let number = unsafe { giachimu_label(bytes.as_ptr(), bytes.len(), row, &mut start, &mut length, &mut place) };
+    answer(number, place, &bytes[start..start + length])
+}
+
+impl Sheet {
+    /// The sheet in some bytes.
+    pub fn read(bytes: &[u8]) -> Result<Sheet, Refusal> {
+        let (mut list, mut place) = ([0; 4 * MOST_ROWS + 2], 0);
+        // SAFETY: as above.
+        let number = unsafe { giachimu_read(bytes.as_ptr(), bytes.len(), list.as_mut_ptr(), list.len(), &mut place) };
+        let rows = list[2..].chunks(4).take(list[1] as usize);
+        let rows = rows.map(|row| Row { threads: row[0], separation: row[1], deadline: row[2], budget: row[3] });
+        answer(number, place, Sheet { processors: list[0], rows: rows.collect() })
+    }
+
+    /// The sheet's list of plain numbers.
+    fn list(&self) -> Vec<u64> {
+        let rows = self.rows.iter().flat_map(|row| [row.threads, row.separation, row.deadline, row.budget]);
+        [self.processors, self.rows.len() as u64].into_iter().chain(rows).collect()
+    }
+
+    /// The result of each row; the sheet holds where every one is a bound.
+    pub fn bounds(&self) -> Result<Vec<Outcome>, Refusal> {
+        let (list, mut results, mut holds, mut place) = (self.list(), [0; 2 * MOST_ROWS], 0, 0);
+        // SAFETY: as above.
+        let number = unsafe { giachimu_bounds(list.as_ptr(), list.len(), results.as_mut_ptr(), results.len(), &mut holds, &mut place) };
+        let outcomes = results.chunks(2).take(self.rows.len()).map(|result| match result[0] {
+            1 => Outcome::Bound(result[1]),
+            2 => Outcome::NoBound,
+            _ => Outcome::Unreached,
+        });
+        answer(number, place, outcomes.collect())
+    }
+
+    /// The fresh state.
+    pub fn fresh(&self) -> Result<State, Refusal> {
+        let (list, mut state, mut place) = (self.list(), [0; 2 * MOST_ROWS], 0);
+        // SAFETY: as above.
+        let number = unsafe { giachimu_fresh(list.as_ptr(), list.len(), state.as_mut_ptr(), state.len(), &mut place) };
+        answer(number, place, State(state))
+    }
+}
+
+/// The code of a byte that the library wrote.
+fn code(byte: u8) -> Code {
+    [Code::NoJob, Code::Waited, Code::Ran, Code::Finished, Code::Missed][byte as usize]
+}
+
+impl State {
+    /// One slot, which changes the state, or a refusal, which leaves it.
+    pub fn slot(&mut self, sheet: &Sheet, releases: &[u64]) -> Result<Vec<Code>, Refusal> {
+        let (list, mut codes, mut place) = (sheet.list(), vec![0; releases.len()], 0);
+        let state = &mut self.0;
+        // SAFETY: as above.
+        let number = unsafe {
+            giachimu_slot(list.as_ptr(), list.len(), state.as_mut_ptr(), state.len(), releases.as_ptr(), releases.len(), codes.as_mut_ptr(), codes.len(), &mut place)
+        };
+        answer(number, place, codes.into_iter().map(code).collect())
+    }
+
+    /// Slots one after another, to the first that is refused.
+    pub fn run(&mut self, sheet: &Sheet, releases: &[u64]) -> Run {
+        let (list, mut codes, mut done, mut place) = (sheet.list(), vec![0; releases.len()], 0, 0);
+        let state = &mut self.0;
+        // SAFETY: as above.
+        let number = unsafe {
+            giachimu_run(list.as_ptr(), list.len(), state.as_mut_ptr(), state.len(), releases.as_ptr(), releases.len(), codes.as_mut_ptr(), codes.len(), &mut done, &mut place)
+        };
+        codes.truncate(done as usize * sheet.rows.len());
+        Run { done, codes: codes.into_iter().map(code).collect(), refusal: answer(number, place, ()).err() }
+    }
+
+    /// The margin of a row; none where it has no job.
+    pub fn margin(&self, sheet: &Sheet, row: usize) -> Result<Option<i64>, Refusal> {
+        let (list, mut job, mut margin, mut place) = (sheet.list(), 0, 0, 0);
+        // SAFETY: as above.
+        let number = unsafe { giachimu_margin(list.as_ptr(), list.len(), self.0.as_ptr(), self.0.len(), row, &mut job, &mut margin, &mut place) };
+        answer(number, place, (job == 1).then_some(margin))
+    }
+}
