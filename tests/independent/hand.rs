@@ -1,75 +1,71 @@
-//! The cases worked by hand: sheets A to F, the runs G and H and the numbers I, held against this program's own rules.
+//! The answers worked by hand: sheets A to F, the runs G and H, the numbers I and the texts, held against this program's own rules.
 
 use crate::bound::{bounds, Outcome};
-use crate::case::{Case, Step};
-use crate::machine::{fresh, margin, slot};
-use crate::sheet::{label, number, read, Refusal, Row, Sheet, ROOM};
-use crate::Batch;
+use crate::machine::{fresh, margin, run, slot};
+use crate::number::{number, Refusal};
+use crate::reader::{label, read};
+use crate::sheet::fixed;
+use crate::text::{reference, verdict};
 
-/// A sheet of rows (threads, T, D, C).
-pub fn sheet(m: u64, rows: &[[u64; 4]]) -> Sheet {
-    let row = |[threads, separation, deadline, budget]: &[u64; 4]| Row {
-        threads: *threads,
-        separation: *separation,
-        deadline: *deadline,
-        budget: *budget,
-    };
-    Sheet::of(m, &rows.iter().map(row).collect::<Vec<Row>>())
+/// Sheet C with the labels roll and trim.
+pub const SHEET_C: &[u8] = b"GSH\x01\x02\x02\x04roll\x02\x02\x02\x01\x04trim\x01\x04\x04\x03";
+
+/// Stops where this program's own rules give another answer than the one on paper.
+pub fn check() {
+    sheets();
+    runs();
+    bytes();
+    texts();
 }
 
-/// The step from the fresh state with these releases.
-fn step(sheet: Sheet, releases: &[u64]) -> Step {
-    Step { sheet, state: fresh(&sheet).unwrap(), codes: vec![9; releases.len() + 2], releases: releases.to_vec() }
+/// The bounds of sheets A to F.
+fn sheets() {
+    use Outcome::{Bound, NoBound};
+    let results = [
+        vec![Bound(2), Bound(5)],
+        vec![Bound(2), Bound(4), Bound(7)],
+        vec![Bound(1), NoBound],
+        vec![Bound(1), Bound(4)],
+        vec![Bound(2), Bound(4)],
+        vec![Bound(1)],
+    ];
+    for (sheet, results) in fixed().iter().zip(results) {
+        assert_eq!(bounds(sheet), results);
+    }
 }
 
-/// Every case worked by hand, each held against its answer on paper.
-pub fn worked(batch: &mut Batch) {
-    use Outcome::{Bound, NoBound, Unreached};
-    let b = sheet(4, &[[3, 4, 4, 2], [2, 8, 8, 2], [1, 8, 8, 3]]);
-    let c = sheet(2, &[[2, 2, 2, 1], [1, 4, 4, 3]]);
-    let table: [(Sheet, &[Outcome]); 6] = [
-        (sheet(4, &[[2, 5, 5, 2], [3, 10, 10, 3]]), &[Bound(2), Bound(5)]),
-        (b, &[Bound(2), Bound(4), Bound(7)]),
-        (c, &[Bound(1), NoBound]),
-        (sheet(2, &[[2, 2, 2, 1], [1, 4, 4, 2]]), &[Bound(1), Bound(4)]),
-        (sheet(4, &[[4, 6, 6, 2], [4, 6, 6, 2]]), &[Bound(2), Bound(4)]),
-        (sheet(1, &[[1, 1, 1, 1]]), &[Bound(1)]),
-    ];
-    for (sheet, results) in table {
-        let mut whole = [Unreached; ROOM];
-        whole[..results.len()].copy_from_slice(results);
-        assert_eq!(bounds(&sheet), Ok(whole));
-        batch.add("worked by hand", Case::Handed(sheet));
-    }
-    let runs: [(Sheet, &[u64], &[u8]); 2] = [
-        (c, &[1, 3, 0, 0, 1, 0, 0, 0], &[3, 1, 0, 2, 3, 1, 0, 4]),
-        (b, &[2, 2, 3, 0, 0, 0, 0, 0, 0, 0, 0, 0], &[2, 1, 2, 3, 1, 2, 0, 2, 3, 0, 3, 0]),
-    ];
-    for (sheet, releases, codes) in runs {
-        let case = Case::Run(step(sheet, releases));
-        assert!(case.expected().ends_with(&[codes, &[9, 9]].concat()));
-        batch.add("worked by hand", case);
-    }
-    for (bytes, answer) in [(b"\x80\x01", Ok((128, 2))), (b"\x80\x00", Err(Refusal { number: 3, place: 0 }))] {
-        assert_eq!(number(bytes, 0), answer);
-        batch.add("worked by hand", Case::Number { at: 0, bytes: bytes.to_vec() });
-        batch.add("worked by hand", Case::UpTo { at: 0, most: 127, bytes: bytes.to_vec() });
-    }
-    let mut bytes = b"GSH\x01\x02\x02\x04roll\x02\x02\x02\x01\x04trim\x01\x04\x04\x03".to_vec();
-    assert_eq!(read(&bytes).map(|(sheet, _)| sheet), Ok(c));
-    for (row, name) in [(0, &b"roll"[..]), (1, b"trim"), (2, b"")] {
-        assert_eq!(label(&bytes, row), name);
-        batch.add("worked by hand", Case::Label { row, bytes: bytes.clone() });
-    }
-    batch.add("worked by hand", Case::Read { shown: 2, bytes: bytes.clone() });
-    *bytes.last_mut().unwrap() = 0;
-    assert_eq!(read(&bytes).err(), Some(Refusal { number: 7, place: 23 }));
-    batch.add("worked by hand", Case::Read { shown: 2, bytes });
-    let first = step(c, &[1, 3]);
-    let state = slot(&c, &first.state, &first.releases, &mut [0; 2]).unwrap();
-    batch.add("worked by hand", Case::Slot(first));
-    for (row, answer) in [(0, Ok(None)), (1, Ok(Some(0))), (2, Err(Refusal { number: 14, place: 0 }))] {
-        assert_eq!(margin(&c, &state, row), answer);
-        batch.add("worked by hand", Case::Margin { sheet: c, state, row });
-    }
+/// The codes of G and H, and margins in G after its first slot.
+fn runs() {
+    let [_, b, c, ..] = fixed();
+    let mut codes = [9; 10];
+    assert_eq!(run(&c, &fresh(&c), &[1, 3, 0, 0, 1, 0, 0, 0], &mut codes).done, 4);
+    assert_eq!(codes, [3, 1, 0, 2, 3, 1, 0, 4, 9, 9]);
+    let mut codes = [9; 12];
+    assert_eq!(run(&b, &fresh(&b), &[2, 2, 3, 0, 0, 0, 0, 0, 0, 0, 0, 0], &mut codes).done, 4);
+    assert_eq!(codes, [2, 1, 2, 3, 1, 2, 0, 2, 3, 0, 3, 0]);
+    let state = slot(&c, &fresh(&c), &[1, 3], &mut [0; 2]).expect("the first slot of G is accepted");
+    assert_eq!(margin(&c, &state, 0), Ok(None));
+    assert_eq!(margin(&c, &state, 1), Ok(Some(0)));
+    assert_eq!(margin(&c, &state, 2), Err(Refusal { number: 14, place: 0 }));
+}
+
+/// The numbers I, and sheet C's bytes and labels.
+fn bytes() {
+    assert_eq!(number(b"\x80\x01", 0), Ok((128, 2)));
+    assert_eq!(number(b"\x80\x00", 0), Err(Refusal { number: 3, place: 0 }));
+    assert_eq!(read(SHEET_C).map(|(sheet, _)| sheet), Ok(fixed()[2].clone()));
+    assert_eq!(label(SHEET_C, 0), Ok((7, 4)));
+    assert_eq!(label(SHEET_C, 1), Ok((16, 4)));
+    assert_eq!(label(SHEET_C, 2), Err(Refusal { number: 14, place: 0 }));
+}
+
+/// The verdict on sheet C, whole and with its last byte zero, and the first lines of the reference.
+fn texts() {
+    assert_eq!(verdict(SHEET_C), b"0 roll bound 1\n1 trim none -\nFAILS\n");
+    let mut zero = SHEET_C.to_vec();
+    zero[23] = 0;
+    assert_eq!(verdict(&zero), b"NO VERDICT 7 23\n");
+    assert!(
+        reference().starts_with(b"A\n0 r0 bound 2\n1 r1 bound 5\nHOLDS\nB\n0 r0 bound 2\n1 r1 bound 4\n2 r2 bound 7\nHOLDS\nC\n")
+    );
 }

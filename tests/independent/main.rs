@@ -1,137 +1,99 @@
-//! A second program for the sheet, the bound and the slot machine, written from their rules alone: it makes a batch of cases and compares the answers to it with its own.
+//! A second program for the sheet, the bound and the slot machine, written from their rules alone: it makes cases, and compares
+//! the answers to them with its own.
 
+mod answer;
+mod batch;
 mod bound;
 mod case;
 mod dice;
 mod hand;
-mod handed;
+mod judge;
 mod machine;
-mod numbers;
+mod make;
+mod number;
+mod page;
+mod probe;
+mod programs;
 mod random;
+mod reader;
+mod rules;
 mod sheet;
-mod sheets;
-mod slots;
+mod table;
+mod text;
 
-use case::Case;
-use std::io::Write;
+use make::Half;
+use probe::Choice;
+use std::path::Path;
+use std::process::ExitCode;
+use std::sync::atomic::{AtomicBool, Ordering::Relaxed};
 
-/// The cases, each with the group that it belongs to.
-#[derive(Default)]
-pub struct Batch(Vec<(&'static str, Case)>);
+/// The seed where none is given.
+const SEED: u64 = 20_240_229;
 
-impl Batch {
-    /// One more case.
-    pub fn add(&mut self, group: &'static str, case: Case) {
-        self.0.push((group, case));
-    }
-}
+const USAGE: &str = "check STARTER FOLDER [--seed N] [--times K] [--break RULE], rules, or hand CASES ANSWERS
+  STARTER starts a program, FOLDER has probe, verdict and reference; --times makes so many times the random cases;
+  --break breaks one rule of this program and asks only what has to show it; rules prints their names;
+  hand writes the cases worked by hand and their answers, in the bytes of the wire
+status: 0 where nothing differs, 1 at a difference, another where it cannot be told";
 
-/// All the cases, the same at every call.
-fn batch() -> Batch {
-    let mut batch = Batch::default();
-    let mut dice = dice::Dice(20_240_229);
-    hand::worked(&mut batch);
-    numbers::numbers(&mut batch, &mut dice);
-    sheets::short(&mut batch, &mut dice);
-    sheets::valid_sheets(&mut batch, &mut dice);
-    sheets::damaged(&mut batch, &mut dice);
-    handed::handed(&mut batch, &mut dice);
-    handed::long_searches(&mut batch, &mut dice);
-    handed::layered(&mut batch, &mut dice);
-    handed::small(&mut batch);
-    slots::slots(&mut batch, &mut dice);
-    slots::margins(&mut batch, &mut dice);
-    slots::runs(&mut batch, &mut dice);
-    slots::every_small(&mut batch);
-    batch
-}
-
-/// A message behind its length, in two bytes, lowest first.
-fn framed(message: &[u8]) -> Vec<u8> {
-    let length = u16::try_from(message.len()).expect("a case is short");
-    [&length.to_le_bytes(), message].concat()
-}
-
-/// The first message and what follows it, or nothing where the bytes end before it does.
-fn unframed(bytes: &[u8]) -> Option<(&[u8], &[u8])> {
-    let (length, rest) = bytes.split_first_chunk::<2>()?;
-    rest.split_at_checked(u16::from_le_bytes(*length) as usize)
-}
-
-/// Some bytes from a place on, in hexadecimal.
-fn hex(bytes: &[u8], from: usize) -> String {
-    let shown: Vec<String> = bytes.iter().skip(from).take(16).map(|byte| format!("{byte:02x}")).collect();
-    shown.join(" ")
-}
-
-/// A case on its own: the question, and where an answer to it first differs from the expected one.
-fn show(index: usize, group: &str, case: &Case, given: Option<&[u8]>) {
-    println!("case {index}, {group}: {case:?}");
-    let (expected, given) = (case.expected(), given.unwrap_or(&[]));
-    let from = expected.iter().zip(given).take_while(|(a, b)| a == b).count();
-    println!("  from byte {from} of {} expected: {}", expected.len(), hex(&expected, from));
-    println!("  from byte {from} of {} answered: {}", given.len(), hex(given, from));
-}
-
-/// The most differences that are shown one by one.
-const SHOWN: u64 = 3;
-
-/// The answers held against what is expected; whether none differs.
-fn compare(answers: &[u8]) -> bool {
-    let mut rest = answers;
-    let mut groups: Vec<(&str, u64, u64)> = Vec::new();
-    let mut differences = 0;
-    for (index, (group, case)) in batch().0.iter().enumerate() {
-        let (given, after) = unframed(rest).map_or((None, &[][..]), |(given, after)| (Some(given), after));
-        rest = after;
-        let expected = case.expected();
-        let differs = given != Some(&expected[..]);
-        if differs && differences < SHOWN {
-            show(index, group, case, given);
-        }
-        differences += differs as u64;
-        match groups.iter_mut().find(|(name, _, _)| name == group) {
-            Some((_, cases, differ)) => (*cases, *differ) = (*cases + 1, *differ + differs as u64),
-            None => groups.push((group, 1, differs as u64)),
+/// What the flags choose; nothing where one is not known or has no value.
+fn choice(flags: &[String]) -> Option<Choice> {
+    let mut choice = Choice { only: None, seed: SEED, times: 1 };
+    for flag in flags.chunks(2) {
+        let [name, value] = flag else { return None };
+        match name.as_str() {
+            "--seed" => choice.seed = value.parse().ok()?,
+            "--times" => choice.times = value.parse().ok()?,
+            "--break" => choice.only = Some(rules::break_rule(value)?),
+            _ => return None,
         }
     }
-    for (group, cases, differ) in &groups {
-        println!("{cases:7} {group}{}", if *differ > 0 { format!(", {differ} differ") } else { String::new() });
-    }
-    if !rest.is_empty() {
-        println!("{} bytes after the last answer", rest.len());
-    }
-    println!("{} cases, {differences} differences", groups.iter().map(|(_, cases, _)| cases).sum::<u64>());
-    differences == 0 && rest.is_empty()
+    Some(choice)
 }
 
-/// Writes messages to a file, each in its frame.
-fn save(path: &str, messages: impl Iterator<Item = Vec<u8>>) {
-    let mut file = std::io::BufWriter::new(std::fs::File::create(path).expect("the file can be made"));
-    for message in messages {
-        file.write_all(&framed(&message)).expect("the file can be written");
+/// Everything compared; whether nothing differs.
+fn check(starter: &Path, folder: &Path, choice: Choice) -> bool {
+    if choice.only.is_none() {
+        hand::check();
     }
-    file.flush().expect("the file can be written");
+    let (program, differs) = (folder.join("probe"), AtomicBool::new(false));
+    let [first, mut second] = std::thread::scope(|scope| {
+        let (program, differs) = (&program, &differs);
+        let asked =
+            [Half::Sheets, Half::Machine].map(|half| scope.spawn(move || probe::check(starter, program, choice, half, differs)));
+        asked.map(|half| half.join().expect("a half of the comparison ends"))
+    });
+    second.table.join(first.table);
+    programs::check(starter, folder, choice, &mut second.table, &differs);
+    let same = !differs.load(Relaxed);
+    if same {
+        second.watch.report();
+        second.table.print();
+    }
+    same
 }
 
-/// `make BATCH` writes the batch; `compare ANSWERS` compares the answers; `hand BATCH ANSWERS` writes the cases worked by hand with their answers.
-fn main() {
+fn main() -> ExitCode {
     let arguments: Vec<String> = std::env::args().skip(1).collect();
-    match arguments.iter().map(String::as_str).collect::<Vec<&str>>()[..] {
-        ["make", path] => save(path, batch().0.iter().map(|(_, case)| case.spelled())),
-        ["compare", path] => {
-            let answers = std::fs::read(path).expect("the answers can be read");
-            std::process::exit(!compare(&answers) as i32);
+    match &arguments[..] {
+        [word] if word == "rules" => {
+            rules::RULES.iter().for_each(|(_, _, name)| println!("{name}"));
+            return ExitCode::SUCCESS;
         }
-        ["hand", cases, answers] => {
-            let mut batch = Batch::default();
-            hand::worked(&mut batch);
-            save(cases, batch.0.iter().map(|(_, case)| case.spelled()));
-            save(answers, batch.0.iter().map(|(_, case)| case.expected()));
+        [word, cases, answers] if word == "hand" => {
+            let mut kept = batch::Kept::default();
+            make::worked::all(&mut kept, &mut dice::Dice(SEED), 1);
+            std::fs::write(cases, kept.cases).expect("the cases can be written");
+            std::fs::write(answers, kept.answers).expect("the answers can be written");
+            return ExitCode::SUCCESS;
         }
-        _ => {
-            eprintln!("make BATCH, compare ANSWERS, or hand BATCH ANSWERS");
-            std::process::exit(2);
+        [word, starter, folder, flags @ ..] if word == "check" => {
+            if let Some(choice) = choice(flags) {
+                return ExitCode::from(!check(Path::new(starter), Path::new(folder), choice) as u8);
+            }
         }
+        _ => {}
     }
+    eprintln!("{USAGE}");
+    ExitCode::from(2)
 }

@@ -1,13 +1,15 @@
-//! Random sheets, labels, states and releases.
+//! Random sheets, labels, lists, states, releases and buffers.
 
+use crate::case::Room;
 use crate::dice::Dice;
-use crate::machine::{Record, State};
-use crate::sheet::{Row, Sheet, LONGEST_LABEL, LONGEST_SEPARATION, MOST_PROCESSORS, ROOM};
+use crate::machine::Record;
+use crate::reader::{fields, LONGEST_LABEL};
+use crate::sheet::{Row, Sheet, LONGEST_SEPARATION, MOST_PROCESSORS, MOST_ROWS};
 
 /// Numbers at the edges of the number's groups and of the sheet's ranges.
 const EDGES: [u64; 14] = [1, 2, 63, 64, 126, 127, 128, 129, 16_382, 16_383, 16_384, 16_385, 999_999, LONGEST_SEPARATION];
 
-/// Numbers that no range allows.
+/// Numbers that few ranges allow.
 const GARBAGE: [u64; 9] = [0, 1, 7, 33, 65, LONGEST_SEPARATION + 1, 1 << 32, 1 << 63, u64::MAX];
 
 /// How large the numbers of a sheet are.
@@ -22,6 +24,10 @@ pub enum Size {
 
 pub const SIZES: [Size; 5] = [Size::Tiny, Size::Small, Size::Light, Size::Edge, Size::Any];
 
+/// The most numbers of a sheet's list and of a state's.
+pub const LONGEST_SHEET_LIST: usize = 160;
+pub const LONGEST_STATE_LIST: usize = 80;
+
 impl Dice {
     /// A number that is likely out of range.
     pub fn garbage(&mut self) -> u64 {
@@ -29,7 +35,7 @@ impl Dice {
     }
 
     /// A number from 1 to the most, of a size.
-    fn upto(&mut self, most: u64, size: Size) -> u64 {
+    pub fn upto(&mut self, most: u64, size: Size) -> u64 {
         if self.one_in(5) {
             return most;
         }
@@ -40,7 +46,7 @@ impl Dice {
     }
 
     /// A row in range.
-    fn row(&mut self, m: u64, size: Size) -> Row {
+    pub fn row(&mut self, m: u64, size: Size) -> Row {
         let threads = self.upto(m, size);
         let separation = match size {
             Size::Tiny => self.range(1, 6),
@@ -60,18 +66,26 @@ impl Dice {
         Row { threads, separation, deadline, budget }
     }
 
-    /// A legal sheet of so many rows, with zeros past them.
-    pub fn sheet(&mut self, rows: u64, size: Size) -> Sheet {
+    /// A number of processors.
+    pub fn processors(&mut self) -> u64 {
         let most = if self.one_in(2) { MOST_PROCESSORS } else { 8 };
-        let m = if self.one_in(6) { self.pick(&[1, MOST_PROCESSORS]) } else { self.range(1, most) };
-        let rows: Vec<Row> = (0..rows).map(|_| self.row(m, size)).collect();
-        Sheet::of(m, &rows)
+        if self.one_in(6) {
+            self.pick(&[1, MOST_PROCESSORS])
+        } else {
+            self.range(1, most)
+        }
+    }
+
+    /// A legal sheet of so many rows.
+    pub fn sheet(&mut self, rows: u64, size: Size) -> Sheet {
+        let processors = self.processors();
+        Sheet { processors, rows: (0..rows).map(|_| self.row(processors, size)).collect() }
     }
 
     /// A count of rows, often small.
     pub fn count(&mut self) -> u64 {
         match self.bits() % 4 {
-            0 => self.range(1, ROOM as u64),
+            0 => self.range(1, MOST_ROWS as u64),
             1 => self.pick(&[1, 2, 31, 32]),
             _ => self.range(1, 6),
         }
@@ -82,42 +96,61 @@ impl Dice {
         let mut labels: Vec<Vec<u8>> = Vec::new();
         for k in 0..rows as usize {
             let length = if self.one_in(3) { self.pick(&[1, LONGEST_LABEL]) } else { self.range(1, LONGEST_LABEL) };
-            let label = (0..length).map(|_| if self.one_in(8) { self.pick(&[0x21, 0x7e]) } else { self.range(0x21, 0x7e) as u8 });
+            let label = (0..length).map(|_| if self.one_in(8) { self.pick(b"\x21\x7e") } else { self.range(0x21, 0x7e) as u8 });
             let label = label.collect();
             labels.push(if k > 0 && self.one_in(6) { labels[k - 1].clone() } else { label });
         }
         labels
     }
 
-    /// The sheet with garbage in the room past its rows.
-    pub fn littered(&mut self, mut sheet: Sheet) -> Sheet {
-        for k in sheet.count as usize..ROOM {
-            let [threads, separation, deadline, budget] = [(); 4].map(|_| self.garbage());
-            sheet.rows[k] = Row { threads, separation, deadline, budget };
-        }
-        sheet
+    /// The fields of a legal sheet of so many rows, each in its bytes.
+    pub fn fields(&mut self, rows: u64, size: Size) -> Vec<Vec<u8>> {
+        let sheet = self.sheet(rows, size);
+        let labels = self.labels(rows);
+        fields(&sheet, &labels)
     }
 
-    /// A legal state of a legal sheet.
-    pub fn state(&mut self, sheet: &Sheet) -> State {
-        let mut state = State::default();
-        for (record, row) in state.iter_mut().zip(sheet.used()) {
-            *record = if row.deadline > 1 && self.one_in(2) {
+    /// The sheet's list, sometimes with garbage after its rows.
+    pub fn handed(&mut self, sheet: &Sheet) -> Vec<u64> {
+        let mut list = sheet.list();
+        if self.one_in(3) {
+            let length = self.range(list.len() as u64, LONGEST_SHEET_LIST as u64) as usize;
+            list.resize_with(length, || self.garbage());
+        }
+        list
+    }
+
+    /// A list to be filled with so many numbers: often as long, sometimes longer, seldom too short.
+    pub fn lent(&mut self, needed: usize) -> Vec<u64> {
+        let length = match self.bits() % 16 {
+            0 => self.range(0, needed as u64 - 1) as usize,
+            1 => needed - 1,
+            2..=5 => self.range(needed as u64, LONGEST_SHEET_LIST as u64) as usize,
+            _ => needed,
+        };
+        (0..length).map(|_| self.garbage()).collect()
+    }
+
+    /// A legal state of a sheet.
+    pub fn state(&mut self, sheet: &Sheet) -> Vec<Record> {
+        let mut state = Vec::new();
+        for row in &sheet.rows {
+            state.push(if row.deadline > 1 && self.one_in(2) {
                 let latest = row.deadline - 1;
                 let since = if self.one_in(3) { latest } else { self.range(1, latest) };
                 Record { remaining: self.upto(row.budget, Size::Edge), since }
             } else {
                 let since = if self.one_in(2) { row.separation } else { self.range(1, row.separation) };
                 Record { remaining: 0, since }
-            };
+            });
         }
         state
     }
 
-    /// A release list that is refused in few rows, one in so many.
-    pub fn releases(&mut self, sheet: &Sheet, state: &State, wrong: u64) -> Vec<u64> {
+    /// A release for each row; one in so many is likely refused.
+    pub fn releases(&mut self, sheet: &Sheet, state: &[Record], wrong: u64) -> Vec<u64> {
         let mut list = Vec::new();
-        for (record, row) in state.iter().zip(sheet.used()) {
+        for (record, row) in state.iter().zip(&sheet.rows) {
             let ready = record.since >= row.separation;
             list.push(if self.one_in(wrong) {
                 self.pick(&[row.budget + 1, row.budget, 1, u64::MAX])
@@ -128,5 +161,11 @@ impl Dice {
             });
         }
         list
+    }
+
+    /// Random bytes with so many lent out of their middle.
+    pub fn room(&mut self, long: usize) -> Room {
+        let (before, after) = (self.pick(&[0, 0, 1, 2, 7]), self.pick(&[0, 0, 1, 2, 7]));
+        Room { before, long, bytes: self.bytes(before + long + after) }
     }
 }

@@ -1,11 +1,10 @@
-// What an answer holds: refusals, numbers, sheets, states, results, margins.
+// What an answer holds: refusals, numbers, lists, sheets, states, margins.
+ghost use Prim.Native.Nat.{_≤_};
+use crate::frame::LENGTH;
 use crate::frame::put;
+use crate::frame::send;
 use basis::MOST_ROWS;
 use basis::Refusal;
-use bound::Judged;
-use bound::Result;
-use bound::Results;
-use machine::Margin;
 use machine::State;
 use numbers::Number;
 use sheet::Sheet;
@@ -24,31 +23,65 @@ pub(crate) fn put_refusal(page: &mut [u8], at: usize, refusal: Refusal) -> usize
     }
 }
 
-// Puts what reading a number gives: the refusal, then the value and the place after it.
-pub(crate) fn put_number(page: &mut [u8], at: usize, number: Number) -> usize {
+// What reading a number tells: the refusal, then the value and the place after it.
+pub(crate) fn words_of(number: Number) -> [u64; 4] {
     match number {
-        Number::Is(value, after) => {
-            let next = put_two(page, at, 0, 0);
-            put_two(page, next, value, after as u64)
-        }
-        Number::Refused(number, place) => {
-            let next = put_two(page, at, number, place as u64);
-            put_two(page, next, 0, 0)
-        }
+        Number::Is(value, after) => [0, 0, value, after as u64],
+        Number::Refused(number, place) => [number, place as u64, 0, 0],
     }
 }
 
-// Puts a sheet with so many of its rows.
-pub(crate) fn put_sheet(page: &mut [u8], at: usize, sheet: Sheet, shown: u64) -> usize {
-    let mut next = put_two(page, at, sheet.processors, sheet.count);
+// Puts the numbers of a list.
+pub(crate) fn put_list(page: &mut [u8], at: usize, list: &[u64]) -> usize {
+    let mut next = at;
     let mut i: usize = 0;
-    while i < MOST_ROWS && (i as u64) < shown {
+    while i < list.len() {
+        next = put(page, next, list[i]);
+        i += 1;
+    }
+    next
+}
+
+// Answers with the first of some numbers, and with bytes.
+pub(crate) fn reply(page: &mut [u8], words: [u64; 4], shown: usize, more: &[u8]) -> bool
+    requires { ⌜ shown ≤ 4 ⌝ }
+{
+    let end = put_list(page, LENGTH, &words[0..shown]);
+    send(page, end, more)
+}
+
+// Answers with the first of some numbers, a list, and bytes.
+pub(crate) fn reply_list(
+    page: &mut [u8],
+    words: [u64; 4],
+    shown: usize,
+    list: &[u64],
+    more: &[u8],
+) -> bool
+    requires { ⌜ shown ≤ 4 ⌝ }
+{
+    let next = put_list(page, LENGTH, &words[0..shown]);
+    let end = put_list(page, next, list);
+    send(page, end, more)
+}
+
+// Puts every row of a sheet.
+fn put_rows(page: &mut [u8], at: usize, sheet: Sheet) -> usize {
+    let mut next = at;
+    let mut i: usize = 0;
+    while i < MOST_ROWS {
         let row = sheet.rows[i];
         next = put_two(page, next, row.threads, row.separation);
         next = put_two(page, next, row.deadline, row.budget);
         i += 1;
     }
     next
+}
+
+// Puts a sheet: its processors, its count, and every row.
+pub(crate) fn put_sheet(page: &mut [u8], at: usize, sheet: Sheet) -> usize {
+    let next = put_two(page, at, sheet.processors, sheet.count);
+    put_rows(page, next, sheet)
 }
 
 // Puts every record of a state.
@@ -63,33 +96,9 @@ pub(crate) fn put_state(page: &mut [u8], at: usize, state: State) -> usize {
     next
 }
 
-// Puts a row's result: 1 and its bound, 2 for none, 3 for unreached.
-fn put_result(page: &mut [u8], at: usize, judged: Judged) -> usize {
-    let result = judged.result;
-    match result {
-        Result::Bound(bound) => put_two(page, at, 1, bound),
-        Result::NoBound => put_two(page, at, 2, 0),
-        Result::Unreached => put_two(page, at, 3, 0),
-    }
-}
-
 // One for true, zero for false.
 pub(crate) fn flag(truth: bool) -> u64 {
     if truth { 1 } else { 0 }
-}
-
-// Puts the refusal, whether the sheet holds, and every row's result.
-pub(crate) fn put_results(page: &mut [u8], at: usize, results: Results) -> usize {
-    let refusal = results.refusal;
-    let mut next = put_refusal(page, at, refusal);
-    next = put(page, next, flag(results.holds));
-    let mut i: usize = 0;
-    while i < MOST_ROWS {
-        let judged = results.rows[i];
-        next = put_result(page, next, judged);
-        i += 1;
-    }
-    next
 }
 
 // How far a signed number is from zero, or from -1 below it.
@@ -100,25 +109,11 @@ fn size(value: i64) -> u64 {
     value as u64
 }
 
-// 1 for a signed number from zero up, 2 below.
-fn sign(value: i64) -> u64 {
-    if value < 0 { 2 } else { 1 }
-}
-
-// Puts a margin: the refusal, then zeros for none, or its sign and its size.
-pub(crate) fn put_margin(page: &mut [u8], at: usize, margin: Margin) -> usize {
-    match margin {
-        Margin::Refused(number, place) => {
-            let next = put_two(page, at, number, place as u64);
-            put_two(page, next, 0, 0)
-        }
-        Margin::NoJob => {
-            let next = put_two(page, at, 0, 0);
-            put_two(page, next, 0, 0)
-        }
-        Margin::Is(value) => {
-            let next = put_two(page, at, 0, 0);
-            put_two(page, next, sign(value), size(value))
-        }
+// The bits of a signed number.
+pub(crate) fn bits(value: i64) -> u64 {
+    let far = size(value);
+    if value < 0 {
+        return u64::MAX - far;
     }
+    far
 }

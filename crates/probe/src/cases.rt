@@ -1,58 +1,83 @@
-// What a case holds: a sheet, a state, a list of releases.
-ghost use Prim.Native.Nat.{_<_};
+// What a case holds: lists of numbers and plain bytes.
+ghost use Prim.Native.Nat.{_<_, _≤_};
+ghost use lib.ListN.{length};
 use crate::frame::WORD;
+use crate::frame::lower;
 use crate::frame::word;
 use basis::MOST_ROWS;
-use machine::RowState;
-use machine::State;
 use sheet::Row;
 use sheet::Sheet;
+
+// The most numbers of a sheet's list.
+pub const MOST_SHEET: usize = 160;
+
+// The most numbers of a state's list.
+pub const MOST_STATE: usize = 80;
+
+// The most numbers of a list that is lent for an answer.
+pub const MOST_LIST: usize = 160;
 
 // The most releases of a case.
 pub const MOST_RELEASES: usize = 1024;
 
-// Where a sheet's rows begin after its processors and its count.
-const HEAD: usize = 2 * WORD;
+// How many numbers the list at a place has, at most so many.
+pub(crate) fn count_at(case: &[u8], at: usize, most: usize) -> usize
+    requires { ⌜ at < 65536 ⌝ }
+    ensures { λ r. ⌜ r ≤ most ⌝ }
+{
+    let count = word(case, at) as usize;
+    if most < count {
+        return most;
+    }
+    count
+}
 
-// The bytes of a row.
-const ROW: usize = 4 * WORD;
+// Loads so many numbers from a place on into a list.
+pub(crate) fn load(case: &[u8], at: usize, count: usize, list: &mut [u64])
+    requires { ⌜ (at < 32768) × (count ≤ length (now list)) × (count ≤ 1024) ⌝ }
+{
+    let mut i: usize = 0;
+    while i < count {
+        list[i] = word(case, at + i * WORD);
+        i += 1;
+    }
+}
 
-// The bytes of a record.
-const RECORD: usize = 2 * WORD;
+// Copies bytes to the front of a buffer, as many as it has room for, and answers how many.
+pub(crate) fn copy(bytes: &[u8], buffer: &mut [u8]) -> usize
+    ensures { λ r. ⌜ r ≤ length (now (buffer .entry)) ⌝ }
+{
+    let count = lower(bytes.len(), buffer.len());
+    let mut i: usize = 0;
+    while i < count {
+        buffer[i] = bytes[i];
+        i += 1;
+    }
+    count
+}
 
-// Where a case's sheet begins.
-pub const SHEET: usize = WORD;
+// The number at a place of a list, and zero past its end.
+fn number_at(list: &[u64], at: usize) -> u64 {
+    if at < list.len() {
+        return list[at];
+    }
+    0
+}
 
-// Where a case's state begins.
-pub const STATE: usize = SHEET + HEAD + MOST_ROWS * ROW;
-
-// Where what follows the state begins.
-pub const AFTER: usize = STATE + MOST_ROWS * RECORD;
-
-// The row at a place.
-fn row_at(case: &[u8], at: usize) -> Row
+// The row at a place of a sheet's list.
+fn row_at(list: &[u64], at: usize) -> Row
     requires { ⌜ at < 32768 ⌝ }
 {
     Row {
-        threads: word(case, at),
-        separation: word(case, at + WORD),
-        deadline: word(case, at + 2 * WORD),
-        budget: word(case, at + 3 * WORD),
+        threads: number_at(list, at),
+        separation: number_at(list, at + 1),
+        deadline: number_at(list, at + 2),
+        budget: number_at(list, at + 3),
     }
 }
 
-// The record at a place.
-fn record_at(case: &[u8], at: usize) -> RowState
-    requires { ⌜ at < 32768 ⌝ }
-{
-    RowState {
-        remaining: word(case, at),
-        since: word(case, at + WORD),
-    }
-}
-
-// The sheet of a case.
-pub(crate) fn sheet_of(case: &[u8]) -> Sheet {
+// The rows of a sheet's list.
+fn rows_of(list: &[u64]) -> [Row; MOST_ROWS] {
     let none = Row {
         threads: 0,
         separation: 0,
@@ -62,40 +87,18 @@ pub(crate) fn sheet_of(case: &[u8]) -> Sheet {
     let mut rows = [none; MOST_ROWS];
     let mut i: usize = 0;
     while i < MOST_ROWS {
-        rows[i] = row_at(case, SHEET + HEAD + i * ROW);
+        rows[i] = row_at(list, i * 4 + 2);
         i += 1;
     }
+    rows
+}
+
+// The sheet that a list hands over.
+pub(crate) fn sheet_of(list: &[u64]) -> Sheet {
+    let rows = rows_of(list);
     Sheet {
-        processors: word(case, SHEET),
-        count: word(case, SHEET + WORD),
+        processors: number_at(list, 0),
+        count: number_at(list, 1),
         rows,
     }
-}
-
-// The state of a case.
-pub(crate) fn state_of(case: &[u8]) -> State {
-    let none = RowState {
-        remaining: 0,
-        since: 0,
-    };
-    let mut rows = [none; MOST_ROWS];
-    let mut i: usize = 0;
-    while i < MOST_ROWS {
-        rows[i] = record_at(case, STATE + i * RECORD);
-        i += 1;
-    }
-    State { rows }
-}
-
-// The releases from a place on.
-pub(crate) fn releases_at(case: &[u8], at: usize) -> [u64; MOST_RELEASES]
-    requires { ⌜ at < 32768 ⌝ }
-{
-    let mut list = [0u64; MOST_RELEASES];
-    let mut i: usize = 0;
-    while i < MOST_RELEASES {
-        list[i] = word(case, at + i * WORD);
-        i += 1;
-    }
-    list
 }

@@ -1,5 +1,5 @@
 // The frame of a batch: each case and each answer stands behind its length, and holds numbers of eight bytes and then plain bytes; the lowest byte is first.
-ghost use Prim.Native.Nat.{_<_};
+ghost use Prim.Native.Nat.{_<_, _≤_};
 use libc::STDOUT_FILENO;
 
 // The bytes of a frame's length.
@@ -47,8 +47,18 @@ pub(crate) fn rest(bytes: &[u8], at: usize) -> &[u8] {
     &bytes[..0]
 }
 
+// The lower of two numbers.
+pub(crate) fn lower(one: usize, other: usize) -> usize
+    ensures { λ r. ⌜ (r ≤ one) × (r ≤ other) ⌝ }
+{
+    if one < other {
+        return one;
+    }
+    other
+}
+
 // Puts a byte at a place, where there is room, and answers the place after it.
-fn put_byte(page: &mut [u8], at: usize, byte: u8) -> usize {
+pub(crate) fn put_byte(page: &mut [u8], at: usize, byte: u8) -> usize {
     if at < page.len() {
         page[at] = byte;
         return at + 1;
@@ -57,7 +67,7 @@ fn put_byte(page: &mut [u8], at: usize, byte: u8) -> usize {
 }
 
 // The lowest byte of a number.
-fn low(value: u64) -> u8 {
+pub(crate) fn low(value: u64) -> u8 {
     (value % 256) as u8
 }
 

@@ -1,137 +1,27 @@
 // The answer to each kind of case.
-use crate::answers::flag;
-use crate::answers::put_margin;
-use crate::answers::put_number;
-use crate::answers::put_refusal;
-use crate::answers::put_results;
 use crate::answers::put_sheet;
-use crate::answers::put_state;
-use crate::cases::AFTER;
-use crate::cases::MOST_RELEASES;
-use crate::cases::releases_at;
-use crate::cases::sheet_of;
-use crate::cases::state_of;
+use crate::bytes::answer_green;
+use crate::bytes::answer_label;
+use crate::bytes::answer_number;
+use crate::bytes::answer_read;
+use crate::bytes::answer_sweep;
+use crate::bytes::answer_up_to;
+use crate::bytes::answer_verdict;
 use crate::frame::LENGTH;
 use crate::frame::WORD;
-use crate::frame::put;
-use crate::frame::rest;
 use crate::frame::send;
 use crate::frame::word;
-use machine::State;
-use sheet::Sheet;
+use crate::lists::answer_listed;
 
-// Kind 1, a place and bytes: the number at that place.
-fn answer_number(case: &[u8], page: &mut [u8]) -> bool {
-    let number = numbers::read_number(rest(case, 2 * WORD), word(case, WORD) as usize);
-    let end = put_number(page, LENGTH, number);
+// Kind 15, a number: the fixed sheet with that number.
+fn answer_fixed(case: &[u8], page: &mut [u8]) -> bool {
+    let sheet = bound::fixed_sheet(word(case, WORD) as usize);
+    let end = put_sheet(page, LENGTH, sheet);
     send(page, end, &case[..0])
 }
 
-// Kind 2, a place, a most and bytes: the number at that place, from 1 to the most.
-fn answer_up_to(case: &[u8], page: &mut [u8]) -> bool {
-    let number = numbers::read_up_to(
-        rest(case, 3 * WORD),
-        word(case, WORD) as usize,
-        word(case, 2 * WORD),
-        7,
-        8,
-    );
-    let end = put_number(page, LENGTH, number);
-    send(page, end, &case[..0])
-}
-
-// Kind 3, a count of rows and bytes: the sheet, with so many of its rows.
-fn answer_read(case: &[u8], page: &mut [u8]) -> bool {
-    let reading = sheet::read(rest(case, 2 * WORD));
-    let refusal = reading.refusal;
-    let sheet = reading.sheet;
-    let next = put_refusal(page, LENGTH, refusal);
-    let end = put_sheet(page, next, sheet, word(case, WORD));
-    send(page, end, &case[..0])
-}
-
-// Kind 4, a row number and bytes: the label.
-fn answer_label(case: &[u8], page: &mut [u8]) -> bool {
-    let label = sheet::label(rest(case, 2 * WORD), word(case, WORD) as usize);
-    let end = put(page, LENGTH, label.len() as u64);
-    send(page, end, label)
-}
-
-// Kind 5, a sheet: whether it is legal, its bounds, its fresh state.
-fn answer_handed(case: &[u8], page: &mut [u8]) -> bool {
-    let sheet = sheet_of(case);
-    let next = put(page, LENGTH, flag(sheet::is_legal(sheet)));
-    let next = put_results(page, next, bound::bounds(sheet));
-    let started = machine::fresh(sheet);
-    let refusal = started.refusal;
-    let state = started.state;
-    let next = put_refusal(page, next, refusal);
-    let end = put_state(page, next, state);
-    send(page, end, &case[..0])
-}
-
-// Kind 8, a sheet, a state and a row number: the margin.
-fn answer_margin(case: &[u8], page: &mut [u8]) -> bool {
-    let margin = state_of(case).margin(sheet_of(case), word(case, AFTER) as usize);
-    let end = put_margin(page, LENGTH, margin);
-    send(page, end, &case[..0])
-}
-
-// One slot, and the code buffer after it.
-fn answer_slot(
-    sheet: Sheet,
-    state: State,
-    releases: &[u64],
-    codes: &mut [u8],
-    page: &mut [u8],
-) -> bool {
-    let slotted = state.slot(sheet, releases, codes);
-    let refusal = slotted.refusal;
-    let after = slotted.state;
-    let next = put_refusal(page, LENGTH, refusal);
-    let end = put_state(page, next, after);
-    send(page, end, codes)
-}
-
-// A run of slots, and the code buffer after it.
-fn answer_run(
-    sheet: Sheet,
-    state: State,
-    releases: &[u64],
-    codes: &mut [u8],
-    page: &mut [u8],
-) -> bool {
-    let ran = state.run(sheet, releases, codes);
-    let refusal = ran.refusal;
-    let after = ran.state;
-    let next = put(page, LENGTH, ran.done);
-    let next = put_refusal(page, next, refusal);
-    let end = put_state(page, next, after);
-    send(page, end, codes)
-}
-
-// Kinds 6 and 7, a sheet, a state, two lengths, releases and a code buffer: a slot or a run.
-fn answer_step(case: &mut [u8], page: &mut [u8], runs: bool) -> bool {
-    let count = word(case, AFTER) as usize;
-    if MOST_RELEASES < count {
-        return false;
-    }
-    let codes = AFTER + (2 + count) * WORD;
-    if case.len() < codes {
-        return false;
-    }
-    let sheet = sheet_of(case);
-    let state = state_of(case);
-    let list = releases_at(case, AFTER + 2 * WORD);
-    if runs {
-        return answer_run(sheet, state, &list[..count], &mut case[codes..], page);
-    }
-    answer_slot(sheet, state, &list[..count], &mut case[codes..], page)
-}
-
-// One case by its kind; whether it was answered.
-pub(crate) fn answer(case: &mut [u8], page: &mut [u8]) -> bool {
-    let kind = word(case, 0);
+// Kinds 1 to 4: numbers, sheets and labels.
+fn answer_reader(kind: u64, case: &[u8], page: &mut [u8]) -> bool {
     if kind == 1 {
         return answer_number(case, page);
     }
@@ -141,20 +31,58 @@ pub(crate) fn answer(case: &mut [u8], page: &mut [u8]) -> bool {
     if kind == 3 {
         return answer_read(case, page);
     }
-    if kind == 4 {
-        return answer_label(case, page);
+    answer_label(case, page)
+}
+
+// Kinds 10 to 12 and 15: verdicts, green, sweeps and fixed sheets.
+fn answer_other(kind: u64, case: &[u8], page: &mut [u8]) -> bool {
+    if kind == 10 {
+        return answer_verdict(case, page);
     }
-    if kind == 5 {
-        return answer_handed(case, page);
+    if kind == 11 {
+        return answer_green(case, page);
     }
-    if kind == 6 {
-        return answer_step(case, page, false);
+    if kind == 12 {
+        return answer_sweep(case, page);
     }
-    if kind == 7 {
-        return answer_step(case, page, true);
+    answer_fixed(case, page)
+}
+
+// Which function answers a kind: 1 a reader's, 2 one over a sheet's list, 3 another, 0 none.
+fn group(kind: u64) -> u64 {
+    if kind == 0 {
+        return 0;
     }
-    if kind == 8 {
-        return answer_margin(case, page);
+    if kind < 5 {
+        return 1;
+    }
+    if kind < 10 {
+        return 2;
+    }
+    if kind < 13 {
+        return 3;
+    }
+    if kind < 15 {
+        return 2;
+    }
+    if kind == 15 {
+        return 3;
+    }
+    0
+}
+
+// One case by its kind; whether it was answered.
+pub(crate) fn answer(case: &[u8], page: &mut [u8]) -> bool {
+    let kind = word(case, 0);
+    let by = group(kind);
+    if by == 1 {
+        return answer_reader(kind, case, page);
+    }
+    if by == 2 {
+        return answer_listed(kind, case, page);
+    }
+    if by == 3 {
+        return answer_other(kind, case, page);
     }
     false
 }

@@ -1,8 +1,11 @@
 // Answers a batch of cases, from standard input to standard output.
 mod answers;
+mod bytes;
 mod cases;
 mod frame;
 mod kinds;
+mod lists;
+mod steps;
 
 use frame::LENGTH;
 use frame::ROOM;

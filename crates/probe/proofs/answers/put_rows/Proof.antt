@@ -1,20 +1,17 @@
--- `put_sheet` is safe and ends; the page keeps its length. Assumes nothing.
+-- `put_rows` is safe and ends; the page keeps its length. Assumes nothing.
 use borrow.Author.Needs.{needs}
 use Prim.Native.Nat.{_≤_, _-_}
 use mathlib.Core.Path.{_≡_}
 use lib.ListN.{length}
 use Rattle.basis.specs.Limits.{mostRows}
-use Rattle.probe.proofs.answers.put_sheet.Statement.{statement}
-use Rattle.probe.proofs.answers.put_sheet.Tie as tie
+use Rattle.probe.proofs.answers.put_rows.Statement.{statement}
+use Rattle.probe.proofs.answers.put_rows.Tie as tie
 
 abbrev Inv-loop : tie.InvT-loop
-Inv-loop page₀ at shown sheet next₀ i₀ page next i = (i ≤ mostRows) × (length page ≡ length page₀)
+Inv-loop page₀ at sheet next₀ i₀ page next i = (i ≤ mostRows) × (length page ≡ length page₀)
 
 abbrev μ-loop : tie.MeasureT-loop
-μ-loop page₀ at shown sheet next₀ i₀ page next i = mostRows - i
-
-put-two-requires : tie.Need-put-two-requires Inv-loop μ-loop
-put-two-requires c κs = search needs
+μ-loop page₀ at sheet next₀ i₀ page next i = mostRows - i
 
 loop-holds : tie.Need-loop-holds Inv-loop μ-loop
 loop-holds c = search needs
@@ -25,11 +22,11 @@ mul-row c = search needs
 element-copy-out-row : tie.Need-element-copy-out-row Inv-loop μ-loop
 element-copy-out-row c = search needs
 
+put-two-requires : tie.Need-put-two-requires Inv-loop μ-loop
+put-two-requires c κs = search needs
+
 put-two-requires-2 : tie.Need-put-two-requires-2 Inv-loop μ-loop
 put-two-requires-2 c κs = search needs
-
-put-two-requires-3 : tie.Need-put-two-requires-3 Inv-loop μ-loop
-put-two-requires-3 c κs = search needs
 
 add-i : tie.Need-add-i Inv-loop μ-loop
 add-i c = search needs
@@ -46,28 +43,19 @@ same-length c = search needs
 returns : tie.Need-returns Inv-loop μ-loop
 returns c = search needs
 
-same-length-2 : tie.Need-same-length-2 Inv-loop μ-loop
-same-length-2 c = search needs
-
-returns-2 : tie.Need-returns-2 Inv-loop μ-loop
-returns-2 c = search needs
-
-pub put-sheet-spec : {M : Type 1} → statement M
-put-sheet-spec =
+pub put-rows-spec : {M : Type 1} → statement M
+put-rows-spec =
     tie.close
     (tie.spec
     Inv-loop
     μ-loop
-    put-two-requires
     loop-holds
     mul-row
     element-copy-out-row
+    put-two-requires
     put-two-requires-2
-    put-two-requires-3
     add-i
     loop-less
     loop-again
     same-length
-    returns
-    same-length-2
-    returns-2)
+    returns)

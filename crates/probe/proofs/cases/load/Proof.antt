@@ -1,14 +1,16 @@
--- `releases_at` is safe and ends. Assumes nothing.
+-- `load` is safe and ends; the list keeps its length. Assumes nothing.
 use borrow.Author.Needs.{needs}
 use Prim.Native.Nat.{_≤_, _-_}
-use Rattle.probe.proofs.cases.releases_at.Statement.{statement}
-use Rattle.probe.proofs.cases.releases_at.Tie as tie
+use mathlib.Core.Path.{_≡_}
+use lib.ListN.{length}
+use Rattle.probe.proofs.cases.load.Statement.{statement}
+use Rattle.probe.proofs.cases.load.Tie as tie
 
 abbrev Inv-loop : tie.InvT-loop
-Inv-loop case at list₀ i₀ list i = i ≤ 1024
+Inv-loop case at count list₀ i₀ list i = (i ≤ count) × (length list ≡ length list₀)
 
 abbrev μ-loop : tie.MeasureT-loop
-μ-loop case at list₀ i₀ list i = 1024 - i
+μ-loop case at count list₀ i₀ list i = count - i
 
 loop-holds : tie.Need-loop-holds Inv-loop μ-loop
 loop-holds c = search needs
@@ -25,8 +27,8 @@ word-requires c κs = search needs
 mul-list : tie.Need-mul-list Inv-loop μ-loop
 mul-list c = search needs
 
-array-write-list : tie.Need-array-write-list Inv-loop μ-loop
-array-write-list c = search needs
+slice-write-list : tie.Need-slice-write-list Inv-loop μ-loop
+slice-write-list c = search needs
 
 add-i : tie.Need-add-i Inv-loop μ-loop
 add-i c = search needs
@@ -37,11 +39,14 @@ loop-less c = search needs
 loop-again : tie.Need-loop-again Inv-loop μ-loop
 loop-again c = search needs
 
+same-length : tie.Need-same-length Inv-loop μ-loop
+same-length c = search needs
+
 returns : tie.Need-returns Inv-loop μ-loop
 returns c = search needs
 
-pub releases-at-spec : {M : Type 1} → statement M
-releases-at-spec =
+pub load-spec : {M : Type 1} → statement M
+load-spec =
     tie.close
     (tie.spec
     Inv-loop
@@ -51,8 +56,9 @@ releases-at-spec =
     add-word
     word-requires
     mul-list
-    array-write-list
+    slice-write-list
     add-i
     loop-less
     loop-again
+    same-length
     returns)

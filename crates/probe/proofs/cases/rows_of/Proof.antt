@@ -1,27 +1,27 @@
--- `state_of` is safe and ends. Assumes nothing.
+-- `rows_of` is safe and ends. Assumes nothing.
 use borrow.Author.Needs.{needs}
 use Prim.Native.Nat.{_≤_, _-_}
 use Rattle.basis.specs.Limits.{mostRows}
-use Rattle.probe.proofs.cases.state_of.Statement.{statement}
-use Rattle.probe.proofs.cases.state_of.Tie as tie
+use Rattle.probe.proofs.cases.rows_of.Statement.{statement}
+use Rattle.probe.proofs.cases.rows_of.Tie as tie
 
 abbrev Inv-loop : tie.InvT-loop
-Inv-loop case rows₀ i₀ rows i = i ≤ mostRows
+Inv-loop list rows₀ i₀ rows i = i ≤ mostRows
 
 abbrev μ-loop : tie.MeasureT-loop
-μ-loop case rows₀ i₀ rows i = mostRows - i
+μ-loop list rows₀ i₀ rows i = mostRows - i
 
 loop-holds : tie.Need-loop-holds Inv-loop μ-loop
 loop-holds c = search needs
 
-mul-record-at : tie.Need-mul-record-at Inv-loop μ-loop
-mul-record-at c = search needs
+mul-row-at : tie.Need-mul-row-at Inv-loop μ-loop
+mul-row-at c = search needs
 
-add-record-at : tie.Need-add-record-at Inv-loop μ-loop
-add-record-at c = search needs
+add-row-at : tie.Need-add-row-at Inv-loop μ-loop
+add-row-at c = search needs
 
-record-at-requires : tie.Need-record-at-requires Inv-loop μ-loop
-record-at-requires c κs = search needs
+row-at-requires : tie.Need-row-at-requires Inv-loop μ-loop
+row-at-requires c κs = search needs
 
 mul-rows : tie.Need-mul-rows Inv-loop μ-loop
 mul-rows c = search needs
@@ -41,16 +41,16 @@ loop-again c = search needs
 returns : tie.Need-returns Inv-loop μ-loop
 returns c = search needs
 
-pub state-of-spec : {M : Type 1} → statement M
-state-of-spec =
+pub rows-of-spec : {M : Type 1} → statement M
+rows-of-spec =
     tie.close
     (tie.spec
     Inv-loop
     μ-loop
     loop-holds
-    mul-record-at
-    add-record-at
-    record-at-requires
+    mul-row-at
+    add-row-at
+    row-at-requires
     mul-rows
     array-set-from-rows
     add-i

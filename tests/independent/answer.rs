@@ -1,0 +1,185 @@
+//! The answer that is expected of a case.
+
+use crate::bound::{bounds, holds, Outcome};
+use crate::case::{Case, Room, Step};
+use crate::machine::{fresh, handed, listed, margin, run, slot, Record};
+use crate::number::{number, refuse, up_to, Refusal};
+use crate::page::Page;
+use crate::reader::{label, read};
+use crate::rules::{broken, Rule};
+use crate::sheet::{fixed, Sheet, MOST_ROWS};
+use crate::text::verdict;
+
+/// What every number that is lent for an answer holds before the call.
+const BEFORE: u64 = 7;
+
+/// The refusals of zero and of more that a number up to a most is asked with.
+const ZERO: u64 = 7;
+const OVER: u64 = 8;
+
+/// Fills a lent list with numbers and zeros after them, or 15 where it is too short and stays.
+fn fill(list: &mut [u64], numbers: &[u64]) -> Result<(), Refusal> {
+    if list.len() < numbers.len() {
+        return refuse(15, 0);
+    }
+    let (front, rest) = list.split_at_mut(numbers.len());
+    front.copy_from_slice(numbers);
+    if !broken(Rule::RestOfListKept) {
+        rest.fill(0);
+    }
+    Ok(())
+}
+
+impl Case {
+    /// The answer that is expected.
+    pub fn expected(&self) -> Vec<u8> {
+        let page = match self {
+            Case::Number { at, bytes } => found(number(bytes, *at as usize)),
+            Case::UpTo { at, most, bytes } => found(up_to(bytes, *at as usize, *most, ZERO, OVER)),
+            Case::Read { list, bytes } => filled(list, read(bytes).map(|(sheet, _)| sheet.list())),
+            Case::Label { row, bytes } => labelled(bytes, *row),
+            Case::Bounds { sheet, list } => bounded(sheet, list),
+            Case::Fresh { sheet, list } => filled(list, Sheet::handed(sheet).map(|sheet| listed(&fresh(&sheet)))),
+            Case::Slot(step) => slotted(step),
+            Case::Run(step) => ran(step),
+            Case::Margin { sheet, state, row } => margins(sheet, state, *row),
+            Case::Verdict { text, bytes } => told(text, &verdict(bytes)),
+            Case::Green { bytes } => {
+                let green = read(bytes).map_or(broken(Rule::RefusedIsGreen), |(sheet, _)| holds(&bounds(&sheet)));
+                Page::default().word(green as u64)
+            }
+            Case::Sweep { bytes } => swept(bytes),
+            Case::Legal { sheet } => Page::default().word(Sheet::handed(sheet).is_ok() as u64),
+            Case::BoxRun { sheet, releases, codes } => box_ran(sheet, releases, codes),
+            Case::Fixed { number } => {
+                let sheet = fixed().get(usize::try_from(*number).unwrap_or(usize::MAX)).map(Sheet::list);
+                let mut list = sheet.unwrap_or_default();
+                list.resize(2 + 4 * MOST_ROWS, 0);
+                Page::default().words(&list)
+            }
+        };
+        page.0
+    }
+}
+
+/// A number's value and the place after it, or its refusal.
+fn found(answer: Result<(u64, usize), Refusal>) -> Page {
+    let (value, next) = answer.unwrap_or((0, 0));
+    Page::default().refusal(answer.err()).words(&[value, next as u64])
+}
+
+/// A lent list after a call that fills it.
+fn filled(list: &[u64], numbers: Result<Vec<u64>, Refusal>) -> Page {
+    let mut list = list.to_vec();
+    let refusal = numbers.and_then(|numbers| fill(&mut list, &numbers)).err();
+    Page::default().refusal(refusal).words(&list)
+}
+
+/// Where a label begins, its length and its bytes.
+fn labelled(bytes: &[u8], row: u64) -> Page {
+    let part = label(bytes, row);
+    let page = Page::default().refusal(part.err());
+    match part {
+        Ok((start, long)) => page.words(&[start as u64, long as u64]).bytes(&bytes[start..start + long]),
+        Err(_) => page.words(&[BEFORE, BEFORE]),
+    }
+}
+
+/// Whether the sheet holds, and each row's word and bound.
+fn bounded(sheet: &[u64], list: &[u64]) -> Page {
+    let (mut list, mut verdict) = (list.to_vec(), BEFORE);
+    let result = |outcome: &Outcome| match outcome {
+        Outcome::Unreached => [0, 0],
+        Outcome::Bound(bound) => [1, *bound],
+        Outcome::NoBound => [2, 0],
+    };
+    let refusal = Sheet::handed(sheet).and_then(|sheet| {
+        let results = bounds(&sheet);
+        fill(&mut list, &results.iter().flat_map(result).collect::<Vec<u64>>())?;
+        verdict = holds(&results) as u64;
+        Ok(())
+    });
+    Page::default().refusal(refusal.err()).word(verdict).words(&list)
+}
+
+/// The sheet and the state that two lists hand over: 10, then 16.
+fn given(sheet: &[u64], state: &[u64]) -> Result<(Sheet, Vec<Record>), Refusal> {
+    let sheet = Sheet::handed(sheet)?;
+    let records = handed(&sheet, state)?;
+    Ok((sheet, records))
+}
+
+/// The state's list and the bytes after one slot.
+fn slotted(step: &Step) -> Page {
+    let (mut state, mut codes) = (step.state.clone(), step.codes.clone());
+    let next = given(&step.sheet, &step.state).and_then(|(sheet, records)| slot(&sheet, &records, &step.releases, codes.lent()));
+    let refusal = next.and_then(|next| fill(&mut state, &listed(&next))).err();
+    Page::default().refusal(refusal).words(&state).bytes(&codes.bytes)
+}
+
+/// The slots done, and the state's list and the bytes after them.
+fn ran(step: &Step) -> Page {
+    let (mut state, mut codes) = (step.state.clone(), step.codes.clone());
+    let (done, refusal) = match given(&step.sheet, &step.state) {
+        Ok((sheet, records)) => {
+            let ran = run(&sheet, &records, &step.releases, codes.lent());
+            let short = fill(&mut state, &listed(&ran.state)).err();
+            (ran.done, ran.refusal.or(short))
+        }
+        Err(refusal) => (0, Some(refusal)),
+    };
+    Page::default().refusal(refusal).word(done).words(&state).bytes(&codes.bytes)
+}
+
+/// A run from the fresh state: the slots done, the state's numbers with zeros past them, and the bytes.
+fn box_ran(sheet: &[u64], releases: &[u64], codes: &Room) -> Page {
+    let (mut state, mut codes) = ([0; 2 * MOST_ROWS], codes.clone());
+    let (done, refusal) = match Sheet::handed(sheet) {
+        Ok(sheet) => {
+            let mut first = fresh(&sheet);
+            if broken(Rule::BoxNotReady) {
+                first.iter_mut().for_each(|record| record.since = 1);
+            }
+            let ran = run(&sheet, &first, releases, codes.lent());
+            let numbers = listed(&ran.state);
+            state[..numbers.len()].copy_from_slice(&numbers);
+            (ran.done, ran.refusal)
+        }
+        Err(refusal) => (0, Some(refusal)),
+    };
+    Page::default().refusal(refusal).word(done).words(&state).bytes(&codes.bytes)
+}
+
+/// Whether the row has a job, and its margin.
+fn margins(sheet: &[u64], state: &[u64], row: u64) -> Page {
+    let answer = given(sheet, state).and_then(|(sheet, records)| margin(&sheet, &records, row));
+    let page = Page::default().refusal(answer.err());
+    match answer {
+        Ok(Some(margin)) => page.words(&[1, margin as u64]),
+        Ok(None) => page.words(&[0, BEFORE]),
+        Err(_) => page.words(&[BEFORE, BEFORE]),
+    }
+}
+
+/// A text in its buffer, or 15 where it is longer.
+fn told(room: &Room, text: &[u8]) -> Page {
+    let mut room = room.clone();
+    if room.long < text.len() {
+        return Page::default().refusal(refuse::<()>(15, 0).err()).word(BEFORE).bytes(&room.bytes);
+    }
+    room.lent()[..text.len()].copy_from_slice(text);
+    Page::default().refusal(None).word(text.len() as u64).bytes(&room.bytes)
+}
+
+/// The refusal of the bytes followed by each byte there is, in two bytes.
+fn swept(bytes: &[u8]) -> Page {
+    let mut longer = bytes.to_vec();
+    longer.push(0);
+    let mut page = Page::default();
+    for last in 0..=255 {
+        *longer.last_mut().expect("a byte was added") = last;
+        let refusal = read(&longer).err().unwrap_or(Refusal { number: 0, place: 0 });
+        page = page.bytes(&[refusal.number as u8, refusal.place as u8]);
+    }
+    page
+}

@@ -1,0 +1,68 @@
+//! The cases worked by hand: sheets A to F, the runs G and H, the numbers I, and sheet C in bytes.
+
+use crate::batch::Cases;
+use crate::case::{Case, Room, Step};
+use crate::dice::Dice;
+use crate::hand::SHEET_C;
+use crate::machine::{fresh, listed};
+use crate::sheet::{fixed, Sheet};
+
+/// The names of the groups.
+const BYTES: &str = "worked by hand, bytes";
+const SHEETS: &str = "worked by hand, sheets";
+const MACHINES: &str = "worked by hand, slots";
+
+/// One or a few cases of each kind.
+pub fn all(cases: &mut dyn Cases, _: &mut Dice, _: u64) {
+    bytes(cases);
+    sheets(cases);
+    machines(cases);
+}
+
+/// So many bytes to lend, with one before and two after.
+fn room(long: usize) -> Room {
+    Room { before: 1, long, bytes: vec![9; long + 3] }
+}
+
+/// The numbers I, and sheet C whole and with its last byte zero.
+fn bytes(cases: &mut dyn Cases) {
+    for bytes in [b"\x80\x01", b"\x80\x00"] {
+        cases.add(BYTES, Case::Number { at: 0, bytes: bytes.to_vec() });
+        cases.add(BYTES, Case::UpTo { at: 0, most: 128, bytes: bytes.to_vec() });
+    }
+    let mut zero = SHEET_C.to_vec();
+    *zero.last_mut().expect("it has bytes") = 0;
+    for bytes in [SHEET_C.to_vec(), zero] {
+        cases.add(BYTES, Case::Read { list: vec![7; 12], bytes: bytes.clone() });
+        cases.add(BYTES, Case::Verdict { text: room(40), bytes: bytes.clone() });
+        cases.add(BYTES, Case::Green { bytes: bytes.clone() });
+        (0..3).for_each(|row| cases.add(BYTES, Case::Label { row, bytes: bytes.clone() }));
+    }
+    cases.add(BYTES, Case::Sweep { bytes: SHEET_C[..SHEET_C.len() - 1].to_vec() });
+}
+
+/// Sheets A to F, and sheet F out of range.
+fn sheets(cases: &mut dyn Cases) {
+    (0..=6).for_each(|number| cases.add(SHEETS, Case::Fixed { number }));
+    let outside = Sheet::of(1, &[[1, 1, 2, 1]]);
+    for sheet in fixed().into_iter().chain([outside]) {
+        let (list, lent) = (sheet.list(), vec![7; 2 * sheet.rows.len() + 2]);
+        cases.add(SHEETS, Case::Legal { sheet: list.clone() });
+        cases.add(SHEETS, Case::Bounds { sheet: list.clone(), list: lent.clone() });
+        cases.add(SHEETS, Case::Fresh { sheet: list, list: lent });
+    }
+}
+
+/// G and H, each as a run, of the box too, and its first slot; margins in G after that slot.
+fn machines(cases: &mut dyn Cases) {
+    let [_, b, c, ..] = fixed();
+    for (sheet, releases) in [(&c, vec![1, 3, 0, 0, 1, 0, 0, 0]), (&b, vec![2, 2, 3, 0, 0, 0, 0, 0, 0, 0, 0, 0])] {
+        let n = sheet.rows.len();
+        let (list, state) = (sheet.list(), listed(&fresh(sheet)));
+        cases.add(MACHINES, Case::BoxRun { sheet: list.clone(), codes: room(releases.len()), releases: releases.clone() });
+        let first = releases[..n].to_vec();
+        cases.add(MACHINES, Case::Run(Step { sheet: list.clone(), state: state.clone(), codes: room(releases.len()), releases }));
+        cases.add(MACHINES, Case::Slot(Step { sheet: list, state, codes: room(n), releases: first }));
+    }
+    (0..=2).for_each(|row| cases.add(MACHINES, Case::Margin { sheet: c.list(), state: vec![0, 1, 3, 1], row }));
+}

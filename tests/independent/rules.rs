@@ -1,0 +1,91 @@
+//! The rules that this program can be told to break, one in a process, so that the comparison is seen to fail.
+
+use crate::case::Kind;
+use std::sync::atomic::{AtomicUsize, Ordering::Relaxed};
+
+/// A rule, by what is done where it is broken.
+#[derive(Clone, Copy, Debug, PartialEq)]
+pub enum Rule {
+    ZeroLastGroup,
+    FourthGroup,
+    MostRefused,
+    TrailingBytes,
+    ZeroIsOver,
+    RestOfListKept,
+    FirstLabel,
+    NoCap,
+    ShortWindow,
+    InsideOnly,
+    EqualPasses,
+    UnreachedIsNone,
+    FreshSinceZero,
+    FirstMisfitStops,
+    MissBeforeFinish,
+    SincePastSeparation,
+    SoonBeforeBudget,
+    SpareRecords,
+    RefusedSlotCounted,
+    RefusedSlotWritten,
+    BoundOneLess,
+    NoJobIsZero,
+    HoldsBesideNone,
+    RefusedIsGreen,
+    FormBeforeEnd,
+    RowPastLast,
+    BoxNotReady,
+    FixedNumber,
+    PlaceFromOne,
+    LabelsFromOne,
+}
+
+/// Every rule with the kind of case that has to show it broken, and its name.
+pub const RULES: [(Rule, Kind, &str); 30] = [
+    (Rule::ZeroLastGroup, Kind::Number, "zero-last-group"),
+    (Rule::FourthGroup, Kind::Number, "fourth-group"),
+    (Rule::MostRefused, Kind::UpTo, "most-refused"),
+    (Rule::TrailingBytes, Kind::Read, "trailing-bytes"),
+    (Rule::ZeroIsOver, Kind::Read, "zero-is-over"),
+    (Rule::RestOfListKept, Kind::Read, "rest-of-list-kept"),
+    (Rule::FirstLabel, Kind::Label, "first-label"),
+    (Rule::NoCap, Kind::Bounds, "no-cap"),
+    (Rule::ShortWindow, Kind::Bounds, "short-window"),
+    (Rule::InsideOnly, Kind::Bounds, "inside-only"),
+    (Rule::EqualPasses, Kind::Bounds, "equal-passes"),
+    (Rule::UnreachedIsNone, Kind::Bounds, "unreached-is-none"),
+    (Rule::FreshSinceZero, Kind::Fresh, "fresh-since-zero"),
+    (Rule::FirstMisfitStops, Kind::Slot, "first-misfit-stops"),
+    (Rule::MissBeforeFinish, Kind::Slot, "miss-before-finish"),
+    (Rule::SincePastSeparation, Kind::Slot, "since-past-separation"),
+    (Rule::SoonBeforeBudget, Kind::Slot, "soon-before-budget"),
+    (Rule::SpareRecords, Kind::Slot, "spare-records"),
+    (Rule::RefusedSlotCounted, Kind::Run, "refused-slot-counted"),
+    (Rule::RefusedSlotWritten, Kind::Run, "refused-slot-written"),
+    (Rule::BoundOneLess, Kind::Run, "bound-one-less"),
+    (Rule::NoJobIsZero, Kind::Margin, "no-job-is-zero"),
+    (Rule::HoldsBesideNone, Kind::Verdict, "holds-beside-none"),
+    (Rule::RefusedIsGreen, Kind::Green, "refused-is-green"),
+    (Rule::FormBeforeEnd, Kind::Sweep, "form-before-end"),
+    (Rule::RowPastLast, Kind::Legal, "row-past-last"),
+    (Rule::BoxNotReady, Kind::BoxRun, "box-not-ready"),
+    (Rule::FixedNumber, Kind::Fixed, "fixed-number"),
+    (Rule::PlaceFromOne, Kind::VerdictProgram, "place-from-one"),
+    (Rule::LabelsFromOne, Kind::ReferenceProgram, "labels-from-one"),
+];
+
+/// No rule.
+const NONE: usize = usize::MAX;
+
+/// The rule that is broken in this process.
+static BROKEN: AtomicUsize = AtomicUsize::new(NONE);
+
+/// Breaks the rule of this name from now on; the kind of case that has to show it, or nothing where no rule has the name.
+pub fn break_rule(name: &str) -> Option<Kind> {
+    let (rule, kind, _) = RULES.iter().find(|(_, _, known)| *known == name)?;
+    BROKEN.store(*rule as usize, Relaxed);
+    Some(*kind)
+}
+
+/// Whether this rule is the broken one.
+pub fn broken(rule: Rule) -> bool {
+    BROKEN.load(Relaxed) == rule as usize
+}
