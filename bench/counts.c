@@ -1,0 +1,132 @@
+/* How many lengths each search tries: every length in turn, the paper's iteration, and the search that skips.
+ * counts: the families.   counts climb SEED CLIMBS: the worst sheet that random climbs on the count come to. */
+#include <stdio.h>
+#include <stdlib.h>
+#include <string.h>
+
+#include "sheets.h"
+
+static uint64_t count(const sheet_t *sheet, search_t *search) {
+  uint64_t bounds[MOST_ROWS];
+  lengths_tried = 0;
+  plain_bounds(sheet, search, bounds);
+  return lengths_tried;
+}
+
+static void show(const sheet_t *sheet) {
+  printf("m = %llu, rows", (unsigned long long)sheet->processors);
+  for (size_t k = 0; k < sheet->count; k++) {
+    const row_t *row = &sheet->rows[k];
+    printf(" (%llu,%llu,%llu,%llu)", (unsigned long long)row->threads, (unsigned long long)row->separation, (unsigned long long)row->deadline,
+           (unsigned long long)row->budget);
+  }
+  printf("\n");
+}
+
+/* One line of the table; with raised limits only the search itself, which ends soon. */
+static void line(const char *name, sheet_t sheet) {
+  printf("| %s | ", name);
+  if (MOST_SEPARATION > 1000000 || MOST_ROWS > 32)
+    printf("- | - | ");
+  else
+    printf("%llu | %llu | ", (unsigned long long)count(&sheet, walking_bound), (unsigned long long)count(&sheet, paper_bound));
+  printf("%llu |\n", (unsigned long long)count(&sheet, skipping_bound));
+}
+
+static sheet_t any_sheet(uint64_t *seed, uint64_t most_rows) {
+  sheet_t sheet = {.processors = 1 + roll(seed, 8), .count = 2 + roll(seed, most_rows - 1)};
+  for (size_t k = 0; k < sheet.count; k++) {
+    uint64_t separation = 1 + roll(seed, roll(seed, 2) ? MOST_SEPARATION : 1000), budget = 1 + roll(seed, separation / sheet.count + 1);
+    sheet.rows[k] = (row_t){1 + roll(seed, sheet.processors), separation, separation, budget < separation ? budget : separation};
+  }
+  return sheet;
+}
+
+static sheet_t worst_of_random(uint64_t sheets) {
+  uint64_t seed = 20261115, most = 0;
+  sheet_t worst = {0};
+  for (uint64_t i = 0; i < sheets; i++) {
+    sheet_t sheet = any_sheet(&seed, 32);
+    uint64_t tried = count(&sheet, skipping_bound);
+    if (tried > most) most = tried, worst = sheet;
+  }
+  return worst;
+}
+
+/* A small change of a sheet that leaves it legal. */
+static void change(sheet_t *sheet, uint64_t *seed) {
+  row_t *row = &sheet->rows[roll(seed, sheet->count)];
+  switch (roll(seed, 9)) {
+    case 0:
+      sheet->processors = 1 + roll(seed, 4);
+      break;
+    case 1:
+      if (sheet->count < MOST_ROWS) sheet->rows[sheet->count] = *row, sheet->count++;
+      break;
+    case 2:
+      if (sheet->count > 2) *row = sheet->rows[--sheet->count];
+      break;
+    case 3:
+      row->threads = 1 + roll(seed, sheet->processors);
+      break;
+    case 4:
+      row->separation = 1 + roll(seed, MOST_SEPARATION);
+      break;
+    case 5:
+      row->separation = 1 + roll(seed, 200);
+      break;
+    case 6:
+      row->budget = 1 + roll(seed, row->separation);
+      break;
+    case 7:
+      row->budget += roll(seed, 3);
+      row->budget -= row->budget > 1;
+      break;
+    default:
+      row->separation += roll(seed, 5);
+      row->separation -= row->separation > 2 ? 2 : 0;
+      break;
+  }
+  for (size_t k = 0; k < sheet->count; k++) {
+    row_t *each = &sheet->rows[k];
+    if (each->threads > sheet->processors) each->threads = sheet->processors;
+    if (each->separation > MOST_SEPARATION) each->separation = MOST_SEPARATION;
+    if (each->budget > each->separation) each->budget = each->separation;
+    each->deadline = each->separation;
+  }
+}
+
+static void climb(uint64_t seed, uint64_t climbs) {
+  uint64_t most = 0;
+  sheet_t worst = {0};
+  for (uint64_t i = 0; i < climbs; i++) {
+    sheet_t sheet = any_sheet(&seed, 8);
+    uint64_t tried = count(&sheet, skipping_bound);
+    for (int step = 0; step < 1500; step++) {
+      sheet_t other = sheet;
+      change(&other, &seed);
+      if (roll(&seed, 2)) change(&other, &seed);
+      uint64_t with = count(&other, skipping_bound);
+      if (with >= tried) sheet = other, tried = with;
+    }
+    if (tried > most) most = tried, worst = sheet;
+  }
+  printf("%llu lengths: ", (unsigned long long)most);
+  show(&worst);
+}
+
+int main(int arguments, char **words) {
+  if (arguments == 4 && strcmp(words[1], "climb") == 0) {
+    climb(strtoull(words[2], NULL, 10) * 7919 + 88172645463325252u, strtoull(words[3], NULL, 10));
+    return 0;
+  }
+  printf("| sheet (%d rows, T to %d) | every length | paper's iteration | the search |\n|---|---|---|---|\n", MOST_ROWS, MOST_SEPARATION);
+  line("a long wide row above short ones", long_above_short(MOST_ROWS, MOST_SEPARATION));
+  line("wide rows, budgets up by one", equal_wide(MOST_ROWS, MOST_SEPARATION));
+  line("worst of 3,000 random sheets", worst_of_random(3000));
+  line("saturated", saturated(MOST_SEPARATION));
+  line("five rows close to full", nearly_full(MOST_SEPARATION));
+  line("climb 1: two short rows that nearly fill a processor", nearly_saturated(MOST_ROWS, MOST_SEPARATION));
+  line("climb 2: two of three processors taken", two_taken());
+  return 0;
+}

@@ -1,0 +1,249 @@
+#include "plain.h"
+
+uint64_t lengths_tried;
+
+static uint64_t smaller(uint64_t a, uint64_t b) { return a < b ? a : b; }
+
+/* -- the reader -- */
+
+typedef struct {
+  const uint8_t *bytes;
+  size_t count, at;
+  refusal_t refusal;
+} reader_t;
+
+static bool refuse(reader_t *reader, unsigned number, size_t place) {
+  reader->refusal = (refusal_t){number, place};
+  return false;
+}
+
+static bool read_number(reader_t *reader, uint64_t most, unsigned zero, unsigned over, uint64_t *value) {
+  size_t start = reader->at;
+  *value = 0;
+  for (unsigned group = 0; group < 3; group++) {
+    if (reader->at == reader->count) return refuse(reader, 2, reader->count);
+    uint8_t byte = reader->bytes[reader->at++];
+    *value |= (uint64_t)(byte & 127) << (7 * group);
+    if (byte < 128) {
+      if (group > 0 && byte == 0) return refuse(reader, 3, start);
+      if (*value == 0) return refuse(reader, zero, start);
+      if (*value > most) return refuse(reader, over, start);
+      return true;
+    }
+  }
+  return refuse(reader, 3, start);
+}
+
+static bool read_label(reader_t *reader, label_t *label) {
+  uint64_t length;
+  if (!read_number(reader, LONGEST_LABEL, 6, 6, &length)) return false;
+  if (reader->count - reader->at < length) return refuse(reader, 2, reader->count);
+  *label = (label_t){reader->bytes + reader->at, length};
+  for (size_t i = 0; i < length; i++, reader->at++)
+    if (reader->bytes[reader->at] < 0x21 || reader->bytes[reader->at] > 0x7e) return refuse(reader, 6, reader->at);
+  return true;
+}
+
+static bool read_row(reader_t *reader, uint64_t processors, row_t *row) {
+  return read_number(reader, processors, 7, 8, &row->threads) && read_number(reader, MOST_SEPARATION, 7, 8, &row->separation) &&
+         read_number(reader, row->separation, 7, 8, &row->deadline) && read_number(reader, row->deadline, 7, 8, &row->budget);
+}
+
+refusal_t plain_read(const uint8_t *bytes, size_t count, sheet_t *sheet) {
+  reader_t reader = {bytes, count, 4, {0, 0}};
+  if (count < 4 || bytes[0] != 0x47 || bytes[1] != 0x53 || bytes[2] != 0x48 || bytes[3] != 0x01) return (refusal_t){1, 0};
+  if (!read_number(&reader, MOST_PROCESSORS, 4, 4, &sheet->processors)) return reader.refusal;
+  if (!read_number(&reader, MOST_ROWS, 5, 5, &sheet->count)) return reader.refusal;
+  for (size_t k = 0; k < sheet->count; k++)
+    if (!read_label(&reader, &sheet->labels[k]) || !read_row(&reader, sheet->processors, &sheet->rows[k])) return reader.refusal;
+  if (reader.at < count) refuse(&reader, 9, reader.at);
+  return reader.refusal;
+}
+
+/* -- the bound -- */
+
+static uint64_t work(const row_t *row, uint64_t span) {
+  uint64_t jobs = span / row->separation;
+  return jobs * row->budget + smaller(row->budget, span - jobs * row->separation);
+}
+
+static uint64_t sum_above(const sheet_t *sheet, const uint64_t *bounds, size_t k, uint64_t length, uint64_t q) {
+  uint64_t window = length - sheet->rows[k].budget + 1, sum = 0;
+  lengths_tried++;
+  for (size_t i = 0; i < k; i++) {
+    const row_t *row = &sheet->rows[i];
+    sum += smaller(work(row, length + bounds[i] - row->budget), window) * smaller(row->threads, q);
+  }
+  return sum;
+}
+
+uint64_t walking_bound(const sheet_t *sheet, const uint64_t *bounds, size_t k) {
+  const row_t *row = &sheet->rows[k];
+  uint64_t q = sheet->processors - row->threads + 1;
+  for (uint64_t length = row->budget; length <= row->deadline; length++)
+    if (sum_above(sheet, bounds, k, length, q) < q * (length - row->budget + 1)) return length;
+  return 0;
+}
+
+uint64_t paper_bound(const sheet_t *sheet, const uint64_t *bounds, size_t k) {
+  const row_t *row = &sheet->rows[k];
+  uint64_t q = sheet->processors - row->threads + 1;
+  uint64_t length = row->budget;
+  while (length <= row->deadline) {
+    uint64_t next = row->budget + sum_above(sheet, bounds, k, length, q) / q;
+    if (next <= length) return length;
+    length = next;
+  }
+  return 0;
+}
+
+/* No length up to the deadline passes where the shares of the rows above leave no room in it. */
+static bool leaves_room(const sheet_t *sheet, const uint64_t *bounds, size_t k, uint64_t q) {
+  uint64_t length = sheet->rows[k].deadline, window = length - sheet->rows[k].budget + 1, sum = 0;
+  for (size_t i = 0; i < k; i++) {
+    const row_t *row = &sheet->rows[i];
+    uint64_t span = length + bounds[i] - row->budget;
+    sum += smaller(span * row->budget / row->separation, window) * smaller(row->threads, q);
+  }
+  return sum < q * window;
+}
+
+/* The length after one that fails by so much: the rows that keep pace carry it on. */
+static uint64_t next_length(const sheet_t *sheet, const uint64_t *bounds, size_t k, uint64_t length, uint64_t q, uint64_t over) {
+  uint64_t window = length - sheet->rows[k].budget + 1, width = 0, stay = MOST_SEPARATION;
+  for (size_t i = 0; i < k; i++) {
+    const row_t *row = &sheet->rows[i];
+    uint64_t span = length + bounds[i] - row->budget, done = work(row, span), ran = span % row->separation;
+    uint64_t keeps = (ran < row->budget ? row->budget - ran : 0) + (done > window ? done - window : 0);
+    if (keeps == 0) continue;
+    width += smaller(row->threads, q);
+    stay = smaller(stay, keeps);
+  }
+  uint64_t level = over / q, steep = width < q ? smaller(stay, over / (q - width)) : stay;
+  return length + (level > steep ? level : steep) + 1;
+}
+
+uint64_t skipping_bound(const sheet_t *sheet, const uint64_t *bounds, size_t k) {
+  const row_t *row = &sheet->rows[k];
+  uint64_t q = sheet->processors - row->threads + 1;
+  if (!leaves_room(sheet, bounds, k, q)) return 0;
+  uint64_t length = row->budget;
+  while (length <= row->deadline) {
+    uint64_t sum = sum_above(sheet, bounds, k, length, q), room = q * (length - row->budget + 1);
+    if (sum < room) return length;
+    length = next_length(sheet, bounds, k, length, q, sum - room);
+  }
+  return 0;
+}
+
+/* The bounds from the top; those after the first none are 0 too. */
+bool plain_bounds(const sheet_t *sheet, search_t *search, uint64_t *bounds) {
+  bool holds = true;
+  for (size_t k = 0; k < sheet->count; k++) {
+    bounds[k] = holds ? search(sheet, bounds, k) : 0;
+    holds = bounds[k] != 0;
+  }
+  return holds;
+}
+
+/* -- the verdict's text -- */
+
+static char *put(char *to, const char *text) {
+  while (*text) *to++ = *text++;
+  return to;
+}
+
+static char *put_number(char *to, uint64_t value) {
+  char digits[20];
+  size_t count = 0;
+  do digits[count++] = '0' + value % 10;
+  while ((value /= 10) != 0);
+  while (count > 0) *to++ = digits[--count];
+  return to;
+}
+
+size_t plain_verdict(const uint8_t *bytes, size_t count, search_t *search, char *text) {
+  sheet_t sheet;
+  char *to = text;
+  refusal_t refusal = plain_read(bytes, count, &sheet);
+  if (refusal.number != 0) {
+    to = put_number(put(to, "NO VERDICT "), refusal.number);
+    to = put(put_number(put(to, " "), refusal.place), "\n");
+    return to - text;
+  }
+  uint64_t bounds[MOST_ROWS];
+  bool holds = plain_bounds(&sheet, search, bounds), reached = true;
+  for (size_t k = 0; k < sheet.count; k++) {
+    to = put(put_number(to, k), " ");
+    for (size_t i = 0; i < sheet.labels[k].length; i++) *to++ = sheet.labels[k].start[i];
+    if (bounds[k] != 0) {
+      to = put(put_number(put(to, " bound "), bounds[k]), "\n");
+    } else {
+      to = put(to, reached ? " none -\n" : " unreached -\n");
+      reached = false;
+    }
+  }
+  return put(to, holds ? "HOLDS\n" : "FAILS\n") - text;
+}
+
+/* -- the machine -- */
+
+refusal_t plain_slot(const sheet_t *sheet, record_t *state, const uint64_t *releases, uint8_t *codes) {
+  for (size_t k = 0; k < sheet->count; k++) {
+    if (releases[k] == 0) continue;
+    if (releases[k] > sheet->rows[k].budget) return (refusal_t){12, k};
+    if (state[k].since < sheet->rows[k].separation) return (refusal_t){13, k};
+  }
+  uint64_t free = sheet->processors;
+  for (size_t k = 0; k < sheet->count; k++) {
+    const row_t *row = &sheet->rows[k];
+    record_t *record = &state[k];
+    if (releases[k] != 0) *record = (record_t){releases[k], 0};
+    bool job = record->remaining != 0, runs = job && row->threads <= free;
+    if (runs) {
+      free -= row->threads;
+      record->remaining--;
+    }
+    if (record->since < row->separation) record->since++;
+    codes[k] = !job ? 0 : record->remaining == 0 ? 3 : record->since == row->deadline ? 4 : runs ? 2 : 1;
+    if (codes[k] == 4) record->remaining = 0;
+  }
+  return (refusal_t){0, 0};
+}
+
+static bool legal_sheet(const sheet_t *sheet) {
+  if (sheet->processors < 1 || sheet->processors > MOST_PROCESSORS || sheet->count < 1 || sheet->count > MOST_ROWS) return false;
+  for (size_t k = 0; k < sheet->count; k++) {
+    const row_t *row = &sheet->rows[k];
+    if (row->threads < 1 || row->threads > sheet->processors || row->separation < 1 || row->separation > MOST_SEPARATION || row->deadline < 1 ||
+        row->deadline > row->separation || row->budget < 1 || row->budget > row->deadline)
+      return false;
+  }
+  return true;
+}
+
+static bool legal_state(const sheet_t *sheet, const record_t *state) {
+  for (size_t k = 0; k < MOST_ROWS; k++) {
+    const row_t *row = &sheet->rows[k];
+    const record_t *record = &state[k];
+    if (k >= sheet->count) {
+      if (record->remaining != 0 || record->since != 0) return false;
+    } else if (record->since < 1 || record->since > row->separation || record->remaining > row->budget ||
+               (record->remaining > 0 && record->since >= row->deadline)) {
+      return false;
+    }
+  }
+  return true;
+}
+
+refusal_t plain_run(const sheet_t *sheet, record_t *state, const uint64_t *releases, size_t count, uint8_t *codes, uint64_t *done) {
+  *done = 0;
+  if (!legal_sheet(sheet)) return (refusal_t){10, 0};
+  if (!legal_state(sheet, state)) return (refusal_t){16, 0};
+  if (count % sheet->count != 0) return (refusal_t){11, 0};
+  for (size_t at = 0; at < count; at += sheet->count, ++*done) {
+    refusal_t refusal = plain_slot(sheet, state, releases + at, codes + at);
+    if (refusal.number != 0) return refusal;
+  }
+  return (refusal_t){0, 0};
+}

@@ -1,0 +1,58 @@
+/* The same jobs in plain C, to compare with: rows and records in arrays of structs, changed in place. */
+#ifndef PLAIN_H
+#define PLAIN_H
+
+#include <stdbool.h>
+#include <stddef.h>
+#include <stdint.h>
+
+/* Two of the limits may be raised, to count what the searches would do. */
+#ifndef MOST_ROWS
+#define MOST_ROWS 32
+#endif
+#ifndef MOST_SEPARATION
+#define MOST_SEPARATION 1000000
+#endif
+
+enum { MOST_PROCESSORS = 64, LONGEST_LABEL = 16 };
+
+typedef struct {
+  uint64_t threads, separation, deadline, budget;
+} row_t;
+
+typedef struct {
+  const uint8_t *start;
+  size_t length;
+} label_t;
+
+typedef struct {
+  uint64_t processors, count;
+  row_t rows[MOST_ROWS];
+  label_t labels[MOST_ROWS];
+} sheet_t;
+
+typedef struct {
+  uint64_t remaining, since;
+} record_t;
+
+typedef struct {
+  unsigned number;
+  size_t place;
+} refusal_t;
+
+/* The bound of row k by the bounds above, or 0 for none. */
+typedef uint64_t search_t(const sheet_t *sheet, const uint64_t *bounds, size_t k);
+
+/* The paper's own iteration; the search that skips; every length one after another. */
+search_t paper_bound, skipping_bound, walking_bound;
+
+/* How many lengths the searches have tried. */
+extern uint64_t lengths_tried;
+
+refusal_t plain_read(const uint8_t *bytes, size_t count, sheet_t *sheet);
+bool plain_bounds(const sheet_t *sheet, search_t *search, uint64_t *bounds);
+size_t plain_verdict(const uint8_t *bytes, size_t count, search_t *search, char *text);
+refusal_t plain_slot(const sheet_t *sheet, record_t *state, const uint64_t *releases, uint8_t *codes);
+refusal_t plain_run(const sheet_t *sheet, record_t *state, const uint64_t *releases, size_t count, uint8_t *codes, uint64_t *done);
+
+#endif
