@@ -11,3 +11,4 @@ pub mod Meaning
 pub mod Rows
 pub mod Worked
 pub mod Answers
+pub mod Load

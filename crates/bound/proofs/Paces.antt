@@ -27,7 +27,7 @@ capped-grows : (w z g x d : ℕ) → w + min d g ≤ z → d ≤ g + (w - x) →
 capped-grows w z g x d a b = omega arith
 
 -- a row's duration keeps pace while the row stays
-duration-grows : (r : Row) (R L X : Duration) (d : ℕ) → 1 ≤ r .separation → r .budget ≤ r .separation → r .budget ≤ R .0 → d ≤ stayOf r R L X .0
+pub duration-grows : (r : Row) (R L X : Duration) (d : ℕ) → 1 ≤ r .separation → r .budget ≤ r .separation → r .budget ≤ R .0 → d ≤ stayOf r R L X .0
     → durationOf r R L X .0 + d ≤ durationOf r R (plus L (slots d)) (plus X (slots d)) .0
 unfolding durationOf stayOf x
 duration-grows r R L X d pos fits low h =
