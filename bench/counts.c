@@ -128,5 +128,6 @@ int main(int arguments, char **words) {
   line("five rows close to full", nearly_full(MOST_SEPARATION));
   line("climb 1: two short rows that nearly fill a processor", nearly_saturated(MOST_ROWS, MOST_SEPARATION));
   line("climb 2: two of three processors taken", two_taken());
+  line("climb 3: a long wide row beside one that always runs", long_beside_always(MOST_ROWS, MOST_SEPARATION));
   return 0;
 }

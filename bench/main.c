@@ -193,6 +193,7 @@ int main(void) {
   one(equal_wide(32, 1000000)), verdicts("hard: 32 wide rows", skipping_bound);
   one(saturated(1000000)), verdicts("hard: saturated", skipping_bound);
   one(nearly_saturated(32, 1000000)), verdicts("hard: nearly saturated", skipping_bound);
+  one(long_beside_always(32, 1000000)), verdicts("hard: a long wide row beside one that always runs", skipping_bound);
 
   head("Slots", "slots a second");
   slots("a run, 2 rows", "one by one, 2 rows", 2);

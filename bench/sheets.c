@@ -130,3 +130,11 @@ sheet_t two_taken(void) {
   for (size_t k = 0; k < sizeof ROWS / sizeof ROWS[0]; k++) sheet.rows[sheet.count++] = ROWS[k];
   return sheet;
 }
+
+sheet_t long_beside_always(uint64_t rows, uint64_t longest) {
+  sheet_t sheet = empty(3);
+  add(&sheet, 2, longest, longest, longest - longest / 1000);
+  add(&sheet, 1, 1, 1, 1);
+  while (sheet.count < rows) add(&sheet, 1, longest, longest, 1);
+  return sheet;
+}

@@ -41,4 +41,7 @@ sheet_t nearly_saturated(uint64_t rows, uint64_t longest);
 /* Rows on three processors of which two are nearly always taken: as a climb found it. */
 sheet_t two_taken(void);
 
+/* A long wide row beside one that always runs, above rows of budget 1: what a climb's worst sheet has in it, made as bad as it goes. */
+sheet_t long_beside_always(uint64_t rows, uint64_t longest);
+
 #endif
