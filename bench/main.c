@@ -3,6 +3,7 @@
 #include "sheets.h"
 
 int printf(const char *format, ...);
+int snprintf(char *text, size_t count, const char *format, ...);
 int memcmp(const void *a, const void *b, size_t count);
 void exit(int status);
 struct clock_reading {
@@ -173,46 +174,44 @@ static void slots(const char *in_a_run, const char *one_by_one, uint64_t rows) {
 
 static void head(const char *title, const char *unit) { printf("\n%s\n\n| | proved, %s | C, %s | ratio of times |\n|---|---|---|---|\n", title, unit, unit); }
 
-int main(void) {
-  head("Verdicts against the paper's iteration in C", "verdicts a second");
-  fill(4, 1000, 40), verdicts("ordinary, 4 rows, T to 1,000", paper_bound);
-  fill(12, 1000, 40), verdicts("ordinary, 12 rows, T to 1,000", paper_bound);
-  fill(32, 1000, 40), verdicts("ordinary, 32 rows, T to 1,000", paper_bound);
-  fill(12, 1000000, 40), verdicts("ordinary, 12 rows, T to 1,000,000", paper_bound);
-  fill(12, 1000, 90), verdicts("loaded, 12 rows, T to 1,000", paper_bound);
-  one(long_above_short(32, 1000000)), verdicts("hard: a long wide row above 31 short ones", paper_bound);
-  one(equal_wide(32, 1000000)), verdicts("hard: 32 wide rows", paper_bound);
-  one(saturated(1000000)), verdicts("hard: saturated", paper_bound);
-  one(nearly_saturated(32, 1000000)), verdicts("hard: nearly saturated", paper_bound);
+/* Ordinary and hard sheets, with the bounds in C by this search. */
+static void against(const char *title, search_t *by) {
+  head(title, "verdicts a second");
+  fill(4, 1000, 40), verdicts("ordinary, 4 rows, T to 1,000", by);
+  fill(12, 1000, 40), verdicts("ordinary, 12 rows, T to 1,000", by);
+  fill(32, 1000, 40), verdicts("ordinary, 32 rows, T to 1,000", by);
+  fill(12, 1000000, 40), verdicts("ordinary, 12 rows, T to 1,000,000", by);
+  fill(12, 1000, 90), verdicts("loaded, 12 rows, T to 1,000", by);
+  one(long_above_short(32, 1000000)), verdicts("hard: a long wide row above 31 short ones", by);
+  one(equal_wide(32, 1000000)), verdicts("hard: 32 wide rows", by);
+  one(saturated(1000000)), verdicts("hard: saturated", by);
+  one(nearly_full(1000000)), verdicts("hard: five rows close to full", by);
+  one(nearly_saturated(32, 1000000)), verdicts("hard: climb 1, nearly saturated", by);
+  one(two_taken()), verdicts("hard: climb 2, two of three processors taken", by);
+  one(long_beside_always(32, 1000000)), verdicts("hard: climb 3, a long wide row beside one that always runs", by);
+}
 
-  head("Verdicts against the same search in C", "verdicts a second");
-  fill(4, 1000, 40), verdicts("ordinary, 4 rows, T to 1,000", skipping_bound);
-  fill(12, 1000, 40), verdicts("ordinary, 12 rows, T to 1,000", skipping_bound);
-  fill(32, 1000, 40), verdicts("ordinary, 32 rows, T to 1,000", skipping_bound);
-  one(long_above_short(32, 1000000)), verdicts("hard: a long wide row above 31 short ones", skipping_bound);
-  one(equal_wide(32, 1000000)), verdicts("hard: 32 wide rows", skipping_bound);
-  one(saturated(1000000)), verdicts("hard: saturated", skipping_bound);
-  one(nearly_saturated(32, 1000000)), verdicts("hard: nearly saturated", skipping_bound);
-  one(long_beside_always(32, 1000000)), verdicts("hard: a long wide row beside one that always runs", skipping_bound);
+int main(void) {
+  against("Verdicts, against the paper's iteration in C", paper_bound);
+  against("Verdicts, against the same search in C", skipping_bound);
 
   head("Slots", "slots a second");
   slots("a run, 2 rows", "one by one, 2 rows", 2);
   slots("a run, 8 rows", "one by one, 8 rows", 8);
   slots("a run, 32 rows", "one by one, 32 rows", 32);
 
-  head("How the time grows with rows (loaded to 40 in a hundred, T to 1,000)", "verdicts a second");
-  fill(1, 1000, 40), verdicts("1 row", paper_bound);
-  fill(2, 1000, 40), verdicts("2 rows", paper_bound);
-  fill(4, 1000, 40), verdicts("4 rows", paper_bound);
-  fill(8, 1000, 40), verdicts("8 rows", paper_bound);
-  fill(16, 1000, 40), verdicts("16 rows", paper_bound);
-  fill(32, 1000, 40), verdicts("32 rows", paper_bound);
+  head("Growth with rows, against the paper's iteration (loaded to 40 in a hundred, T to 1,000)", "verdicts a second");
+  for (uint64_t rows = 1; rows <= MOST_ROWS; rows *= 2) {
+    char name[16];
+    snprintf(name, sizeof name, "%d rows", (int)rows);
+    fill(rows, 1000, 40), verdicts(name, paper_bound);
+  }
 
-  head("How the time grows with T (16 rows, loaded to 40 in a hundred)", "verdicts a second");
-  fill(16, 100, 40), verdicts("T to 100", paper_bound);
-  fill(16, 1000, 40), verdicts("T to 1,000", paper_bound);
-  fill(16, 10000, 40), verdicts("T to 10,000", paper_bound);
-  fill(16, 100000, 40), verdicts("T to 100,000", paper_bound);
-  fill(16, 1000000, 40), verdicts("T to 1,000,000", paper_bound);
+  head("Growth with T, against the paper's iteration (16 rows, loaded to 40 in a hundred)", "verdicts a second");
+  for (uint64_t longest = 100; longest <= MOST_SEPARATION; longest *= 10) {
+    char name[16];
+    snprintf(name, sizeof name, "T to %d", (int)longest);
+    fill(16, longest, 40), verdicts(name, paper_bound);
+  }
   return 0;
 }

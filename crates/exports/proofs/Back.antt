@@ -1,6 +1,6 @@
 -- What is written into a list comes back when the list is read.
 -- Assumes nothing.
-use Prim.Native.Nat.{ℕ, _+_, _-_, _*_, _/_, _%_, _≤_, _<_}
+use Prim.Native.Nat.{ℕ, _+_, _*_, _/_, _%_, _≤_, _<_}
 use mathlib.Core.Path.{_≡_, refl, sym, ap, _∙_}
 use mathlib.Core.Bool.{Bool, true, false}
 use mathlib.Core.List.{List}
@@ -19,9 +19,8 @@ use Rattle.basis.specs.Upto.{upto}
 use Rattle.basis.proofs.Words.{lt-or-le, all-true, both-left, both-right}
 use Rattle.basis.proofs.Upto.{upto-below, length-upto}
 use Rattle.sheet.specs.Form.{Held, sheet}
-use Rattle.sheet.specs.Legal.{noRow, rowAt, legal, ZeroPast}
-use Rattle.sheet.specs.Answers.{noRows, handed, reading}
-use Rattle.sheet.specs.declared.row.Row.{Row}
+use Rattle.sheet.specs.Legal.{legal}
+use Rattle.sheet.specs.Answers.{handed, reading}
 use Rattle.sheet.specs.declared.row.Sheet.{Sheet}
 use Rattle.sheet.proofs.Accepted.{accepted-is-legal}
 use Rattle.sheet.proofs.Legality.{legal-is}
@@ -32,7 +31,7 @@ use Rattle.machine.specs.declared.state.RowState.{RowState}
 use Rattle.machine.specs.declared.state.State.{State}
 use Rattle.machine.proofs.Checked.{needed-holds}
 use Rattle.machine.proofs.Legals.{legal-state-is}
-use Rattle.flat.specs.Lists.{numberAt, filled, rowIn, sheetIn, rowCell, sheetCell, sheetLong}
+use Rattle.flat.specs.Lists.{numberAt, filled, sheetIn, sheetLong}
 use Rattle.exports.specs.Lists.{recordIn, spareAt, spareIsZero, stateIn, stateCell, pairsLong}
 use Rattle.exports.specs.Answers.{told, roomFor, fieldsIn, readIn}
 use Rattle.flat.proofs.Filling.{filled-read}

@@ -1,6 +1,5 @@
 -- What each call for other programs answers: the number and the place of a refusal, or zeros, and every lent list and number afterwards.
 use Prim.Native.Nat.{ℕ}
-use mathlib.Core.Bool.{Bool}
 use mathlib.Core.List.{List}
 use lib.ListN.{length}
 use lib.IntN.{ℤ}
@@ -8,7 +7,6 @@ use lib.Dec.{ltb, leb, eqb}
 use Rattle.basis.specs.Words.{pick}
 use Rattle.basis.specs.Refusals.{Outcome, accepted, refused, orElse}
 use Rattle.sheet.specs.Answers.{reading, labelIn}
-use Rattle.sheet.specs.declared.labels.Part.{Part}
 use Rattle.sheet.specs.declared.row.Sheet.{Sheet}
 use Rattle.bound.specs.Bound.{Answer, boundsOf}
 use Rattle.machine.specs.Checks.{needed}

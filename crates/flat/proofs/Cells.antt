@@ -1,7 +1,7 @@
 -- The numbers at the places of a sheet's list, as the code finds them.
 -- Assumes nothing.
 use Prim.Native.Nat.{ℕ, _+_, _-_, _*_, _/_, _%_, _≤_, _<_}
-use mathlib.Core.Path.{_≡_, refl, sym, ap, _∙_}
+use mathlib.Core.Path.{_≡_, sym, ap, _∙_}
 use mathlib.Core.List.{List, map}
 use mathlib.Core.Logic.{⊎-elim}
 use lib.ListN.{length, set, length-map, List·getD-eq-default}

@@ -12,7 +12,6 @@ use Rattle.basis.proofs.Upto.{upto-set, upto-below, length-upto}
 use Rattle.sheet.specs.Legal.{noRow, rowAt}
 use Rattle.sheet.specs.Answers.{noRows}
 use Rattle.sheet.specs.declared.row.Row.{Row}
-use Rattle.sheet.specs.declared.row.Sheet.{Sheet}
 use Rattle.flat.specs.Lists.{numberAt, rowIn, sheetIn}
 
 -- past the end of a list there are zeros

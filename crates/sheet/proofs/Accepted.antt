@@ -1,17 +1,17 @@
 -- An accepted sheet is legal: every range of the table holds of what is handed over, and rows past n are zero.
 -- Assumes nothing.
-use Prim.Native.Nat.{ℕ, zero, suc, _+_, _-_, _≤_, _<_}
+use Prim.Native.Nat.{ℕ, zero, suc, _+_, _-_, _<_}
 use mathlib.Core.Path.{_≡_, refl, sym, ap, subst, _∙_}
-use mathlib.Core.Bool.{Bool, true}
+use mathlib.Core.Bool.{true}
 use mathlib.Core.Logic.{⊎-elim}
-use mathlib.Core.List.{List, [], _∷_, _++_, map}
+use mathlib.Core.List.{List, _∷_, map}
 use native.Mathlib.Omega.{arith}
 use native.Mathlib.Nat.{not-suc-le-zero, le-of-suc-le-suc}
 use lib.ListN.{length, getD, length-map, List·getD-append, List·getD-eq-default, getD-replicate, length-replicate}
 use lib.Seq.{getD-append-add}
 use Rattle.basis.specs.Limits.{mostProcessors, mostRows, mostSeparation}
-use Rattle.basis.specs.Refusals.{Outcome, accepted}
-use Rattle.basis.specs.Readers.{Step, ok, refuse, after}
+use Rattle.basis.specs.Refusals.{accepted}
+use Rattle.basis.specs.Readers.{Step, ok, refuse}
 use Rattle.basis.proofs.Steps.{after-ok, ok-same}
 use Rattle.basis.proofs.Words.{lt-or-le}
 use Rattle.numbers.specs.Numbers.{upTo}
@@ -20,9 +20,8 @@ use Rattle.sheet.specs.Form.{Entry, Held, rowOf, label, entry, entries, 
 use Rattle.sheet.specs.Legal.{noRow, rowAt, legal, ZeroPast, LegalRow, Legal}
 use Rattle.sheet.specs.Answers.{noRows, filled, sheetOf, handed, reading}
 use Rattle.sheet.specs.declared.row.Row.{Row}
-use Rattle.sheet.specs.declared.row.Sheet.{Sheet}
-use Rattle.sheet.proofs.Found.{Whole, whole}
-use Rattle.sheet.proofs.Heads.{Headed, headed}
+use Rattle.sheet.proofs.Found.{whole}
+use Rattle.sheet.proofs.Heads.{headed}
 use Rattle.sheet.proofs.Legality.{legal-says}
 
 entry-legal : (m : ℕ) (s : List ℕ) (at : ℕ) (x : Entry) (n : ℕ) → entry m s at ≡ ok x n → LegalRow m (rowOf x)

@@ -1,7 +1,7 @@
 -- Worked sheets hold of the definitions: two rows with one label have two parts, and a label is judged length, enough bytes, each byte.
 -- Assumes nothing.
 use mathlib.Core.Path.{_≡_, refl}
-use mathlib.Core.List.{List, [], _∷_}
+use mathlib.Core.List.{[], _∷_}
 use lib.ListN.{take, drop, replicate}
 use Rattle.basis.specs.Refusals.{refused}
 use Rattle.basis.specs.Upto.{upto}

@@ -5,7 +5,7 @@ use mathlib.Core.Path.{_≡_}
 use mathlib.Core.List.{List}
 use lib.ListN.{length}
 use Rattle.basis.specs.Limits.{mostSeparation}
-use Rattle.basis.specs.Readers.{Step, ok, refuse, told}
+use Rattle.basis.specs.Readers.{ok, refuse, told}
 use Rattle.basis.proofs.Steps.{got, told-ok, told-no}
 use Rattle.numbers.specs.Numbers.{step, upTo}
 use Rattle.numbers.specs.declared.number.Number.{Number}

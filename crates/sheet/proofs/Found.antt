@@ -1,26 +1,21 @@
 -- A label of an accepted sheet: where its bytes are, and what the function that looks for it has shown.
 -- Assumes nothing.
-use Prim.Native.Nat.{ℕ, zero, suc, _+_, _-_, _≤_, _<_}
+use Prim.Native.Nat.{ℕ, zero, suc, _+_, _≤_, _<_}
 use mathlib.Core.Path.{_≡_, refl, sym, ap, ap₂, _∙_}
 use mathlib.Core.List.{List, [], _∷_, map}
-use mathlib.Core.Bool.{Bool, true, false}
 use native.Mathlib.Omega.{arith}
 use native.Mathlib.Nat.{not-suc-le-zero, le-of-suc-le-suc}
 use lib.ListN.{length, getD, take, drop}
-use lib.Dec.{ltb}
-use borrow.Author.Tests.{lt-ltb, le-ltb}
 use Rattle.basis.specs.Limits.{longestLabel, mostSeparation}
-use Rattle.basis.specs.Words.{pick}
 use Rattle.basis.specs.Refusals.{Outcome, accepted, refused, outcome}
-use Rattle.basis.specs.Readers.{Step, ok, refuse, after, enough, end}
+use Rattle.basis.specs.Readers.{Step, ok, refuse, enough, end}
 use Rattle.basis.specs.declared.refusal.Refusal.the-variants.{Accepted, Refused}
-use Rattle.basis.proofs.Steps.{never-ok, after-ok, ok-same, enough-ok, end-ok, end-stays}
+use Rattle.basis.proofs.Steps.{after-ok, ok-same, enough-ok, end-ok, end-stays}
 use Rattle.numbers.specs.Numbers.{upTo}
 use Rattle.sheet.specs.Form.{Entry, Held, plain, label, entry, entries, body, Head, head, sheet, labelHead}
-use Rattle.sheet.specs.Answers.{answer, handed, reading, nowhere, rowsRead, partAfter, labelIn}
-use Rattle.sheet.specs.declared.labels.Part.{Part}
+use Rattle.sheet.specs.Answers.{answer, handed, reading, rowsRead}
 use Rattle.sheet.specs.declared.reader.Reading.{Reading}
-use Rattle.sheet.proofs.Plain.{Plainly, plain-ok}
+use Rattle.sheet.proofs.Plain.{plain-ok}
 
 -- the label of an entry
 abbrev pub labelOf : Entry → List ℕ

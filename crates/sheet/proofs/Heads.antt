@@ -1,17 +1,17 @@
 -- What stands before the rows: each way out of the function that reads it, and what follows it in a whole sheet.
 -- Assumes nothing.
-use Prim.Native.Nat.{ℕ, _+_, _≤_, _<_}
-use mathlib.Core.Path.{_≡_, refl, sym, ap, ap₂, _∙_}
+use Prim.Native.Nat.{ℕ, _≤_}
+use mathlib.Core.Path.{_≡_, sym, ap, ap₂, _∙_}
 use mathlib.Core.List.{List}
 use mathlib.Core.Bool.{Bool, true, false}
 use Rattle.basis.specs.Limits.{longestLabel, mostProcessors, mostRows}
-use Rattle.basis.specs.Readers.{Step, ok, refuse, after, begins, marked, told}
+use Rattle.basis.specs.Readers.{ok, refuse, begins, marked, told}
 use Rattle.basis.proofs.Steps.{got, after-ok, ok-same, marked-ok, told-ok, told-no}
 use Rattle.numbers.specs.Numbers.{step, upTo}
 use Rattle.numbers.specs.declared.number.Number.{Number}
 use Rattle.numbers.specs.declared.number.Number.the-variants.{Is, Refused}
-use Rattle.numbers.proofs.Bounds.{Bounded, bounded}
-use Rattle.sheet.specs.Form.{Entry, Head, Held, markBytes, entries, body, head, sheet, labelHead}
+use Rattle.numbers.proofs.Bounds.{bounded}
+use Rattle.sheet.specs.Form.{Head, markBytes, entries, body, head, sheet, labelHead}
 use Rattle.sheet.specs.Steps.{passedStep, headStep, nothing}
 use Rattle.sheet.specs.Answers.{answer, handed, reading}
 use Rattle.sheet.specs.declared.head.HeadRead.{HeadRead}

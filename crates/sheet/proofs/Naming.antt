@@ -1,29 +1,27 @@
 -- The laws of a label: where it is not empty it is 1 to 16 bytes of 21..7E inside the sheet, the very label that was read; and it is empty exactly where
 -- the reader refuses or the row number is n or more.
 -- Assumes nothing.
-use Prim.Native.Nat.{ℕ, zero, suc, _+_, _-_, _≤_, _<_}
-use mathlib.Core.Path.{_≡_, refl, sym, ap, subst, _∙_}
-use mathlib.Core.Bool.{Bool, true, false}
+use Prim.Native.Nat.{ℕ, zero, suc, _+_, _≤_, _<_}
+use mathlib.Core.Path.{_≡_, refl, sym, ap, _∙_}
+use mathlib.Core.Bool.{true}
 use mathlib.Core.Logic.{_⊎_, inl, inr, ⊎-elim, _↔_}
-use mathlib.Core.List.{List, [], _∷_, map}
+use mathlib.Core.List.{List, [], map}
 use native.Mathlib.Omega.{arith}
-use native.Mathlib.Numerals.{add-one}
 use native.Mathlib.Nat.{not-suc-le-zero}
 use lib.ListN.{length, getD, take, drop}
 use lib.Dec.{ltb}
 use borrow.Author.Tests.{lt-ltb, le-ltb}
 use Rattle.basis.specs.Limits.{longestLabel}
-use Rattle.basis.specs.Words.{pick, within}
-use Rattle.basis.specs.Refusals.{Outcome, accepted, refused}
-use Rattle.basis.specs.Readers.{Step, ok, refuse, after, byte}
+use Rattle.basis.specs.Words.{pick}
+use Rattle.basis.specs.Refusals.{accepted, refused}
+use Rattle.basis.specs.Readers.{Step, ok, refuse, byte}
 use Rattle.basis.proofs.Steps.{after-ok, ok-same, passed, byte-ok}
 use Rattle.basis.proofs.Words.{lt-or-le}
 use Rattle.numbers.proofs.Bounds.{bounded}
-use Rattle.sheet.specs.Form.{Entry, Held, isPlain, plain, sheet, labelHead}
-use Rattle.sheet.specs.Answers.{sheetOf, handed, reading, nowhere, rowsRead, partAfter, labelIn}
+use Rattle.sheet.specs.Form.{Held, isPlain, plain, sheet, labelHead}
+use Rattle.sheet.specs.Answers.{handed, reading, nowhere, rowsRead, partAfter, labelIn}
 use Rattle.sheet.specs.declared.labels.Part.{Part}
-use Rattle.sheet.proofs.Found.{labelOf, Lies, Found, found}
-use Rattle.sheet.proofs.Accepted.{read-is-legal}
+use Rattle.sheet.proofs.Found.{labelOf, found}
 
 -- each byte that was read as a label's is one that it may have
 plain-bytes : (k : ℕ) (s : List ℕ) (at : ℕ) (bs : List ℕ) (n : ℕ) → plain k s at ≡ ok bs n → (j : ℕ) → j < k → isPlain (getD s (at + j) 0) ≡ true

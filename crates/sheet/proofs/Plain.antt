@@ -1,20 +1,15 @@
 -- Laws of a label's bytes: a turn of `plain` by the tests that the code makes, and what was read where it accepts.
 use Prim.Native.Nat.{ℕ, zero, suc, _+_, _-_, _≤_, _<_}
-use mathlib.Core.Path.{_≡_, refl, sym, ap, ap₂, _∙_}
+use mathlib.Core.Path.{_≡_, sym, ap, ap₂, _∙_}
 use mathlib.Core.List.{List, [], _∷_}
 use native.Mathlib.Omega.{arith}
 use native.Mathlib.Numerals.{add-one}
 use lib.ListN.{length, getD, take, drop}
 use lib.Seq.{drop-cons}
-use borrow.Author.Tests.{lt-ltb, le-ltb, le-leb, lt-leb}
-use Rattle.basis.specs.Readers.{Step, ok, refuse, after, told, byte}
-use Rattle.basis.specs.Words.{pick}
-use Rattle.numbers.specs.Numbers.{upTo}
+use borrow.Author.Tests.{lt-ltb, le-leb, lt-leb}
+use Rattle.basis.specs.Readers.{ok, refuse, told, byte}
 use Rattle.basis.proofs.Steps.{told-after, after-ok, ok-same, passed, byte-ok}
-use Rattle.numbers.proofs.Bounds.{Bounded, bounded}
-use Rattle.sheet.specs.Form.{plain, label, isPlain}
-use Rattle.basis.specs.Readers.{enough}
-use Rattle.basis.specs.Limits.{longestLabel}
+use Rattle.sheet.specs.Form.{plain, isPlain}
 use Rattle.sheet.specs.Steps.{nothing}
 
 -- the loop over a label's bytes, which has come from at to i: a turn by the tests that it makes, and its end

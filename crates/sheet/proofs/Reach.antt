@@ -1,29 +1,26 @@
 -- The reader is tame: how long a sheet can be, that no later byte counts, and that its refusals are the table's.
 -- Assumes nothing.
 use Prim.Native.Nat.{ℕ, zero, suc, _+_, _*_, _≤_, _<_}
-use mathlib.Core.Path.{_≡_, refl, sym, ap, _∙_}
+use mathlib.Core.Path.{_≡_, refl, ap}
 use mathlib.Core.Logic.{_⊎_, inl, inr}
-use mathlib.Core.Bool.{Bool, true, false}
 use mathlib.Core.List.{List, [], _∷_}
 use native.Mathlib.Omega.{arith}
 use native.Mathlib.Nat.{mul-le-mul-right}
-use lib.ListN.{length, getD, take, length-take}
+use lib.ListN.{length, take}
 use lib.Seq.{take-all, getD-take, length-take-le}
-use lib.Dec.{lit≤}
 use Rattle.basis.specs.Limits.{mostGroups, mostProcessors, mostRows, longestLabel, mostSeparation}
-use Rattle.basis.specs.Refusals.{Outcome, accepted, refused}
-use Rattle.basis.specs.Readers.{Step, ok, refuse, Reader, after, _>>=_, give, byte, enough, end, marked}
-use Rattle.basis.proofs.Steps.{after-ok, ok-same, end-ok}
-use Rattle.basis.proofs.Tame.{Listed, Agree, Tame, listed-as, tame-give, tame-more, tame-then, tame-tested, tame-enough, tame-end, tame-marked}
+use Rattle.basis.specs.Refusals.{refused}
+use Rattle.basis.specs.Readers.{Step, ok, refuse, Reader, _>>=_, give, enough, end, marked}
+use Rattle.basis.proofs.Tame.{Listed, Tame, listed-as, tame-give, tame-more, tame-then, tame-tested, tame-enough, tame-end, tame-marked}
 use Rattle.basis.proofs.Words.{lt-or-le}
-use Rattle.numbers.specs.Numbers.{upTo, groups, spelt, width}
+use Rattle.numbers.specs.Numbers.{upTo, spelt, width}
 use Rattle.numbers.proofs.Bounds.{bounded}
 use Rattle.numbers.proofs.Reach.{tame-up-to, width-grows}
-use Rattle.sheet.specs.Form.{Entry, Held, Head, markBytes, isPlain, plain, label, entry, entries, body, head, sheet}
+use Rattle.sheet.specs.Form.{Held, markBytes, isPlain, plain, label, entry, entries, body, head, sheet}
 use Rattle.sheet.specs.Longest.{longestRow, longestSheet}
 use Rattle.sheet.specs.Answers.{handed, reading}
 use Rattle.sheet.proofs.Found.{whole-length}
-use Rattle.sheet.proofs.Heads.{Headed, headed}
+use Rattle.sheet.proofs.Heads.{headed}
 
 -- a number from 1 to most, where limit is no less, and what follows it
 tame-number : {A : Type 0} (limit most under beyond : ℕ) (f : ℕ → Reader A) {b c : ℕ} → most ≤ limit → 3 ≤ under → under ≤ 9 → 3 ≤ beyond → beyond ≤ 9

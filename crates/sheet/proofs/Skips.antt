@@ -1,10 +1,9 @@
 -- Passing rows over, of which nothing is told but the place after them.
-use Prim.Native.Nat.{ℕ, zero, suc, _+_, _-_, _≤_, _<_}
-use mathlib.Core.Path.{_≡_, refl, sym, ap, _∙_}
-use mathlib.Core.List.{List, [], _∷_}
+use Prim.Native.Nat.{ℕ, suc, _+_, _-_, _≤_, _<_}
+use mathlib.Core.Path.{_≡_, sym, ap, _∙_}
+use mathlib.Core.List.{List, _∷_}
 use native.Mathlib.Omega.{arith}
-use lib.ListN.{length}
-use Rattle.basis.specs.Readers.{Step, ok, refuse, after, told}
+use Rattle.basis.specs.Readers.{ok, refuse, told}
 use Rattle.basis.proofs.Steps.{got, told-ok, told-no, told-after}
 use Rattle.sheet.specs.Form.{Entry, entry, entries}
 use Rattle.sheet.specs.Form.{rowOf}
