@@ -42,7 +42,7 @@ module _ (h : Sheet) (R : ℕ → Duration) (k : ℕ) (r : Ready h R k) (Q l : �
       let u : ℕ = rowAt h i .budget * Q / rowAt h i .separation in
       let fits : rowAt h i .budget ≤ rowAt h i .separation = omega (arith, i-row) in
       let m = share-capped (rowAt h i .budget) (rowAt h i .separation) (l - rowAt h k .budget + 1) s (W (rowAt h i) (slots s) .0) Q u (i-row .some-separation) fits
-          (omega (arith, r .low i b, r .legal .rows k (r .below) .some-budget)) (W-shares (rowAt h i) (i-row .some-separation) fits s) (div-mul-le-self (rowAt h i .budget * Q) (rowAt h i .separation)) in
+      (omega (arith, r .low i b, r .legal .rows k (r .below) .some-budget)) (W-shares (rowAt h i) (i-row .some-separation) fits s) (div-mul-le-self (rowAt h i .budget * Q) (rowAt h i .separation)) in
       omega (arith, mul-le-mul-right (min (rowAt h i .threads) (q h k)) m)
 
   loads : (n : ℕ) → n ≤ k → X h k (slots l) .0 * sum n (load h k Q) ≤ amounts h R k (slots l) n .0 * Q
