@@ -39,6 +39,9 @@ static void show_run(const uint64_t *sheet) {
   if (number == 0 && job == 1) printf("trim has a margin of %lld\n", (long long)margin);
   number = giachimu_margin(sheet, GIACHIMU_SHEET_LONG, state, GIACHIMU_PAIRS_LONG, 2, &job, &margin, &place);
   printf("row 2: refusal %llu\n", (unsigned long long)number);
+  static const uint64_t NONE[] = {0, 0};
+  giachimu_slot(sheet, GIACHIMU_SHEET_LONG, state, GIACHIMU_PAIRS_LONG, NONE, 2, codes, sizeof codes, &place);
+  printf("one slot more: %d %d\n", codes[0], codes[1]);
 }
 
 int main(void) {

@@ -24,3 +24,5 @@ try:
     giachimu.margin(processors, rows, state, 2)
 except Refused as refused:
     print(f"row 2: refusal {refused.number}")
+codes = giachimu.slot(processors, rows, state, [0, 0])
+print(f"one slot more: {codes[0]} {codes[1]}")

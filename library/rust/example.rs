@@ -33,5 +33,6 @@ fn main() {
     let before = state.clone();
     let refused = state.slot(&sheet, &[0, 1]).expect_err("the release is too soon");
     assert!(refused.number == 13 && refused.place == 1 && state == before);
-    assert!(state.slot(&sheet, &[0, 0]).is_ok() && state != before);
+    let codes = state.slot(&sheet, &[0, 0]).expect("no release is too soon");
+    println!("one slot more: {} {}", codes[0] as u8, codes[1] as u8);
 }
