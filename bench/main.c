@@ -48,7 +48,8 @@ static void measure(const job_t *job) {
     if (a < ours) ours = a;
     if (b < plain) plain = b;
   }
-  printf("| %s | %.0f | %.0f | %.2f |\n", job->name, job->units / ours, job->units / plain, ours / plain);
+  double here = job->units / ours, there = job->units / plain;
+  printf("| %s | %.*f | %.*f | %.2f |\n", job->name, here < 10, here, there < 10, there, ours / plain);
 }
 
 static void differ(const char *what) {
@@ -203,7 +204,7 @@ int main(void) {
   head("Growth with rows, against the paper's iteration (loaded to 40 in a hundred, T to 1,000)", "verdicts a second");
   for (uint64_t rows = 1; rows <= MOST_ROWS; rows *= 2) {
     char name[16];
-    snprintf(name, sizeof name, "%d rows", (int)rows);
+    snprintf(name, sizeof name, rows == 1 ? "%d row" : "%d rows", (int)rows);
     fill(rows, 1000, 40), verdicts(name, paper_bound);
   }
 
