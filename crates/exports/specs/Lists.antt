@@ -58,7 +58,7 @@ resultCell ws i =
 abbrev pub flag : Bool → ℕ
 flag test = pick test 1 0
 
--- How the code finds the number at place i of such a list: the row that the place belongs to, or row 0 where it belongs to none,
+-- How the code finds the number at place i of such a list, of which no promise of a public function speaks: the row that the place belongs to, or row 0 where it belongs to none,
 unfoldable pub pairOf : ℕ → ℕ
 pairOf i = pick (ltb i (pairsLong mostRows)) (i / 2) 0
 

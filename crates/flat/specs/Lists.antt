@@ -47,7 +47,7 @@ sheetCell h i =
 abbrev pub sheetLong : ℕ → ℕ
 sheetLong n = n * 4 + 2
 
--- How the code finds the number at place i: the row that the place belongs to, or row 0 where it belongs to none,
+-- How the code finds the number at place i, of which no promise of a public function speaks: the row that the place belongs to, or row 0 where it belongs to none,
 unfoldable pub rowOf : ℕ → ℕ
 rowOf i = pick (ltb i 2) 0 (pick (leb (sheetLong mostRows) i) 0 ((i - 2) / 4))
 

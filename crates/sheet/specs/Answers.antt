@@ -71,7 +71,7 @@ noParts = replicate mostRows nowhere
 unfoldable pub labelsIn : List ℕ → List Part
 labelsIn s = upto mostRows (labelIn s) noParts
 
--- The same, where what stands before the rows was read: x is what the rows on m processors from here on are read as.
+-- The same for the code inside, where what stands before the rows was read: x is what the rows on m processors from here on are read as.
 unfoldable pub partsAfter : ℕ → Step Held → List ℕ → ℕ → List Part
 partsAfter m x s at = upto mostRows (λ i. pick (ltb i (rowsRead x)) (partAfter (labelFrom m i s at)) nowhere) noParts
 
