@@ -32,7 +32,8 @@ use Rattle.machine.specs.declared.state.State.{State}
 use Rattle.machine.proofs.Checked.{needed-holds}
 use Rattle.machine.proofs.Legals.{legal-state-is}
 use Rattle.flat.specs.Lists.{numberAt, filled, sheetIn, sheetLong}
-use Rattle.exports.specs.Lists.{recordIn, spareAt, spareIsZero, stateIn, stateCell, pairsLong}
+use Rattle.exports.specs.Lists.{spareAt, pairsLong}
+use Rattle.machine.specs.Lists.{zeroFrom, recordIn, spareIsZero, stateIn, stateCell}
 use Rattle.exports.specs.Answers.{told, roomFor, fieldsIn, readIn}
 use Rattle.flat.proofs.Filling.{filled-read}
 use Rattle.flat.proofs.Back.{sheet-comes-back}
@@ -78,7 +79,7 @@ module _ (t : State) (n : ℕ) (l : List ℕ) (long : length (t .rows) ≡ mostR
       (sym (number-back (k * 2) ∙ cell-first t k)) (sym (number-back (k * 2 + 1) ∙ cell-second t k))
 
   spare-back : spareIsZero (filled (stateCell t) l) ≡ true
-  unfolding spareIsZero
+  unfolding zeroFrom
   spare-back =
       all-true (length (filled (stateCell t) l)) (spareAt (filled (stateCell t) l))
       (λ i b. sym (⊎-elim (λ m. spare-room (filled (stateCell t) l) i m)

@@ -1,7 +1,7 @@
 -- What each call of the machine answers, from the answers of what it calls.
 -- Assumes nothing.
 use Prim.Native.Nat.{ℕ, _*_, _≤_, _<_}
-use mathlib.Core.Path.{_≡_, sym, ap, ap₂, _∙_}
+use mathlib.Core.Path.{_≡_, refl, sym, ap, ap₂, _∙_}
 use mathlib.Core.Bool.{true}
 use mathlib.Core.List.{List}
 use lib.ListN.{length}
@@ -14,21 +14,21 @@ use mir.Val.{Fits, SFits, toZ, ofZ}
 use mir.ValLaws.{toZ-ofZ}
 use Rattle.basis.specs.Limits.{mostRows}
 use Rattle.basis.specs.Refusals.{Outcome, accepted, refused, outcome}
+use Rattle.basis.specs.declared.refusal.Refusal.{Refusal}
 use Rattle.basis.specs.declared.refusal.Refusal.the-variants.{Accepted, Refused}
 use Rattle.sheet.specs.Legal.{legal}
 use Rattle.sheet.specs.declared.row.Sheet.{Sheet}
 use Rattle.sheet.proofs.Legality.{legal-is}
 use Rattle.machine.specs.declared.state.State.{State}
 use Rattle.machine.specs.declared.start.Started.{Started}
-use Rattle.machine.specs.declared.slots.Slotted.{Slotted}
-use Rattle.machine.specs.declared.runs.Ran.{Ran}
+use Rattle.machine.specs.declared.places.Done.{Done}
 use Rattle.machine.specs.declared.margins.Margin.{Margin}
 use Rattle.machine.specs.declared.margins.Margin.the-variants as margin-variants
 use Rattle.machine.specs.Answers.{started, fresh, slotted, slot, Course, ran, run, Told, margin}
 use Rattle.machine.specs.Answers as machine-answers
 use Rattle.machine.proofs.Checked.{needed-holds}
 use Rattle.flat.specs.Lists.{filled, sheetIn}
-use Rattle.exports.specs.Lists.{stateIn, stateCell}
+use Rattle.machine.specs.Lists.{stateIn, stateCell, slotListed, slotIn, ranIn, runIn}
 use Rattle.exports.specs.Answers.{told, stateGiven, freshIn, slotGiven, slotOn, runGiven, runOn, marginGiven, marginIn}
 
 -- `giachimu_fresh`
@@ -59,41 +59,28 @@ module _ (s list : List ℕ) (h : Sheet) (eh : h ≡ sheetIn s) (r : Started) (e
   fresh-written after f l w e = rw (e, w, ← fresh-given, f, le-leb (h .count * 2) (length list) l)
 
 -- `giachimu_slot`
-module _ (s list rel cs : List ℕ) (t : State) (et : t ≡ stateIn list)
-    (r : Slotted) (ds : List ℕ) (er : slotted r ds ≡ slot (sheetIn s) t rel cs) (v p : ℕ) where
-  slot-given : slotGiven (slotted r ds) list ≡ slotOn s list rel cs
-  unfolding slotOn
-  slot-given = ap (λ (x : Outcome × (State × List ℕ)). slotGiven x list) er ∙ ap (λ (u : State). slotGiven (slot (sheetIn s) u rel cs) list) et
+slot-told : (x : Outcome × (State × List ℕ)) (list : List ℕ) → slotGiven x list ≡ (told (slotListed x list .0), slotListed x list .1)
+unfolding slotGiven
+slot-told (o, (t, cs)) list = refl
 
-  pub slot-refused : (a b : ℕ) → r .refusal ≡ Refused a b → (v, p) ≡ told (refused a b) → ((v, p), (list, ds)) ≡ slotOn s list rel cs
-  unfolding slotGiven
-  slot-refused a b f e = rw (e, ← slot-given, f)
-
-  pub slot-written : (after : List ℕ) → r .refusal ≡ Accepted → after ≡ filled (stateCell (r .state)) list → (v, p) ≡ told accepted → ((v, p), (after, ds)) ≡ slotOn s list rel cs
-  unfolding slotGiven
-  slot-written after f w e = rw (e, w, ← slot-given, f)
+pub slot-answered : (s list rel cs : List ℕ) (r : Refusal) (after ds : List ℕ) → (outcome r, (after, ds)) ≡ slotIn (sheetIn s) list rel cs → (v p : ℕ) → (v, p) ≡ told (outcome r)
+    → ((v, p), (after, ds)) ≡ slotOn s list rel cs
+unfolding slotOn slotIn
+slot-answered s list rel cs r after ds er v p e =
+    ap (λ (x : ℕ × ℕ). (x, (after, ds))) e ∙ ap (λ (x : Outcome × (List ℕ × List ℕ)). (told (x .0), x .1)) er ∙ sym (slot-told (slot (sheetIn s) (stateIn list) rel cs) list)
 
 -- `giachimu_run`
-module _ (s list rel cs : List ℕ) (t : State) (et : t ≡ stateIn list)
-    (r : Ran) (ds : List ℕ) (er : ran r ds ≡ run (sheetIn s) t rel cs) (v p : ℕ) (e : (v, p) ≡ told (outcome (r .refusal))) where
-  run-given : runGiven (ran r ds) list ≡ runOn s list rel cs
-  unfolding runOn
-  run-given = ap (λ (x : Course). runGiven x list) er ∙ ap (λ (u : State). runGiven (run (sheetIn s) u rel cs) list) et
-
-  pub run-none : r .done ≡ 0 → ((v, p), (r .done, (list, ds))) ≡ runOn s list rel cs
-  unfolding runGiven
-  run-none z = rw (e, ← run-given, eq-eqb (r .done) 0 z)
-
-  pub run-written : (after : List ℕ) → (r .done ≡ 0 → ⊥) → after ≡ filled (stateCell (r .state)) list → ((v, p), (r .done, (after, ds))) ≡ runOn s list rel cs
-  unfolding runGiven
-  run-written after d w = rw (e, w, ← run-given, ne-eqb (r .done) 0 d)
+pub run-answered : (s list rel cs : List ℕ) (r : Done) (after ds : List ℕ) → (ranIn r, (after, ds)) ≡ runIn (sheetIn s) list rel cs → (v p : ℕ) → (v, p) ≡ told (outcome (r .refusal))
+    → ((v, p), (r .done, (after, ds))) ≡ runOn s list rel cs
+unfolding runOn runIn runGiven
+run-answered s list rel cs r after ds er v p e =
+    ap (λ (x : ℕ × ℕ). (x, (r .done, (after, ds)))) e ∙ ap (λ (x : (ℕ × Outcome) × (List ℕ × List ℕ)). (told (x .0 .1), (x .0 .0, x .1))) er
 
 -- `giachimu_margin`
-module _ (s list : List ℕ) (row : ℕ) (h : Sheet) (eh : h ≡ sheetIn s) (t : State) (et : t ≡ stateIn list)
-    (r : Margin) (er : machine-answers.told r ≡ margin h t row) (v p job : ℕ) (z : ℤ) where
+module _ (s list : List ℕ) (row : ℕ) (r : Margin) (er : machine-answers.told r ≡ margin (sheetIn s) (stateIn list) row) (v p job : ℕ) (z : ℤ) where
   margin-given : marginGiven (machine-answers.told r) (job, z) ≡ marginIn s list row (job, z)
   unfolding marginIn
-  margin-given = ap (λ (x : Told). marginGiven x (job, z)) er ∙ ap₂ (λ (g : Sheet) (u : State). marginGiven (margin g u row) (job, z)) eh et
+  margin-given = ap (λ (x : Told). marginGiven x (job, z)) er
 
   pub margin-refused : (a b : ℕ) → r ≡ margin-variants.Refused a b → (v, p) ≡ told (refused a b) → ((v, p), (job, z)) ≡ marginIn s list row (job, z)
   unfolding marginGiven

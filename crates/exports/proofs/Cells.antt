@@ -20,7 +20,8 @@ use Rattle.bound.specs.Bound.{unreached, wordIn}
 use Rattle.bound.specs.declared.results.Judged.{Judged}
 use Rattle.bound.specs.declared.results.Result.the-variants.{Unreached}
 use Rattle.flat.proofs.Filling.{fill-more}
-use Rattle.exports.specs.Lists.{stateCell, resultCell, pairsLong, wordNumber, boundNumber, pairOf, pairCell}
+use Rattle.exports.specs.Lists.{resultCell, pairsLong, wordNumber, boundNumber, pairOf, pairCell}
+use Rattle.machine.specs.Lists.{stateCell}
 
 -- the row of a place is one that there is room for
 pub pair-there : (i r : ℕ) → r ≡ pairOf i → r < mostRows

@@ -16,7 +16,8 @@ use Rattle.machine.specs.declared.state.State.{State}
 use Rattle.machine.proofs.Done.{Ends, all-done, stopped-at, run-ends, run-not-begun}
 use Rattle.dashboard.specs.Texts.{verdictText}
 use Rattle.flat.specs.Lists.{sheetIn, sheetLong}
-use Rattle.exports.specs.Lists.{stateIn, pairsLong}
+use Rattle.exports.specs.Lists.{pairsLong}
+use Rattle.machine.specs.Lists.{stateIn}
 use Rattle.exports.specs.Answers.{told, roomFor, verdictIn, fieldsIn, readIn, labelOutcome, labelAnswer, resultsIn, boundsIn, stateGiven, freshIn, slotGiven, slotOn, runGiven, runOn, marginGiven, marginIn}
 
 -- what is handed over where a number other than 0 is told

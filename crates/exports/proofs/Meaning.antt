@@ -20,7 +20,8 @@ use Rattle.machine.specs.States.{recordAt, isZero, legalState}
 use Rattle.machine.specs.declared.state.RowState.{RowState}
 use Rattle.machine.proofs.Legals.{legal-state-is}
 use Rattle.flat.specs.Lists.{numberAt, rowIn, sheetIn, sheetLong}
-use Rattle.exports.specs.Lists.{recordIn, spareAt, spareIsZero, stateIn, pairsLong}
+use Rattle.exports.specs.Lists.{spareAt, pairsLong}
+use Rattle.machine.specs.Lists.{zeroFrom, recordIn, spareIsZero, stateIn}
 use Rattle.flat.proofs.Handed.{row-in-sheet}
 use Rattle.exports.proofs.Records.{spare-other, record-in-state, record-of-none}
 
@@ -91,7 +92,7 @@ module _ (h : Sheet) (l : List ℕ) (fine : legal h ≡ true) where
 
   -- A state's list with a number other than zero past the records of the sheet's rows is refused.
   pub numbers-past-records-are-refused : (i : ℕ) → pairsLong (h .count) ≤ i → (numberAt l i ≡ 0 → ⊥) → legalState h (stateIn l) ≡ false
-  unfolding spareIsZero
+  unfolding zeroFrom
   numbers-past-records-are-refused i b d = ⊎-elim near far (lt-or-le i (mostRows * 2))
     where
       inside : i < length l

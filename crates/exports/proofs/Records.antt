@@ -18,7 +18,8 @@ use Rattle.machine.specs.States.{noRecord, noState, stateOf, recordAt}
 use Rattle.machine.specs.declared.state.RowState.{RowState}
 use Rattle.machine.specs.declared.state.State.{State}
 use Rattle.flat.specs.Lists.{numberAt}
-use Rattle.exports.specs.Lists.{recordIn, spareAt, spareIsZero, stateIn, stateCell}
+use Rattle.exports.specs.Lists.{spareAt}
+use Rattle.machine.specs.Lists.{zeroAt, zeroFrom, recordIn, spareIsZero, stateIn, stateCell}
 
 -- `record_in`
 pub record-read : (l : List ℕ) (k a b : ℕ) → a ≡ numberAt l (k * 2) → b ≡ numberAt l (k * 2 + 1) → record { remaining = a; since = b } ≡ recordIn l k
@@ -27,48 +28,23 @@ record-read l k a b ea eb = λ i. record { remaining = ea i; since = eb i }
 
 -- `spare_at`
 pub spare-room : (l : List ℕ) (i : ℕ) → i < mostRows * 2 → true ≡ spareAt l i
-unfolding spareAt
+unfolding zeroAt
 spare-room l i h = rw (lt-ltb i (mostRows * 2) h)
 
 module _ (l : List ℕ) (i : ℕ) (past : mostRows * 2 ≤ i) (n : ℕ) (e : n ≡ numberAt l i) where
   pub spare-other : (n ≡ 0 → ⊥) → false ≡ spareAt l i
-  unfolding spareAt
+  unfolding zeroAt
   spare-other d = rw (le-ltb i (mostRows * 2) past, sym e, ne-eqb n 0 d)
 
   pub spare-zero : n ≡ 0 → true ≡ spareAt l i
-  unfolding spareAt
+  unfolding zeroAt
   spare-zero z = rw (le-ltb i (mostRows * 2) past, sym e, eq-eqb n 0 z)
-
--- `spare_is_zero`
-module _ (l : List ℕ) (i : ℕ) (so-far : true ≡ allOf i (spareAt l)) where
-  pub spare-more : (b : Bool) → b ≡ spareAt l i → b ≡ true → true ≡ allOf (i + 1) (spareAt l)
-  spare-more b eb e = sym (all-one-more i (spareAt l) ∙ rw (sym so-far) (sym eb ∙ e))
-
-  pub spare-fails : (b : Bool) → i < length l → b ≡ spareAt l i → b ≡ false → false ≡ spareIsZero l
-  unfolding spareIsZero
-  spare-fails b h eb e = sym (all-fails (length l) (spareAt l) i h (sym eb ∙ e))
-
-  pub spare-done : i ≤ length l → length l ≤ i → true ≡ spareIsZero l
-  unfolding spareIsZero
-  spare-done a b = let e : i ≡ length l = omega arith in rw e at so-far
-
--- `records_in`
-module _ (l : List ℕ) (t₀ t : State) (i : ℕ) (so-far : t .rows ≡ upto i (recordIn l) (t₀ .rows)) where
-  pub records-more : (s : RowState) → s ≡ recordIn l i → set (t .rows) i s ≡ upto (i + 1) (recordIn l) (t₀ .rows)
-  records-more s e = upto-set i (recordIn l) (t .rows) (t₀ .rows) s so-far e
-
-  pub records-done : t₀ ≡ noState → i ≤ mostRows → mostRows ≤ i → t ≡ stateOf (upto mostRows (recordIn l) (noState .rows))
-  records-done z a b = let e : i ≡ mostRows = omega arith in ap stateOf (rw (e, z) at so-far)
 
 -- `state_in`
 module _ (l : List ℕ) (fine : Bool) (e : fine ≡ spareIsZero l) where
   pub state-read : (t : State) → fine ≡ true → t ≡ stateOf (upto mostRows (recordIn l) (noState .rows)) → t ≡ stateIn l
   unfolding stateIn
   state-read t y f = rw (sym e ∙ y) f
-
-  pub state-not-read : (t : State) → fine ≡ false → t ≡ noState → t ≡ stateIn l
-  unfolding stateIn
-  state-not-read t y f = rw (sym e ∙ y) f
 
 -- `state_cell`
 module _ (t : State) (i : ℕ) where

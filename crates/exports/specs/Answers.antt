@@ -15,7 +15,8 @@ use Rattle.machine.specs.declared.state.State.{State}
 use Rattle.dashboard.specs.Pages.{Page, written}
 use Rattle.dashboard.specs.Texts.{verdictText}
 use Rattle.flat.specs.Lists.{filled, sheetIn, sheetCell, sheetLong}
-use Rattle.exports.specs.Lists.{stateIn, stateCell, pairsLong, resultCell, flag}
+use Rattle.exports.specs.Lists.{pairsLong, resultCell, flag}
+use Rattle.machine.specs.Lists.{stateIn, stateCell}
 
 -- A refusal's number and place; zeros where nothing is refused.
 abbrev pub told : Outcome → ℕ × ℕ

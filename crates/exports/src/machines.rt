@@ -2,7 +2,6 @@
 ghost use mathlib.Core.Path.{_≡_};
 ghost use Rattle.exports.specs.Answers.{freshIn, slotOn, runOn, marginIn};
 use crate::states::put_state;
-use crate::states::state_in;
 use crate::telling::tell;
 use basis::Refusal;
 use flat::sheet_in;
@@ -40,17 +39,8 @@ pub extern "C" fn giachimu_slot(
 ) -> u64
     ensures { λ r. ⌜ ((r, now (place .exit)), (now (list .exit), now (codes .exit))) ≡ slotOn (now (sheet .entry)) (now (list .entry)) (now (releases .entry)) (now (codes .entry)) ⌝ }
 {
-    let state = state_in(list);
-    let slotted = state.slot_on(sheet, releases, codes);
-    let refusal = slotted.refusal;
-    let after = slotted.state;
-    match refusal {
-        Refusal::Refused(number, row) => tell(Refusal::Refused(number, row), place),
-        Refusal::Accepted => {
-            put_state(list, after);
-            tell(Refusal::Accepted, place)
-        }
-    }
+    let refusal = machine::slot_on(sheet, list, releases, codes);
+    tell(refusal, place)
 }
 
 // A run of slots: the slots done, the state in the list after them, and their codes.
@@ -65,16 +55,9 @@ pub extern "C" fn giachimu_run(
 ) -> u64
     ensures { λ r. ⌜ ((r, now (place .exit)), (now (done .exit), (now (list .exit), now (codes .exit)))) ≡ runOn (now (sheet .entry)) (now (list .entry)) (now (releases .entry)) (now (codes .entry)) ⌝ }
 {
-    let state = state_in(list);
-    let ran = state.run_on(sheet, releases, codes);
+    let ran = machine::run_on(sheet, list, releases, codes);
     let refusal = ran.refusal;
-    let slots = ran.done;
-    *done = slots;
-    if slots == 0 {
-        return tell(refusal, place);
-    }
-    let after = ran.state;
-    put_state(list, after);
+    *done = ran.done;
     tell(refusal, place)
 }
 
@@ -90,9 +73,7 @@ pub extern "C" fn giachimu_margin(
 ) -> u64
     ensures { λ r. ⌜ ((r, now (place .exit)), (now (job .exit), now (margin .exit))) ≡ marginIn (now (sheet .entry)) (now (list .entry)) row (now (job .entry), now (margin .entry)) ⌝ }
 {
-    let given = sheet_in(sheet);
-    let state = state_in(list);
-    let told = state.margin(given, row);
+    let told = machine::margin_on(sheet, list, row);
     match told {
         Margin::Refused(number, at) => tell(Refusal::Refused(number, at), place),
         Margin::NoJob => {

@@ -2,5 +2,6 @@ pub mod Back
 pub mod Cells
 pub mod Filling
 pub mod Handed
+pub mod Legality
 pub mod Places
 pub mod Same

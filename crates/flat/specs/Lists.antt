@@ -1,12 +1,13 @@
 -- A sheet as a list of plain numbers.
 use Prim.Native.Nat.{ℕ, _+_, _-_, _*_, _/_, _%_}
+use mathlib.Core.Bool.{Bool}
 use mathlib.Core.List.{List}
 use lib.ListN.{length, getD}
 use lib.Dec.{ltb, leb, eqb}
 use Rattle.basis.specs.Limits.{mostRows}
 use Rattle.basis.specs.Words.{pick}
 use Rattle.basis.specs.Upto.{upto}
-use Rattle.sheet.specs.Legal.{rowAt}
+use Rattle.sheet.specs.Legal.{rowAt, legalRow}
 use Rattle.sheet.specs.Answers.{noRows}
 use Rattle.sheet.specs.declared.row.Row.{Row}
 use Rattle.sheet.specs.declared.row.Sheet.{Sheet}
@@ -55,3 +56,7 @@ rowOf i = pick (ltb i 2) 0 (pick (leb (sheetLong mostRows) i) 0 ((i - 2) / 4))
 unfoldable pub cellBy : ℕ → ℕ → Row → ℕ → ℕ
 cellBy m n row i =
     pick (eqb i 0) m (pick (eqb i 1) n (pick (leb (sheetLong mostRows) i) 0 (rowCell row ((i - 2) % 4))))
+
+-- Row i of a sheet is in the ranges on m processors, as the check of a list's rows finds it.
+unfoldable pub legalRows : ℕ → Sheet → ℕ → Bool
+legalRows m h i = legalRow m (rowAt h i)

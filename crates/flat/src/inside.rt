@@ -1,6 +1,6 @@
 // The parts of the sheet that a list hands over.
 ghost use mathlib.Core.Path.{_≡_};
-ghost use Prim.Native.Nat.{_≤_, _<_};
+ghost use Prim.Native.Nat.{_+_, _≤_, _<_};
 ghost use lib.ListN.{length};
 ghost use Rattle.basis.specs.Limits.{mostRows};
 ghost use Rattle.sheet.specs.Legal.{rowAt};
@@ -22,9 +22,9 @@ pub fn count(list: &[u64]) -> u64
     number_at(list, 1)
 }
 
-// Its row k, where the list has room for every row, read without a look at its end.
-pub(crate) fn row_inside(list: &[u64], k: usize) -> Row
-    requires { ⌜ (k < mostRows) × (sheetLong mostRows ≤ length (now list)) ⌝ }
+// Its row k, where the list has room for it, read without a look at its end.
+pub fn row_inside(list: &[u64], k: usize) -> Row
+    requires { ⌜ (k < mostRows) × (sheetLong (k + 1) ≤ length (now list)) ⌝ }
     ensures { λ r. ⌜ r ≡ rowAt (sheetIn (now (list .entry))) k ⌝ }
 {
     Row {

@@ -9,6 +9,7 @@ pub mod Courses
 pub mod Deadlines
 pub mod Differences
 pub mod Done
+pub mod Held
 pub mod Jobs
 pub mod Kept
 pub mod Laws
@@ -16,10 +17,12 @@ pub mod Legals
 pub mod Lending
 pub mod Listed
 pub mod Lists
+pub mod Moves
 pub mod Placement
 pub mod Ranges
 pub mod Records
 pub mod Same
+pub mod Stored
 pub mod Told
 pub mod Turns
 pub mod Whole

@@ -1,15 +1,25 @@
 -- A sheet that is put into a list, and what is answered of the sheet in a list.
 -- Assumes nothing.
-use Prim.Native.Nat.{ℕ, _≤_}
-use mathlib.Core.Path.{_≡_, ap, _∙_}
+use Prim.Native.Nat.{ℕ, _+_, _≤_}
+use mathlib.Core.Path.{_≡_, refl, sym, ap, ap₂, _∙_}
 use mathlib.Core.List.{List}
-use lib.ListN.{length}
+use lib.ListN.{length, set, replicate}
+use lib.Seq.{ext-getD}
+use native.Mathlib.Omega.{arith}
+use native.Mathlib.Nat.{le-refl}
 use Rattle.basis.specs.Limits.{mostRows}
-use Rattle.basis.specs.Refusals.{Outcome}
+use Rattle.basis.specs.Refusals.{Outcome, outcome}
+use Rattle.basis.specs.Upto.{upto}
+use Rattle.basis.proofs.Upto.{upto-set, upto-below, length-upto}
 use Rattle.sheet.specs.declared.row.Sheet.{Sheet}
 use Rattle.flat.specs.Lists.{filled, sheetIn, sheetCell, sheetLong}
 use Rattle.flat.proofs.Back.{whole-sheet-comes-back}
+use Rattle.machine.specs.declared.state.RowState.{RowState}
 use Rattle.machine.specs.declared.state.State.{State}
+use Rattle.machine.specs.declared.places.Done.{Done}
+use Rattle.machine.specs.States.{noRecord, noState, stateOf, recordAt}
+use Rattle.machine.specs.Lists.{recordIn, stateLong, stateIn, putRecord, putTo, courseIn}
+use Rattle.machine.proofs.Stored.{put-more, state-put, spare-of-full, state-rows-long}
 use Rattle.machine.specs.Checks.{checkRun}
 use Rattle.machine.specs.Answers.{slot, Course, run, Told, margin}
 
@@ -17,16 +27,42 @@ use Rattle.machine.specs.Answers.{slot, Course, run, Told, margin}
 pub sheet-in-list : (h : Sheet) (l l₀ : List ℕ) → l ≡ filled (sheetCell h) l₀ → length (h .rows) ≡ mostRows → sheetLong mostRows ≤ length l₀ → sheetIn l ≡ h
 sheet-in-list h l l₀ e long room = ap sheetIn e ∙ whole-sheet-comes-back h l₀ long room
 
--- each call on a sheet, by its call on the sheet's list
-module _ (h : Sheet) (l : List ℕ) (e : sheetIn l ≡ h) (t : State) where
-  pub slot-by-list : (rel cs : List ℕ) (x : Outcome × (State × List ℕ)) → x ≡ slot (sheetIn l) t rel cs → x ≡ slot h t rel cs
-  slot-by-list rel cs x f = f ∙ ap (λ (g : Sheet). slot g t rel cs) e
+-- each call by value, by its call on lists
+module _ (h : Sheet) (s l : List ℕ) (eh : sheetIn s ≡ h) (t : State) (et : stateIn l ≡ t) where
+  pub slot-by-list : (rel cs : List ℕ) (o : Outcome) (l′ ds : List ℕ) → (o, (stateIn l′, ds)) ≡ slot (sheetIn s) (stateIn l) rel cs → (u : State) → u ≡ stateIn l′ → (o, (u, ds)) ≡ slot h t rel cs
+  slot-by-list rel cs o l′ ds f u eu = ap (λ (x : State). (o, (x, ds))) eu ∙ f ∙ ap₂ (λ (g : Sheet) (x : State). slot g x rel cs) eh et
 
-  pub run-by-list : (rel cs : List ℕ) (x : Course) → x ≡ run (sheetIn l) t rel cs → x ≡ run h t rel cs
-  run-by-list rel cs x f = f ∙ ap (λ (g : Sheet). run g t rel cs) e
+  pub run-by-list : (rel cs : List ℕ) (r : Done) (l′ ds : List ℕ) → courseIn r (stateIn l′) ds ≡ run (sheetIn s) (stateIn l) rel cs → (u : State) → u ≡ stateIn l′
+      → _≡_ {A = Course} (record { done = r .done; outcome = outcome (r .refusal); state = u; codes = ds }) (run h t rel cs)
+  run-by-list rel cs r l′ ds f u eu = ap (λ (x : State). courseIn r x ds) eu ∙ f ∙ ap₂ (λ (g : Sheet) (x : State). run g x rel cs) eh et
 
-  pub margin-by-list : (k : ℕ) (x : Told) → x ≡ margin (sheetIn l) t k → x ≡ margin h t k
-  margin-by-list k x f = f ∙ ap (λ (g : Sheet). margin g t k) e
+  pub margin-by-list : (k : ℕ) (x : Told) → x ≡ margin (sheetIn s) (stateIn l) k → x ≡ margin h t k
+  margin-by-list k x f = f ∙ ap₂ (λ (g : Sheet) (y : State). margin g y k) eh et
 
-  pub check-by-list : (rel : List ℕ) (room : ℕ) (x : Outcome) → x ≡ checkRun (sheetIn l) t rel room → x ≡ checkRun h t rel room
-  check-by-list rel room x f = f ∙ ap (λ (g : Sheet). checkRun g t rel room) e
+  pub check-by-list : (rel : List ℕ) (room : ℕ) (x : Outcome) → x ≡ checkRun (sheetIn s) (stateIn l) rel room → x ≡ checkRun h t rel room
+  check-by-list rel room x f = f ∙ ap₂ (λ (g : Sheet) (y : State). checkRun g y rel room) eh et
+
+-- `state_list`
+pub state-in-list : (t : State) (l l₀ : List ℕ) (i : ℕ) → i ≤ mostRows → mostRows ≤ i → l ≡ putTo i (recordAt t) l₀ → l₀ ≡ replicate (stateLong mostRows) 0 → length (t .rows) ≡ mostRows → stateIn l ≡ t
+state-in-list t l l₀ i a b e z long =
+    let q : i ≡ mostRows = omega arith in
+    let whole : stateIn l ≡ stateOf (upto mostRows (recordAt t) (stateIn (replicate (stateLong mostRows) 0) .rows)) =
+    ap stateIn (e ∙ ap₂ (λ (k : ℕ) (x : List ℕ). putTo k (recordAt t) x) q z)
+    ∙ state-put mostRows (recordAt t) (replicate (stateLong mostRows) 0) (spare-of-full (replicate (stateLong mostRows) 0) refl) (le-refl mostRows) (le-refl (stateLong mostRows)) in
+    let rows : length (stateIn (replicate (stateLong mostRows) 0) .rows) ≡ mostRows = state-rows-long (replicate (stateLong mostRows) 0) (spare-of-full (replicate (stateLong mostRows) 0) refl) in
+    whole ∙ ap stateOf (ext-getD noRecord (upto mostRows (recordAt t) (stateIn (replicate (stateLong mostRows) 0) .rows)) (t .rows)
+    (length-upto mostRows (recordAt t) (stateIn (replicate (stateLong mostRows) 0) .rows) ∙ rows ∙ sym long)
+    (λ k m. upto-below mostRows (recordAt t) (stateIn (replicate (stateLong mostRows) 0) .rows) noRecord k
+    (omega (arith, m, length-upto mostRows (recordAt t) (stateIn (replicate (stateLong mostRows) 0) .rows), rows)) (omega (arith, rows))))
+
+pub list-more : (t : State) (l l₀ l′ : List ℕ) (i : ℕ) → l ≡ putTo i (recordAt t) l₀ → l′ ≡ putRecord l i (recordAt t i) → l′ ≡ putTo (i + 1) (recordAt t) l₀
+list-more t l l₀ l′ i e f = f ∙ put-more i (recordAt t) l l₀ (recordAt t i) e refl
+
+-- `state_of`
+module _ (l : List ℕ) (t₀ t : State) (i : ℕ) (so-far : t .rows ≡ upto i (recordIn l) (t₀ .rows)) where
+  pub records-more : (s : RowState) → s ≡ recordIn l i → set (t .rows) i s ≡ upto (i + 1) (recordIn l) (t₀ .rows)
+  records-more s e = upto-set i (recordIn l) (t .rows) (t₀ .rows) s so-far e
+
+  pub records-done : t₀ ≡ noState → i ≤ mostRows → mostRows ≤ i → length l ≡ stateLong mostRows → t ≡ stateIn l
+  unfolding stateIn
+  records-done z a b long = let e : i ≡ mostRows = omega arith in rw (spare-of-full l long) (ap stateOf (rw (e, z) at so-far))

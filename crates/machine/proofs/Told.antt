@@ -1,7 +1,10 @@
 -- What is told of a margin, from the answers of what `margin` calls.
 -- Assumes nothing.
 use Prim.Native.Nat.{ℕ, _+_, _*_, _≤_, _<_}
-use mathlib.Core.Path.{_≡_, sym, ap, _∙_}
+use mathlib.Core.Path.{_≡_, refl, sym, ap, _∙_}
+use mathlib.Core.Bool.{true}
+use mathlib.Core.List.{List}
+use lib.ListN.{length}
 use lib.IntN.{_-ℤ_}
 use native.Mathlib.Omega.{arith}
 use native.Mathlib.Nat.{mul-le-mul}
@@ -14,15 +17,19 @@ use Rattle.basis.specs.Refusals.{accepted, outcome}
 use Rattle.basis.specs.declared.refusal.Refusal.{Refusal}
 use Rattle.basis.specs.declared.refusal.Refusal.the-variants.{Accepted, Refused}
 use Rattle.basis.proofs.First.{both-accepted}
-use Rattle.sheet.specs.Legal.{rowAt, LegalRow}
+use Rattle.sheet.specs.Legal.{rowAt, legal, LegalRow}
 use Rattle.sheet.specs.declared.row.Row.{Row}
 use Rattle.sheet.specs.declared.row.Sheet.{Sheet}
 use Rattle.sheet.proofs.Legality.{legal-is}
 use Rattle.machine.specs.declared.state.RowState.{RowState}
 use Rattle.machine.specs.declared.state.State.{State}
-use Rattle.machine.specs.States.{recordAt}
+use Rattle.machine.specs.States.{recordAt, legalState}
 use Rattle.machine.specs.Checks.{checkState, checkMargin}
 use Rattle.machine.specs.Answers.{Told, no-job, margin-is, refused-by, marginOf, marginAt, margin}
+use Rattle.machine.specs.Lists.{recordIn, stateLong, stateIn}
+use Rattle.flat.specs.Lists.{sheetIn, sheetLong}
+use Rattle.flat.proofs.Legality.{legal-sheet-long}
+use Rattle.machine.proofs.Held.{kept-long, kept-record}
 use Rattle.machine.proofs.Checked.{needed-holds, ready}
 use Rattle.machine.proofs.Differences.{themselves, difference-fits, less-twice}
 use Rattle.machine.proofs.Legals.{LegalRecord, legal-state-is}
@@ -80,3 +87,30 @@ module _ (h : Sheet) (t : State) (k : ℕ) (c : Refusal) (e : outcome c ≡ chec
     pub margin-is-told : (row : Row) → row ≡ rowAt h k → (a : Told) → a ≡ marginAt row (recordAt t k) → a ≡ margin h t k
     unfolding margin
     margin-is-told row er a g = rw (sym e ∙ ap outcome f) (g ∙ ap (λ (r : Row). marginAt r (recordAt t k)) er)
+
+-- `margin_on`: the record of the row stands in the list
+module _ (s l : List ℕ) (k : ℕ) (c : Refusal) (e : outcome c ≡ checkMargin (sheetIn s) (stateIn l) k) (f : c ≡ Accepted) where
+  sheet-fine : legal (sheetIn s) ≡ true
+  sheet-fine = ready (sheetIn s) (stateIn l) (both-checked (sheetIn s) (stateIn l) k c e f .0) .sheet-legal
+
+  state-fine : legalState (sheetIn s) (stateIn l) ≡ true
+  state-fine = ready (sheetIn s) (stateIn l) (both-checked (sheetIn s) (stateIn l) k c e f .0) .state-legal
+
+  pub margin-row-there : sheetLong (k + 1) ≤ length s
+  margin-row-there = omega (arith, legal-sheet-long s (sheetIn s .count) sheet-fine refl, both-checked (sheetIn s) (stateIn l) k c e f .1)
+
+  pub margin-record-there : stateLong (k + 1) ≤ length l
+  margin-record-there = omega (arith, kept-long (sheetIn s) l sheet-fine state-fine (sheetIn s .count) refl, both-checked (sheetIn s) (stateIn l) k c e f .1)
+
+  module _ (x : RowState) (ex : x ≡ recordIn l k) where
+    is-record : x ≡ recordAt (stateIn l) k
+    is-record = ex ∙ kept-record (sheetIn s) l sheet-fine state-fine k (both-checked (sheetIn s) (stateIn l) k c e f .1)
+
+    pub listed-since : x .since ≤ mostSeparation
+    listed-since = rw is-record (small-since (sheetIn s) (stateIn l) k c e f)
+
+    pub listed-remaining : x .remaining ≤ mostSeparation
+    listed-remaining = rw is-record (small-remaining (sheetIn s) (stateIn l) k c e f)
+
+    pub listed-margin : (row : Row) → row ≡ rowAt (sheetIn s) k → (a : Told) → a ≡ marginAt row x → a ≡ margin (sheetIn s) (stateIn l) k
+    listed-margin row er a g = margin-is-told (sheetIn s) (stateIn l) k c e f row er a (g ∙ ap (marginAt row) is-record)

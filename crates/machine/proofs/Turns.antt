@@ -24,24 +24,6 @@ use Rattle.machine.specs.declared.state.State.{State}
 use Rattle.machine.specs.States.{noState, stateOf, recordAt, freshAt, freshState, legalRecord, isZero, legalAt, legalState}
 use Rattle.machine.specs.Checks.{checkRow, checkAt, checkReleases}
 
--- `is_legal`
-module _ (h : Sheet) (t : State) (i : ℕ) (so-far : true ≡ allOf i (legalAt h t)) where
-  module _ (n : ℕ) (en : n ≡ h .count) (row : Row) (er : row ≡ rowAt h i) (b : Bool) (eb : b ≡ pick (ltb i n) (legalRecord row (recordAt t i)) (isZero (recordAt t i))) where
-    legal-here : b ≡ legalAt h t i
-    unfolding legalAt
-    legal-here = eb ∙ ap₂ (λ (m : ℕ) (r : Row). pick (ltb i m) (legalRecord r (recordAt t i)) (isZero (recordAt t i))) en er
-
-    pub legal-more : b ≡ true → true ≡ allOf (i + 1) (legalAt h t)
-    legal-more e = sym (all-one-more i (legalAt h t) ∙ rw (sym so-far) (sym legal-here ∙ e))
-
-    pub legal-fails : i < mostRows → b ≡ false → false ≡ legalState h t
-    unfolding legalState
-    legal-fails l e = sym (all-fails mostRows (legalAt h t) i l (sym legal-here ∙ e))
-
-  pub legal-done : i ≤ mostRows → mostRows ≤ i → true ≡ legalState h t
-  unfolding legalState
-  legal-done a b = let e : i ≡ mostRows = omega arith in rw e at so-far
-
 -- `fresh_state`
 module _ (h : Sheet) (t₀ t : State) (i : ℕ) (so-far : t .rows ≡ upto i (freshAt h) (t₀ .rows)) where
   pub fresh-more : set (t .rows) i (freshAt h i) ≡ upto (i + 1) (freshAt h) (t₀ .rows)
@@ -50,10 +32,6 @@ module _ (h : Sheet) (t₀ t : State) (i : ℕ) (so-far : t .rows ≡ upto i (fr
   pub fresh-done : t₀ ≡ noState → i ≤ h .count → h .count ≤ i → t ≡ freshState h
   unfolding freshState
   fresh-done z a b = let e : i ≡ h .count = omega arith in ap stateOf (rw (e, z) at so-far)
-
--- `check_at`
-pub check-there : (h : Sheet) (s : RowState) (release k : ℕ) (row : Row) → row ≡ rowAt h k → (o : Outcome) → o ≡ checkRow row s release k → o ≡ checkRow (rowAt h k) s release k
-check-there h s release k row er o e = e ∙ ap (λ (r : Row). checkRow r s release k) er
 
 -- `check_releases`
 module _ (h : Sheet) (t : State) (rel : List ℕ) (i : ℕ) (so-far : firstOf i (checkAt h t rel) ≡ accepted) where

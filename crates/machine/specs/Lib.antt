@@ -5,3 +5,4 @@ pub mod Answers
 pub mod Cases
 pub mod Lent
 pub mod Methods
+pub mod Lists

@@ -6,6 +6,8 @@ ghost use Rattle.basis.specs.Refusals.{outcome};
 ghost use Rattle.machine.specs.Checks.{checkRun};
 ghost use Rattle.machine.specs.Answers.{slot, fresh, ran, run};
 ghost use Rattle.machine.specs.Lent.{slottedIn, begun, beginning};
+use crate::inplace::check_run_in;
+use crate::places::state_list;
 use crate::runs::Ran;
 use crate::sheets::listed;
 use crate::start::fresh;
@@ -33,8 +35,9 @@ struct Begun {
 fn check_whole(state: State, sheet: Sheet, releases: &[u64], room: usize) -> Refusal
     ensures { λ r. ⌜ outcome r ≡ checkRun sheet state (now (releases .entry)) room ⌝ }
 {
-    let list = listed(sheet);
-    state.check_run(&list, releases, room)
+    let rows = listed(sheet);
+    let list = state_list(state);
+    check_run_in(&rows, &list, releases, room)
 }
 
 // The checks of a run from the fresh state; where they refuse there is no slot to do.

@@ -1,7 +1,9 @@
 // The slot machine: its state, the fresh state, one slot, a run of slots, and the margin of a row.
 mod checks;
+mod inplace;
 mod lent;
 mod margins;
+mod places;
 mod runs;
 mod sheets;
 mod slots;
@@ -9,9 +11,13 @@ mod start;
 mod state;
 mod steps;
 
+pub use inplace::run_on;
+pub use inplace::slot_on;
 pub use lent::box_run;
 pub use lent::slot_in;
 pub use margins::Margin;
+pub use margins::margin_on;
+pub use places::Done;
 pub use runs::Ran;
 pub use slots::Slotted;
 pub use start::Started;

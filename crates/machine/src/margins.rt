@@ -2,9 +2,16 @@
 ghost use mathlib.Core.Path.{_≡_};
 ghost use Prim.Native.Nat.{_≤_};
 ghost use Rattle.basis.specs.Limits.{mostSeparation};
+ghost use Rattle.basis.specs.Refusals.{outcome};
 ghost use Rattle.flat.specs.Lists.{sheetIn};
+ghost use Rattle.machine.specs.Checks.{checkMargin};
+ghost use Rattle.machine.specs.Lists.{stateIn};
 ghost use Rattle.machine.specs.Answers.{told, marginAt, margin};
+use crate::inplace::check_state_in;
+use crate::places::record_in;
+use crate::places::state_list;
 use crate::sheets::listed;
+use crate::sheets::rows_in;
 use crate::state::RowState;
 use crate::state::State;
 use basis::Refusal;
@@ -37,27 +44,43 @@ fn margin_of(row: Row, s: RowState) -> Margin
     Margin::Is(margin)
 }
 
+// 10, 16, 14.
+fn check_margin_in(sheet: &[u64], list: &[u64], row: usize) -> Refusal
+    ensures { λ r. ⌜ outcome r ≡ checkMargin (sheetIn (now (sheet .entry))) (stateIn (now (list .entry))) row ⌝ }
+{
+    let refusal = check_state_in(sheet, list);
+    if let Refusal::Refused(number, place) = refusal {
+        return Refusal::Refused(number, place);
+    }
+    let n = rows_in(sheet);
+    if n <= row {
+        return Refusal::Refused(14, 0);
+    }
+    Refusal::Accepted
+}
+
+// The margin of a row of the state in a list.
+pub fn margin_on(sheet: &[u64], list: &[u64], row: usize) -> Margin
+    ensures { λ r. ⌜ told r ≡ margin (sheetIn (now (sheet .entry))) (stateIn (now (list .entry))) row ⌝ }
+{
+    let refusal = check_margin_in(sheet, list, row);
+    match refusal {
+        Refusal::Refused(number, place) => Margin::Refused(number, place),
+        Refusal::Accepted => {
+            let numbers = flat::row_inside(sheet, row);
+            let s = record_in(list, row);
+            margin_of(numbers, s)
+        }
+    }
+}
+
 impl State {
     // The margin of a row: D - since - remaining.
     pub fn margin(self, sheet: Sheet, row: usize) -> Margin
         ensures { λ r. ⌜ told r ≡ margin sheet self row ⌝ }
     {
-        let list = listed(sheet);
-        self.margin_on(&list, row)
-    }
-
-    // The same on a sheet in a list.
-    fn margin_on(self, sheet: &[u64], row: usize) -> Margin
-        ensures { λ r. ⌜ told r ≡ margin (sheetIn (now (sheet .entry))) self row ⌝ }
-    {
-        let refusal = self.check_margin(sheet, row);
-        match refusal {
-            Refusal::Refused(number, place) => Margin::Refused(number, place),
-            Refusal::Accepted => {
-                let numbers = flat::row_at(sheet, row);
-                let s = self.rows[row];
-                margin_of(numbers, s)
-            }
-        }
+        let rows = listed(sheet);
+        let list = state_list(self);
+        margin_on(&rows, &list, row)
     }
 }

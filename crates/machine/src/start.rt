@@ -17,7 +17,7 @@ pub struct Started {
 }
 
 // The state of which every record is zero.
-fn zeros() -> State
+pub(crate) fn zeros() -> State
     ensures { λ r. ⌜ r ≡ noState ⌝ }
 {
     let none = RowState {

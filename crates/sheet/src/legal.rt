@@ -8,7 +8,7 @@ use basis::MOST_ROWS;
 use basis::MOST_SEPARATION;
 
 // Whether a row is in the ranges, on so many processors.
-fn is_legal_row(processors: u64, row: Row) -> bool
+pub fn is_legal_row(processors: u64, row: Row) -> bool
     ensures { λ r. ⌜ r ≡ legalRow processors row ⌝ }
 {
     let threads = row.threads;

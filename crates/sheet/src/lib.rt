@@ -11,6 +11,7 @@ pub use labels::label;
 pub use labels::label_part;
 pub use labels::label_parts;
 pub use legal::is_legal;
+pub use legal::is_legal_row;
 pub use reader::Reading;
 pub use reader::read;
 pub use row::Row;

@@ -1,17 +1,10 @@
--- `giachimu_margin` meets its promise. Assumes nothing.
-use borrow.Author.Needs.{needs}
 use Rattle.exports.proofs.Calls.{margin-refused, margin-none, margin-some}
+use borrow.Author.Needs.{needs}
 use Rattle.exports.proofs.machines.giachimu_margin.Statement.{statement}
 use Rattle.exports.proofs.machines.giachimu_margin.Tie as tie
 
-sheet-in-requires : tie.Need-sheet-in-requires
-sheet-in-requires c κs = search needs
-
-state-in-requires : tie.Need-state-in-requires
-state-in-requires c κs = search needs
-
-margin-requires : tie.Need-margin-requires
-margin-requires c κs = search needs
+margin-on-requires : tie.Need-margin-on-requires
+margin-on-requires c κs = search needs
 
 enum-known-told : tie.Need-enum-known-told
 enum-known-told c = search needs
@@ -44,9 +37,7 @@ pub giachimu-margin-spec : {M : Type 1} → statement M
 giachimu-margin-spec =
     tie.close
     (tie.spec
-    sheet-in-requires
-    state-in-requires
-    margin-requires
+    margin-on-requires
     enum-known-told
     tell-requires
     enum-told

@@ -6,7 +6,7 @@ use lib.ListN.{length}
 use Rattle.basis.specs.Upto.{upto}
 use Rattle.flat.proofs.Filling.{fill-none, fill-done}
 use Rattle.flat.proofs.Cells.{unmapped}
-use Rattle.exports.specs.Lists.{stateCell}
+use Rattle.machine.specs.Lists.{stateCell}
 use Rattle.exports.proofs.Cells.{pair-there, state-stored}
 use Rattle.exports.proofs.states.put_state.Statement.{statement}
 use Rattle.exports.proofs.states.put_state.Tie as tie

@@ -1,0 +1,256 @@
+-- The slot in place: what each turn and each way out shows, in the words of its invariant and of what it calls.
+-- Assumes nothing.
+use Prim.Native.Nat.{ℕ, zero, suc, _+_, _*_, _-_, _/_, _≤_, _<_}
+use mathlib.Core.Path.{_≡_, refl, sym, ap, ap₂, _∙_}
+use mathlib.Core.Bool.{Bool, true, false}
+use mathlib.Core.List.{List}
+use lib.ListN.{length, getD, set, take, drop}
+use lib.Dec.{eqb}
+use native.Mathlib.Omega.{arith}
+use native.Mathlib.Nat.{le-refl}
+use native.Mathlib.Numerals.{add-one}
+use borrow.Author.Tests.{eqb-true}
+use borrow.Rule.Slice.PartMut.{putMid}
+use Rattle.basis.specs.Limits.{mostRows}
+use Rattle.basis.specs.Words.{pick}
+use Rattle.basis.specs.Refusals.{Outcome, accepted, refused, outcome, isAccepted, firstOf}
+use Rattle.basis.specs.declared.refusal.Refusal.{Refusal}
+use Rattle.basis.specs.declared.refusal.Refusal.the-variants.{Accepted, Refused}
+use Rattle.basis.specs.Upto.{upto}
+use Rattle.basis.proofs.Upto.{upto-set}
+use Rattle.sheet.specs.Legal.{rowAt, legal}
+use Rattle.sheet.specs.declared.row.Row.{Row}
+use Rattle.sheet.specs.declared.row.Sheet.{Sheet}
+use Rattle.sheet.proofs.Legality.{legal-is}
+use Rattle.flat.specs.Lists.{filled}
+use Rattle.machine.specs.declared.state.RowState.{RowState}
+use Rattle.machine.specs.declared.state.State.{State}
+use Rattle.machine.specs.declared.steps.Placed.{Placed}
+use Rattle.machine.specs.declared.places.Done.{Done}
+use Rattle.machine.specs.States.{stateOf, recordAt, legalState}
+use Rattle.machine.specs.Slot.{freeAt, free, next, code}
+use Rattle.machine.specs.Checks.{checkRow, checkAt, checkReleases, checkState, checkSlot, checkRun}
+use Rattle.machine.specs.Answers.{given, nextState, nextCodes, handed, slot, entriesOf, behind, slotAt, Course, followed, onward, course, notBegun, run}
+use Rattle.machine.specs.Methods.{begunRow, steppedRow}
+use Rattle.machine.specs.Lists.{recordIn, stateLong, spareIsZero, stateIn, stateCell, putRecord, putTo, slotListed, slotIn, runListed, runIn, ranIn, courseIn}
+use Rattle.machine.proofs.Turns.{check-more, check-found}
+use Rattle.machine.proofs.Checked.{Ready, ready}
+use Rattle.machine.proofs.Answered.{Accepted-slot, slot-shows, slot-is-refused, slot-is-accepted, refused-leaves-all-as-found, run-sheet, run-state, run-is-refused, run-is-done}
+use Rattle.machine.proofs.Courses.{part-holds, rest-holds, slot-at-accepted, goes-on, stops}
+use Rattle.machine.proofs.Kept.{next-legal}
+use Rattle.machine.proofs.Legals.{legal-state-is, legal-state-says}
+use Rattle.machine.proofs.Held.{kept-spare, kept-long, kept-record}
+use Rattle.machine.proofs.Stored.{length-put-to, put-record-past, put-more, state-put, list-of-state}
+
+-- `check_in`
+pub check-in-there : (h : Sheet) (l : List ℕ) (release k : ℕ) (row : Row) (s : RowState) → row ≡ rowAt h k → s ≡ recordIn l k → (o : Outcome) → o ≡ checkRow row s release k
+    → o ≡ checkRow (rowAt h k) (recordIn l k) release k
+check-in-there h l release k row s er es o e = e ∙ ap₂ (λ (r : Row) (x : RowState). checkRow r x release k) er es
+
+-- `check_releases_in`
+module _ (h : Sheet) (l rel : List ℕ) (fine : legal h ≡ true) (kept : legalState h (stateIn l) ≡ true) (i : ℕ) (so-far : firstOf i (checkAt h (stateIn l) rel) ≡ accepted)
+    (n : ℕ) (en : n ≡ h .count) (below : i < n) (c : Refusal) (ec : outcome c ≡ checkRow (rowAt h i) (recordIn l i) (getD rel i 0) i) where
+  in-state : outcome c ≡ checkRow (rowAt h i) (recordAt (stateIn l) i) (getD rel i 0) i
+  in-state = ec ∙ ap (λ (s : RowState). checkRow (rowAt h i) s (getD rel i 0) i) (kept-record h l fine kept i (omega arith))
+
+  pub check-in-more : c ≡ Accepted → firstOf (i + 1) (checkAt h (stateIn l) rel) ≡ accepted
+  check-in-more e = check-more h (stateIn l) rel i so-far c in-state e
+
+  pub check-in-found : (a b : ℕ) → c ≡ Refused a b → refused a b ≡ checkReleases h (stateIn l) rel
+  check-in-found a b e = check-found h (stateIn l) rel i so-far n c a b en below in-state e
+
+-- `step_row`
+pub row-stepped : (h : Sheet) (l : List ℕ) (k release f : ℕ) (row : Row) (s : RowState) (r : Placed) → row ≡ rowAt h k → s ≡ recordIn l k → r ≡ steppedRow row s release f
+    → r ≡ steppedRow (rowAt h k) (recordIn l k) release f
+row-stepped h l k release f row s r er es e = e ∙ ap₂ (λ (x : Row) (y : RowState). steppedRow x y release f) er es
+
+-- `step_rows`: a turn
+module _ (h : Sheet) (l₀ l rel : List ℕ) (fine : legal h ≡ true) (kept : legalState h (stateIn l₀) ≡ true) (f i n : ℕ) (en : n ≡ h .count) (below : i < n)
+    (ef : f ≡ free (given h (stateIn l₀) rel) i) (so-far : l ≡ putTo i (next (given h (stateIn l₀) rel)) l₀)
+    (r : Placed) (er : r ≡ steppedRow (rowAt h i) (recordIn l i) (getD rel i 0) f) where
+  here-stepped : r ≡ steppedRow (rowAt h i) (recordAt (stateIn l₀) i) (getD rel i 0) (free (given h (stateIn l₀) rel) i)
+  here-stepped =
+      let e : recordIn l i ≡ recordAt (stateIn l₀) i =
+      ap (λ (x : List ℕ). recordIn x i) so-far ∙ put-record-past (next (given h (stateIn l₀) rel)) l₀ i i (le-refl i) ∙ kept-record h l₀ fine kept i (omega arith) in
+      cc
+
+  pub free-moves : r .free ≡ free (given h (stateIn l₀) rel) (i + 1)
+  unfolding freeAt steppedRow begunRow given
+  free-moves = rw add-one (ap (λ (x : Placed). x .free) here-stepped)
+
+  pub list-moves : (l′ : List ℕ) → l′ ≡ putRecord l i (r .after) → l′ ≡ putTo (i + 1) (next (given h (stateIn l₀) rel)) l₀
+  unfolding steppedRow begunRow given
+  list-moves l′ e = e ∙ put-more i (next (given h (stateIn l₀) rel)) l l₀ (r .after) so-far (ap (λ (x : Placed). x .after) here-stepped)
+
+  pub codes-move : (cs cs₀ : List ℕ) → cs ≡ upto i (code (given h (stateIn l₀) rel)) cs₀ → set cs i (r .code) ≡ upto (i + 1) (code (given h (stateIn l₀) rel)) cs₀
+  unfolding steppedRow begunRow given
+  codes-move cs cs₀ e = upto-set i (code (given h (stateIn l₀) rel)) cs cs₀ (r .code) e (ap (λ (x : Placed). x .code) here-stepped)
+
+-- and its end
+pub moves-done : (f : ℕ → RowState) (l l₀ : List ℕ) (i n : ℕ) → i ≤ n → n ≤ i → l ≡ putTo i f l₀ → l ≡ putTo n f l₀
+moves-done f l l₀ i n a b e = let s : i ≡ n = omega arith in rw s at e
+
+-- the list after a slot whose checks have passed
+module _ (h : Sheet) (l rel : List ℕ) (fine : legal h ≡ true) (kept : legalState h (stateIn l) ≡ true) (n : ℕ) (en : n ≡ h .count)
+    (l′ : List ℕ) (moved : l′ ≡ putTo n (next (given h (stateIn l) rel)) l) where
+  moved-long : length l′ ≡ length l
+  moved-long = ap length moved ∙ length-put-to (next (given h (stateIn l) rel)) l n
+
+  pub moved-state : stateIn l′ ≡ nextState h (stateIn l) rel
+  unfolding nextState
+  moved-state =
+      ap stateIn moved
+      ∙ state-put n (next (given h (stateIn l) rel)) l (kept-spare h l fine kept) (omega (arith, legal-is h fine .most-rows)) (kept-long h l fine kept n en)
+      ∙ ap (λ (m : ℕ). stateOf (upto m (next (given h (stateIn l) rel)) (stateIn l .rows))) en
+
+  pub moved-legal : checkReleases h (stateIn l) rel ≡ accepted → legalState h (stateIn l′) ≡ true
+  moved-legal e =
+      let w = legal-is h fine in
+      ap (legalState h) moved-state
+      ∙ legal-state-says h (nextState h (stateIn l) rel) (w .most-rows) (next-legal h (stateIn l) rel w (legal-state-is h (stateIn l) (w .most-rows) kept) e)
+
+  pub moved-list : checkReleases h (stateIn l) rel ≡ accepted → filled (stateCell (nextState h (stateIn l) rel)) l ≡ l′
+  moved-list e = ap (λ (t : State). filled (stateCell t) l) (sym moved-state) ∙ list-of-state l′ (kept-spare h l′ fine (moved-legal e)) l moved-long
+
+-- `slot_part`
+module _ (h : Sheet) (l rel cs : List ℕ) (j n : ℕ) (en : n ≡ h .count) (fine : legal h ≡ true) (kept : legalState h (stateIn l) ≡ true)
+    (list : j * n + n ≤ length rel) (buffer : j * n + n ≤ length cs) where
+  pub entries-hold : n ≤ length (take (j * n + n - j * n) (drop (j * n) rel))
+  entries-hold = omega (arith, part-holds h (stateIn l) rel cs j n en fine kept list buffer)
+
+  pub codes-hold : n ≤ length (take (length cs - j * n) (drop (j * n) cs))
+  codes-hold = omega (arith, rest-holds h (stateIn l) rel cs j n en fine kept list buffer)
+
+  module _ (c : Refusal) (e : outcome c ≡ checkReleases h (stateIn l) (take (j * n + n - j * n) (drop (j * n) rel))) (f : c ≡ Accepted)
+      (l′ : List ℕ) (moved : l′ ≡ putTo n (next (given h (stateIn l) (take (j * n + n - j * n) (drop (j * n) rel)))) l) where
+    pub part-accepted : (ds : List ℕ) → ds ≡ nextCodes h (stateIn l) (take (j * n + n - j * n) (drop (j * n) rel)) (take (length cs - j * n) (drop (j * n) cs))
+        → (accepted, (stateIn l′, putMid (j * n) (length cs - j * n) cs ds)) ≡ slotAt h (stateIn l) rel cs j
+    part-accepted ds ed =
+        slot-at-accepted h (stateIn l) rel cs j n en fine kept list buffer c e (stateIn l′) ds f (moved-state h l _ fine kept n en l′ moved) ed
+
+    pub part-legal : legalState h (stateIn l′) ≡ true
+    part-legal = moved-legal h l _ fine kept n en l′ moved (sym e ∙ ap outcome f)
+
+-- `run_part`
+module _ (h : Sheet) (rel : List ℕ) (first : Course) (j : ℕ) (t : State) (cs : List ℕ)
+    (so-far : course h rel first j ≡ record { done = j; outcome = accepted; state = t; codes = cs }) (x : Refusal) (u : State) (ds : List ℕ) (e : (outcome x, (u, ds)) ≡ slotAt h t rel cs j) where
+  pub part-goes-on : x ≡ Accepted → course h rel first (j + 1) ≡ record { done = j + 1; outcome = accepted; state = u; codes = ds }
+  part-goes-on f = goes-on h rel first j t cs so-far (record { refusal = x; state = u }) ds e f
+
+  pub part-stops : (slots a b : ℕ) → j < slots → x ≡ Refused a b → _≡_ {A = Course} (record { done = j; outcome = refused a b; state = u; codes = ds }) (course h rel first slots)
+  part-stops slots a b l f = stops h rel first j t cs so-far (record { refusal = x; state = u }) ds e slots a b l f
+
+-- `check_state_in`
+module _ (h : Sheet) (t : State) (fine : Bool) (e : fine ≡ legal h) where
+  pub in-10 : fine ≡ false → refused 10 0 ≡ checkState h t
+  unfolding checkState
+  in-10 f = rw (sym e ∙ f)
+
+  module _ (y : fine ≡ true) (also : Bool) (g : also ≡ legalState h t) where
+    pub in-16 : also ≡ false → refused 16 0 ≡ checkState h t
+    unfolding checkState
+    in-16 f = rw (sym e ∙ y, sym g ∙ f)
+
+    pub in-order : also ≡ true → accepted ≡ checkState h t
+    unfolding checkState
+    in-order f = rw (sym e ∙ y, sym g ∙ f)
+
+pub so-legal : (h : Sheet) (fine : Bool) → fine ≡ legal h → fine ≡ true → legal h ≡ true
+so-legal h fine e y = sym e ∙ y
+
+-- what a check of the sheet and the state has shown
+module _ (h : Sheet) (t : State) (c : Refusal) (e : outcome c ≡ checkState h t) (f : c ≡ Accepted) where
+  pub checked-sheet : legal h ≡ true
+  checked-sheet = ready h t (sym e ∙ ap outcome f) .sheet-legal
+
+  pub checked-state : legalState h t ≡ true
+  checked-state = ready h t (sym e ∙ ap outcome f) .state-legal
+
+-- `slot_on`
+module _ (h : Sheet) (l rel cs : List ℕ) (c : Refusal) (e : outcome c ≡ checkSlot h (stateIn l) rel (length cs)) where
+  pub slot-in-refused : (a b : ℕ) → c ≡ Refused a b → (refused a b, (l, cs)) ≡ slotIn h l rel cs
+  unfolding slotIn
+  slot-in-refused a b f = ap (λ (x : Outcome × (State × List ℕ)). slotListed x l) (slot-is-refused h (stateIn l) rel cs c e a b f)
+
+  module _ (f : c ≡ Accepted) where
+    did : Accepted-slot h (stateIn l) rel (length cs)
+    did = slot-shows h (stateIn l) rel (length cs) (sym e ∙ ap outcome f)
+
+    pub slot-sheet : legal h ≡ true
+    slot-sheet = did .in-order .sheet-legal
+
+    pub slot-state : legalState h (stateIn l) ≡ true
+    slot-state = did .in-order .state-legal
+
+    module _ (n : ℕ) (en : n ≡ h .count) where
+      pub slot-entries : n ≤ length rel
+      slot-entries = omega (arith, did .long)
+
+      pub slot-codes : n ≤ length cs
+      slot-codes = omega (arith, did .long, did .roomy)
+
+      pub slot-in-accepted : (l′ ds : List ℕ) → l′ ≡ putTo n (next (given h (stateIn l) rel)) l → ds ≡ nextCodes h (stateIn l) rel cs → (accepted, (l′, ds)) ≡ slotIn h l rel cs
+      unfolding slotIn
+      slot-in-accepted l′ ds moved ed =
+          ap (λ (x : List ℕ). (accepted, (x, ds))) (sym (moved-list h l rel slot-sheet slot-state n en l′ moved (did .releases)))
+          ∙ ap (λ (x : Outcome × (State × List ℕ)). slotListed x l) (slot-is-accepted h (stateIn l) rel cs c e f (nextState h (stateIn l) rel) ds refl ed)
+
+      pub slot-in-state : (l′ ds : List ℕ) → l′ ≡ putTo n (next (given h (stateIn l) rel)) l → ds ≡ nextCodes h (stateIn l) rel cs → (accepted, (stateIn l′, ds)) ≡ slot h (stateIn l) rel cs
+      slot-in-state l′ ds moved ed =
+          slot-is-accepted h (stateIn l) rel cs c e f (stateIn l′) ds (moved-state h l rel slot-sheet slot-state n en l′ moved) ed
+
+-- a run that has done no slot has changed nothing
+slot-kept : (h : Sheet) (t : State) (rel cs : List ℕ) (j a b : ℕ) (u : State) (ds : List ℕ) → slotAt h t rel cs j ≡ (refused a b, (u, ds)) → u ≡ t
+unfolding slotAt
+slot-kept h t rel cs j a b u ds e =
+    refused-leaves-all-as-found h t (entriesOf (h .count) j rel) (drop (j * h .count) cs) a b u (slot h t (entriesOf (h .count) j rel) (drop (j * h .count) cs) .1 .1)
+    (λ i. (sym e i .0, (sym e i .1 .0, slot h t (entriesOf (h .count) j rel) (drop (j * h .count) cs) .1 .1))) .0
+
+course-none : (h : Sheet) (rel : List ℕ) (t : State) (cs : List ℕ) (j : ℕ) → course h rel (notBegun accepted t cs) j .done ≡ 0 → course h rel (notBegun accepted t cs) j .state ≡ t
+unfolding course onward
+course-none h rel t cs zero e = refl
+course-none h rel t cs (suc j) e = go (course h rel (notBegun accepted t cs) j) (course-none h rel t cs j) e
+  where
+    go : (c : Course) → (c .done ≡ 0 → c .state ≡ t) → onward h rel j c .done ≡ 0 → onward h rel j c .state ≡ t
+    go c so = by (isAccepted (c .outcome))
+      where
+        at : (x : Outcome × (State × List ℕ)) → slotAt h (c .state) rel (c .codes) j ≡ x → followed (c .done) x .done ≡ 0 → followed (c .done) x .state ≡ t
+        at (accepted, (u, ds)) g z = absurd (omega arith)
+        at (refused a b, (u, ds)) g z = slot-kept h (c .state) rel (c .codes) j a b u ds g ∙ so z
+
+        by : (b : Bool) → pick b (followed (c .done) (slotAt h (c .state) rel (c .codes) j)) c .done ≡ 0 → pick b (followed (c .done) (slotAt h (c .state) rel (c .codes) j)) c .state ≡ t
+        by true = at (slotAt h (c .state) rel (c .codes) j) refl
+        by false = so
+
+-- `run_on`
+module _ (h : Sheet) (l rel cs : List ℕ) (c : Refusal) (e : outcome c ≡ checkRun h (stateIn l) rel (length cs)) where
+  pub run-in-refused : (a b : ℕ) → c ≡ Refused a b → _≡_ {A = (ℕ × Outcome) × (List ℕ × List ℕ)} ((0, refused a b), (l, cs)) (runIn h l rel cs)
+  unfolding runIn
+  run-in-refused a b f = ap (λ (x : Course). runListed x l) (run-is-refused h (stateIn l) rel cs c e a b f)
+
+  module _ (f : c ≡ Accepted) (n : ℕ) (en : n ≡ h .count) (r : Done) (l′ ds : List ℕ)
+      (er : courseIn r (stateIn l′) ds ≡ course h rel (notBegun accepted (stateIn l) cs) (length rel / n)) (kept′ : legalState h (stateIn l′) ≡ true) (long : length l′ ≡ length l) where
+    fine : legal h ≡ true
+    fine = run-sheet h (stateIn l) rel (length cs) c e f
+
+    kept : legalState h (stateIn l) ≡ true
+    kept = run-state h (stateIn l) rel (length cs) c e f
+
+    same-list : filled (stateCell (stateIn l′)) l ≡ l′
+    same-list = list-of-state l′ (kept-spare h l′ fine kept′) l long
+
+    none-done : r .done ≡ 0 → l′ ≡ l
+    none-done z =
+        let u : stateIn l′ ≡ stateIn l =
+        ap (λ (x : Course). x .state) er ∙ course-none h rel (stateIn l) cs (length rel / n) (sym (ap (λ (x : Course). x .done) er) ∙ z) in
+        sym same-list ∙ ap (λ (t : State). filled (stateCell t) l) u ∙ list-of-state l (kept-spare h l fine kept) l refl
+
+    picked : (b : Bool) → eqb (r .done) 0 ≡ b → l′ ≡ pick b l (filled (stateCell (stateIn l′)) l)
+    picked true g = none-done (eqb-true (r .done) 0 g)
+    picked false g = sym same-list
+
+    pub run-in-done : (ranIn r, (l′, ds)) ≡ runIn h l rel cs
+    unfolding runIn
+    run-in-done =
+        ap (λ (x : List ℕ). (ranIn r, (x, ds))) (picked (eqb (r .done) 0) refl)
+        ∙ ap (λ (x : Course). runListed x l) (run-is-done h (stateIn l) rel cs c e f n en (courseIn r (stateIn l′) ds) er)

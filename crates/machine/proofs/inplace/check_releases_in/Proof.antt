@@ -1,0 +1,76 @@
+use borrow.Author.Needs.{needs}
+use Prim.Native.Nat.{_≤_, _-_}
+use mathlib.Core.Path.{_≡_, refl}
+use mathlib.Core.Bool.{true}
+use lib.ListN.{length}
+use Rattle.basis.specs.Limits.{mostRows}
+use Rattle.basis.specs.Refusals.{accepted, firstOf}
+use Rattle.sheet.specs.Legal.{legal}
+use Rattle.flat.specs.Lists.{sheetIn, sheetLong}
+use Rattle.flat.proofs.Legality.{legal-sheet-long}
+use Rattle.machine.specs.States.{legalState}
+use Rattle.machine.specs.Checks.{checkAt}
+use Rattle.machine.specs.Lists.{stateLong, stateIn}
+use Rattle.machine.proofs.Held.{legal-in-fits, kept-long}
+use Rattle.machine.proofs.Turns.{check-done}
+use Rattle.machine.proofs.Moves.{check-in-more, check-in-found}
+use Rattle.machine.proofs.inplace.check_releases_in.Statement.{statement}
+use Rattle.machine.proofs.inplace.check_releases_in.Tie as tie
+
+abbrev Inv-loop : tie.InvT-loop
+Inv-loop sheet list n releases i₀ i = (n ≡ sheetIn sheet .count) × (i ≤ n) × (n ≤ mostRows) × (sheetLong n ≤ length sheet) × (stateLong n ≤ length list) × (legal (sheetIn sheet) ≡ true) × (legalState (sheetIn sheet) (stateIn list) ≡ true) × (n ≤ length releases) × (firstOf i (checkAt (sheetIn sheet) (stateIn list) releases) ≡ accepted)
+
+abbrev μ-loop : tie.MeasureT-loop
+μ-loop sheet list n releases i₀ i = n - i
+
+loop-holds : tie.Need-loop-holds Inv-loop μ-loop
+unfolding firstOf
+loop-holds c = (search needs, search needs, search legal-in-fits, search legal-sheet-long, search kept-long, search needs, search needs, search needs, refl)
+
+mul-check-in : tie.Need-mul-check-in Inv-loop μ-loop
+mul-check-in c = search needs
+
+shared-slice-read-check-in : tie.Need-shared-slice-read-check-in Inv-loop μ-loop
+shared-slice-read-check-in c = search needs
+
+check-in-requires : tie.Need-check-in-requires Inv-loop μ-loop
+check-in-requires c κs = (search needs, search needs, search needs)
+
+enum-known-refusal : tie.Need-enum-known-refusal Inv-loop μ-loop
+enum-known-refusal c = search needs
+
+returns : tie.Need-returns Inv-loop μ-loop
+returns c = search check-in-found
+
+enum-told : tie.Need-enum-told Inv-loop μ-loop
+enum-told c = search needs
+
+add-i : tie.Need-add-i Inv-loop μ-loop
+add-i c = search needs
+
+loop-less : tie.Need-loop-less Inv-loop μ-loop
+loop-less c = search needs
+
+loop-again : tie.Need-loop-again Inv-loop μ-loop
+loop-again c = (search needs, search needs, search needs, search needs, search needs, search needs, search needs, search needs, search check-in-more)
+
+returns-2 : tie.Need-returns-2 Inv-loop μ-loop
+returns-2 c = search check-done
+
+pub check-releases-in-spec : {M : Type 1} → statement M
+check-releases-in-spec =
+    tie.close
+    (tie.spec
+    Inv-loop
+    μ-loop
+    loop-holds
+    mul-check-in
+    shared-slice-read-check-in
+    check-in-requires
+    enum-known-refusal
+    returns
+    enum-told
+    add-i
+    loop-less
+    loop-again
+    returns-2)

@@ -1,0 +1,46 @@
+use Rattle.machine.proofs.Checked.{slot-refused, slot-11, slot-15, slot-rows}
+use Rattle.machine.proofs.Moves.{checked-sheet, checked-state}
+use borrow.Author.Needs.{needs}
+use Rattle.machine.proofs.inplace.check_slot_in.Statement.{statement}
+use Rattle.machine.proofs.inplace.check_slot_in.Tie as tie
+
+check-state-in-requires : tie.Need-check-state-in-requires
+check-state-in-requires c κs = search needs
+
+enum-known-first : tie.Need-enum-known-first
+enum-known-first c = search needs
+
+returns : tie.Need-returns
+returns c = search slot-refused
+
+enum-told : tie.Need-enum-told
+enum-told c = search needs
+
+rows-in-requires : tie.Need-rows-in-requires
+rows-in-requires c κs = search needs
+
+returns-2 : tie.Need-returns-2
+returns-2 c = search slot-11
+
+returns-3 : tie.Need-returns-3
+returns-3 c = search slot-15
+
+check-releases-in-requires : tie.Need-check-releases-in-requires
+check-releases-in-requires c κs = (search needs, search checked-sheet, search checked-state, search needs)
+
+returns-4 : tie.Need-returns-4
+returns-4 c = search slot-rows
+
+pub check-slot-in-spec : {M : Type 1} → statement M
+check-slot-in-spec =
+    tie.close
+    (tie.spec
+    check-state-in-requires
+    enum-known-first
+    returns
+    enum-told
+    rows-in-requires
+    returns-2
+    returns-3
+    check-releases-in-requires
+    returns-4)

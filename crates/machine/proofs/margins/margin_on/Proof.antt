@@ -1,0 +1,41 @@
+use Rattle.machine.proofs.Told.{row-in-array, margin-row-there, margin-record-there, small-deadline, listed-since, listed-remaining, margin-is-refused, listed-margin}
+use borrow.Author.Needs.{needs}
+use Rattle.machine.proofs.margins.margin_on.Statement.{statement}
+use Rattle.machine.proofs.margins.margin_on.Tie as tie
+
+check-margin-in-requires : tie.Need-check-margin-in-requires
+check-margin-in-requires c κs = search needs
+
+enum-known-refusal : tie.Need-enum-known-refusal
+enum-known-refusal c = search needs
+
+enum-told : tie.Need-enum-told
+enum-told c = search needs
+
+row-inside-requires : tie.Need-row-inside-requires
+row-inside-requires c κs = (search row-in-array, search margin-row-there)
+
+record-in-requires : tie.Need-record-in-requires
+record-in-requires c κs = (search row-in-array, search margin-record-there)
+
+margin-of-requires : tie.Need-margin-of-requires
+margin-of-requires c κs = (search small-deadline, search listed-since, search listed-remaining)
+
+returns : tie.Need-returns
+returns c = search margin-is-refused
+
+returns-2 : tie.Need-returns-2
+returns-2 c = search listed-margin
+
+pub margin-on-spec : {M : Type 1} → statement M
+margin-on-spec =
+    tie.close
+    (tie.spec
+    check-margin-in-requires
+    enum-known-refusal
+    enum-told
+    row-inside-requires
+    record-in-requires
+    margin-of-requires
+    returns
+    returns-2)

@@ -1,0 +1,76 @@
+use borrow.Author.Needs.{needs}
+use Prim.Native.Nat.{_≤_, _-_}
+use mathlib.Core.Path.{_≡_, refl}
+use mathlib.Core.Bool.{true}
+use lib.ListN.{length}
+use Rattle.basis.specs.Limits.{mostRows}
+use Rattle.basis.specs.Words.{allOf}
+use Rattle.sheet.specs.Legal.{legal}
+use Rattle.flat.specs.Lists.{sheetIn, sheetLong}
+use Rattle.flat.proofs.Legality.{legal-sheet-long}
+use Rattle.machine.specs.Lists.{stateLong, stateIn}
+use Rattle.machine.proofs.Held.{legalIn, record-scaled, legal-in-short, legal-in-fits, legal-in-more, legal-in-fails, legal-in-done}
+use Rattle.machine.proofs.places.is_legal_in.Statement.{statement}
+use Rattle.machine.proofs.places.is_legal_in.Tie as tie
+
+abbrev Inv-loop : tie.InvT-loop
+Inv-loop sheet list n long i₀ i = (n ≡ sheetIn sheet .count) × (i ≤ n) × (n ≤ mostRows) × (sheetLong n ≤ length sheet) × (long ≡ stateLong n) × (long ≤ length list) × (legal (sheetIn sheet) ≡ true) × (true ≡ allOf i (legalIn (sheetIn sheet) list))
+
+abbrev μ-loop : tie.MeasureT-loop
+μ-loop sheet list n long i₀ i = n - i
+
+mul-long : tie.Need-mul-long Inv-loop μ-loop
+mul-long c = search record-scaled
+
+returns : tie.Need-returns Inv-loop μ-loop
+returns c = search legal-in-short
+
+loop-holds : tie.Need-loop-holds Inv-loop μ-loop
+unfolding allOf
+loop-holds c = (search needs, search needs, search legal-in-fits, search legal-sheet-long, search needs, search needs, search needs, refl)
+
+row-inside-requires : tie.Need-row-inside-requires Inv-loop μ-loop
+row-inside-requires c κs = (search needs, search needs)
+
+record-in-requires : tie.Need-record-in-requires Inv-loop μ-loop
+record-in-requires c κs = (search needs, search needs)
+
+is-legal-record-requires : tie.Need-is-legal-record-requires Inv-loop μ-loop
+is-legal-record-requires c κs = search needs
+
+add-i : tie.Need-add-i Inv-loop μ-loop
+add-i c = search needs
+
+loop-less : tie.Need-loop-less Inv-loop μ-loop
+loop-less c = search needs
+
+loop-again : tie.Need-loop-again Inv-loop μ-loop
+loop-again c = (search needs, search needs, search needs, search needs, search needs, search needs, search needs, search legal-in-more)
+
+returns-2 : tie.Need-returns-2 Inv-loop μ-loop
+returns-2 c = search legal-in-fails
+
+is-zero-from-requires : tie.Need-is-zero-from-requires Inv-loop μ-loop
+is-zero-from-requires c κs = search needs
+
+returns-3 : tie.Need-returns-3 Inv-loop μ-loop
+returns-3 c = search legal-in-done
+
+pub is-legal-in-spec : {M : Type 1} → statement M
+is-legal-in-spec =
+    tie.close
+    (tie.spec
+    Inv-loop
+    μ-loop
+    mul-long
+    returns
+    loop-holds
+    row-inside-requires
+    record-in-requires
+    is-legal-record-requires
+    add-i
+    loop-less
+    loop-again
+    returns-2
+    is-zero-from-requires
+    returns-3)

@@ -1,0 +1,60 @@
+use borrow.Author.Needs.{needs}
+use Prim.Native.Nat.{_≤_, _-_}
+use mathlib.Core.Path.{_≡_, refl}
+use lib.ListN.{length}
+use Rattle.basis.specs.Limits.{mostRows}
+use Rattle.basis.specs.Upto.{upto}
+use Rattle.machine.specs.Lists.{stateLong, recordIn}
+use Rattle.machine.proofs.Lists.{records-more, records-done}
+use Rattle.machine.proofs.places.state_of.Statement.{statement}
+use Rattle.machine.proofs.places.state_of.Tie as tie
+
+abbrev Inv-loop : tie.InvT-loop
+Inv-loop list state₀ i₀ state i = (i ≤ mostRows) × (length list ≡ stateLong mostRows) × (state .rows ≡ upto i (recordIn list) (state₀ .rows))
+
+abbrev μ-loop : tie.MeasureT-loop
+μ-loop list state₀ i₀ state i = mostRows - i
+
+zeros-requires : tie.Need-zeros-requires Inv-loop μ-loop
+zeros-requires c κs = search needs
+
+loop-holds : tie.Need-loop-holds Inv-loop μ-loop
+unfolding upto
+loop-holds c = (search needs, search needs, refl)
+
+record-in-requires : tie.Need-record-in-requires Inv-loop μ-loop
+record-in-requires c κs = (search needs, search needs)
+
+mul-s : tie.Need-mul-s Inv-loop μ-loop
+mul-s c = search needs
+
+element-set-from-s : tie.Need-element-set-from-s Inv-loop μ-loop
+element-set-from-s c = search needs
+
+add-i : tie.Need-add-i Inv-loop μ-loop
+add-i c = search needs
+
+loop-less : tie.Need-loop-less Inv-loop μ-loop
+loop-less c = search needs
+
+loop-again : tie.Need-loop-again Inv-loop μ-loop
+loop-again c = (search needs, search needs, search records-more)
+
+returns : tie.Need-returns Inv-loop μ-loop
+returns c = search records-done
+
+pub state-of-spec : {M : Type 1} → statement M
+state-of-spec =
+    tie.close
+    (tie.spec
+    Inv-loop
+    μ-loop
+    zeros-requires
+    loop-holds
+    record-in-requires
+    mul-s
+    element-set-from-s
+    add-i
+    loop-less
+    loop-again
+    returns)
