@@ -15,8 +15,8 @@ use Rattle.basis.proofs.Upto.{upto-set, upto-below}
 use Rattle.sheet.specs.Legal.{rowAt, legal, Legal}
 use Rattle.sheet.specs.declared.row.Sheet.{Sheet}
 use Rattle.sheet.proofs.Legality.{legal-is}
-use Rattle.flat.specs.Lists.{numberAt, filled, sheetCell, sheetIn}
-use Rattle.flat.proofs.Back.{whole-sheet-comes-back}
+use Rattle.sheet.specs.Lists.{numberAt, filled, sheetCell, sheetIn}
+use Rattle.sheet.proofs.Back.{whole-sheet-comes-back}
 use Rattle.bound.specs.Test.{passes}
 use Rattle.bound.specs.Bound.{Word, unreached, word, wordIn, isBound, valueOf, boundBy, bounds, bounded, resultOf, allUnreached, holds, Answer, judged, notLegal, boundsBy, boundsOf}
 use Rattle.bound.specs.Ready.{heldIn, noBounds, Long, SoFar, Ready}

@@ -10,7 +10,7 @@ use Rattle.basis.specs.Upto.{upto}
 use Rattle.sheet.specs.Legal.{rowAt, Legal}
 use Rattle.sheet.specs.declared.row.Row.{Row}
 use Rattle.sheet.specs.declared.row.Sheet.{Sheet}
-use Rattle.flat.specs.Lists.{numberAt, sheetLong}
+use Rattle.sheet.specs.Lists.{numberAt, sheetLong}
 use Rattle.bound.specs.Quantities.{slots}
 use Rattle.bound.specs.Test.{passes}
 use Rattle.bound.specs.Bound.{bounds, bounded, resultOf}

@@ -2,7 +2,7 @@
 use Prim.Native.Nat.{ℕ}
 use mathlib.Core.List.{List, [], _∷_}
 use lib.ListN.{length, getD}
-use Rattle.sheet.specs.Answers.{filled, noSheet}
+use Rattle.sheet.specs.Values.{padded, noSheet}
 use Rattle.sheet.specs.declared.row.Row.{Row}
 use Rattle.sheet.specs.declared.row.Sheet.{Sheet}
 
@@ -12,7 +12,7 @@ row threads T D C = record { threads = threads; separation = T; deadline = D; bu
 
 -- The sheet by value of m processors and these rows, with zeros past them.
 abbrev pub sheetOf : ℕ → List Row → Sheet
-sheetOf m rs = record { processors = m; count = length rs; rows = filled rs }
+sheetOf m rs = record { processors = m; count = length rs; rows = padded rs }
 
 -- The rows of sheet A.
 abbrev pub rowsA : List Row

@@ -2,7 +2,7 @@
 ghost use mathlib.Core.Path.{_≡_};
 ghost use Prim.Native.Nat.{_*_, _≤_};
 ghost use Rattle.basis.specs.Limits.{mostProcessors, mostRows};
-ghost use Rattle.flat.specs.Lists.{sheetIn};
+ghost use Rattle.sheet.specs.Lists.{sheetIn};
 ghost use Rattle.bound.specs.Ready.{heldIn, Lent, Ready, Length, Above};
 ghost use Rattle.bound.specs.Skipping.{stayOf, joined, Paces, Steep};
 use crate::quantity::Amount;
@@ -13,8 +13,8 @@ use crate::test::span_above;
 use crate::test::window_of;
 use crate::test::work_above;
 use basis::MOST_SEPARATION;
-use flat::row_at;
 use sheet::Row;
+use sheet::row_at;
 
 // Rows whose durations grow by one in each of the next `stay` slots, and the processors that they take together.
 pub struct Pace {

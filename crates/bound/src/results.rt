@@ -2,14 +2,14 @@
 ghost use mathlib.Core.Path.{_≡_};
 ghost use Prim.Native.Nat.{_<_};
 ghost use Rattle.sheet.specs.Legal.{Legal};
-ghost use Rattle.flat.specs.Lists.{sheetIn};
+ghost use Rattle.sheet.specs.Lists.{sheetIn};
 ghost use Rattle.bound.specs.Test.{passes};
 ghost use Rattle.bound.specs.Bound.{isBound, valueOf, wordIn, resultOf, answer, judged, boundsOf};
 ghost use Rattle.bound.specs.Ready.{Long, Lent, SoFar};
 use crate::search::bound_of;
 use basis::MOST_ROWS;
 use basis::Refusal;
-use flat::SHEET_LONG;
+use sheet::SHEET_LONG;
 use sheet::Sheet;
 
 // The result of a row.
@@ -82,7 +82,7 @@ fn judge_rows(sheet: &[u64]) -> Results
     }; MOST_ROWS];
     let mut above = [0u64; MOST_ROWS];
     let mut reached = true;
-    let n = flat::count(sheet) as usize;
+    let n = sheet::count(sheet) as usize;
     let mut i: usize = 0;
     while i < n {
         let judged = judge_row(sheet, &above, i, reached);
@@ -104,7 +104,7 @@ pub fn bounds(sheet: Sheet) -> Results
 {
     if sheet::is_legal(sheet) {
         let mut list = [0u64; SHEET_LONG];
-        flat::put_sheet(&mut list, sheet);
+        sheet::put_sheet(&mut list, sheet);
         return judge_rows(&list);
     }
     let rows = [Judged {

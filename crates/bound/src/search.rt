@@ -1,7 +1,7 @@
 // The search for the smallest length that passes.
 ghost use mathlib.Core.Path.{_≡_};
 ghost use mathlib.Core.Bool.{false};
-ghost use Rattle.flat.specs.Lists.{sheetIn};
+ghost use Rattle.sheet.specs.Lists.{sheetIn};
 ghost use Rattle.bound.specs.Test.{amounts, passes};
 ghost use Rattle.bound.specs.Bound.{word, boundBy};
 ghost use Rattle.bound.specs.Ready.{heldIn, Lent, Ready, Length};
@@ -16,7 +16,7 @@ use crate::test::busy_of;
 use crate::test::passes;
 use crate::test::room_of;
 use crate::test::sum_above;
-use flat::row_at;
+use sheet::row_at;
 
 // What the trial of a length tells: it passes, or the next length that can.
 pub enum Tried {

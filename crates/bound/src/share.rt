@@ -2,7 +2,7 @@
 ghost use mathlib.Core.Path.{_≡_};
 ghost use Prim.Native.Nat.{_≤_, min};
 ghost use Rattle.basis.specs.Limits.{mostProcessors, mostSeparation};
-ghost use Rattle.flat.specs.Lists.{sheetIn};
+ghost use Rattle.sheet.specs.Lists.{sheetIn};
 ghost use Rattle.bound.specs.Quantities.{on};
 ghost use Rattle.bound.specs.Ready.{heldIn, Lent, Ready, Length, Above};
 ghost use Rattle.bound.specs.Skipping.{shareOf, Shares, LeavesRoom};
@@ -13,8 +13,8 @@ use crate::test::fewer;
 use crate::test::passes;
 use crate::test::span_above;
 use crate::test::window_of;
-use flat::row_at;
 use sheet::Row;
+use sheet::row_at;
 
 // The amount of a row above with this bound, by its share: its budget of every separation.
 fn share_above(row: Row, bound: Duration, length: Duration, window: Duration, busy: u64) -> Amount

@@ -1,6 +1,6 @@
 // Sheets A to F: constant arrays of row values, each handed out as a sheet.
 ghost use mathlib.Core.Path.{_≡_};
-ghost use Rattle.sheet.specs.Answers.{noSheet};
+ghost use Rattle.sheet.specs.Values.{noSheet};
 ghost use Rattle.bound.specs.Tables.{sheetA, sheetB, sheetC, sheetD, sheetE, sheetF, fixedSheet};
 use basis::MOST_ROWS;
 use sheet::Row;

@@ -3,15 +3,15 @@ ghost use mathlib.Core.Path.{_≡_};
 ghost use Prim.Native.Nat.{_≤_, _<_, min};
 ghost use Rattle.basis.specs.Limits.{mostProcessors, mostSeparation};
 ghost use Rattle.sheet.specs.Legal.{Legal};
-ghost use Rattle.flat.specs.Lists.{sheetIn};
+ghost use Rattle.sheet.specs.Lists.{sheetIn};
 ghost use Rattle.bound.specs.Quantities.{on, less};
 ghost use Rattle.bound.specs.Test.{q, X, x, W, durationOf, amounts, room};
 ghost use Rattle.bound.specs.Ready.{heldIn, Long, Lent, Ready, Length, Above, Spans};
 use crate::quantity::Amount;
 use crate::quantity::Duration;
-use flat::processors;
-use flat::row_at;
 use sheet::Row;
+use sheet::processors;
+use sheet::row_at;
 
 // The smaller of two counts.
 pub(crate) fn fewer(a: u64, b: u64) -> u64

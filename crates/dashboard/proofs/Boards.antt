@@ -12,9 +12,9 @@ use denote.Ref.{RefT}
 use Rattle.basis.specs.Limits.{mostRows}
 use Rattle.sheet.specs.Legal.{legal}
 use Rattle.sheet.proofs.Legality.{legal-is}
-use Rattle.sheet.proofs.Labelled.{label-at}
-use Rattle.sheet.specs.Answers.{shown, part, nowhere, labelIn, labelsIn}
-use Rattle.sheet.specs.declared.labels.Part.{Part}
+use Rattle.reader.proofs.Labelled.{label-at}
+use Rattle.reader.specs.Answers.{shown, part, nowhere, labelIn, labelsIn}
+use Rattle.reader.specs.declared.labels.Part.{Part}
 use Rattle.sheet.specs.declared.row.Sheet.{Sheet}
 use Rattle.bound.specs.Test.{passes}
 use Rattle.bound.specs.Bound.{Word, unreached, word, wordIn, resultOf, holds, Answer, answer, judged, boundsOf}

@@ -5,8 +5,8 @@ use mathlib.Core.List.{[], _∷_, _++_}
 use Rattle.basis.specs.Words.{allOf, sum}
 use Rattle.basis.specs.Readers.{begins}
 use Rattle.numbers.specs.Numbers.{groups, upTo}
-use Rattle.sheet.specs.Form.{plain, label, entry, entries, body, head, sheet, labelHead}
-use Rattle.sheet.specs.Answers.{labelIn}
+use Rattle.reader.specs.Form.{plain, label, entry, entries, body, head, sheet, labelHead}
+use Rattle.reader.specs.Answers.{labelIn}
 use Rattle.bound.specs.Test.{q, X, x, W, durationOf, amountOf, amounts, room, passes}
 use Rattle.bound.specs.Bound.{least, boundBy, judge, resultsTo, resultOf, holds}
 use Rattle.bound.specs.Tables.{fixedSheet}

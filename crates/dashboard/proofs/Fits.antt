@@ -10,13 +10,13 @@ use lib.ListN.{length, drop, length-append, length-take}
 use lib.Seq.{take-all}
 use Rattle.basis.specs.Limits.{mostRows, longestLabel, mostSeparation}
 use Rattle.basis.specs.Refusals.{accepted}
-use Rattle.sheet.specs.Form.{Held, sheet}
+use Rattle.reader.specs.Form.{Held, sheet}
 use Rattle.sheet.specs.Legal.{Legal}
-use Rattle.sheet.specs.Answers.{handed, reading, rowsRead}
+use Rattle.reader.specs.Answers.{handed, reading, rowsRead}
 use Rattle.sheet.specs.declared.row.Sheet.{Sheet}
-use Rattle.sheet.proofs.Accepted.{accepted-is-legal}
+use Rattle.reader.proofs.Accepted.{accepted-is-legal}
 use Rattle.sheet.proofs.Legality.{legal-is}
-use Rattle.sheet.proofs.Naming.{label-of-row}
+use Rattle.reader.proofs.Naming.{label-of-row}
 use Rattle.basis.specs.Readers.{Step, ok, refuse}
 use Rattle.bound.specs.Test.{passes}
 use Rattle.bound.specs.Bound.{Word, bound, none, unreached, isBound, valueOf, resultOf, holds}

@@ -11,11 +11,11 @@ use Rattle.basis.specs.Refusals.{Outcome, accepted}
 use Rattle.basis.specs.Readers.{Step, ok, refuse}
 use Rattle.basis.proofs.Words.{lt-or-le}
 use Rattle.numbers.specs.Numbers.{spelt, width}
-use Rattle.sheet.specs.Form.{Held, sheet}
-use Rattle.sheet.specs.Answers.{handed, reading}
-use Rattle.sheet.specs.Longest.{longestRow, longestSheet}
+use Rattle.reader.specs.Form.{Held, sheet}
+use Rattle.reader.specs.Answers.{handed, reading}
+use Rattle.reader.specs.Longest.{longestRow, longestSheet}
 use Rattle.sheet.specs.declared.row.Sheet.{Sheet}
-use Rattle.sheet.proofs.Reach.{accepted-is-short, first-bytes-decide}
+use Rattle.reader.proofs.Reach.{accepted-is-short, first-bytes-decide}
 use Rattle.dashboard.specs.Texts.{verdictText}
 use Rattle.dashboard.specs.Longest.{inputSize}
 use Rattle.dashboard.proofs.Outcomes.{refused-prints-one-line, by-outcome}

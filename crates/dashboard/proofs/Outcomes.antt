@@ -4,7 +4,7 @@ use Prim.Native.Nat.{ℕ}
 use mathlib.Core.Path.{_≡_, refl, ap}
 use mathlib.Core.List.{List}
 use Rattle.basis.specs.Refusals.{Outcome, accepted, refused}
-use Rattle.sheet.specs.Answers.{reading}
+use Rattle.reader.specs.Answers.{reading}
 use Rattle.dashboard.specs.Words.{noVerdict}
 use Rattle.dashboard.specs.Labels.{ownLabel}
 use Rattle.dashboard.specs.Texts.{board, textOf, verdictText}

@@ -7,11 +7,11 @@ use native.Mathlib.Omega.{arith}
 use lib.ListN.{length, getD, drop}
 use Rattle.basis.specs.Refusals.{accepted, refused}
 use Rattle.sheet.specs.Legal.{rowAt}
-use Rattle.sheet.specs.Answers.{reading}
+use Rattle.reader.specs.Answers.{reading}
 use Rattle.sheet.specs.declared.row.Sheet.{Sheet}
-use Rattle.sheet.proofs.Accepted.{accepted-is-legal}
+use Rattle.reader.proofs.Accepted.{accepted-is-legal}
 use Rattle.sheet.proofs.Legality.{legal-is}
-use Rattle.sheet.proofs.Reach.{refusal-is-listed}
+use Rattle.reader.proofs.Reach.{refusal-is-listed}
 use Rattle.bound.specs.Test.{passes}
 use Rattle.bound.specs.Bound.{Word, resultOf, holds, Answer, judged, boundsOf}
 use Rattle.bound.proofs.Answers.{legal-is-judged}

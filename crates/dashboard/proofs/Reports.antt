@@ -12,10 +12,10 @@ use Rattle.basis.specs.Refusals.{Outcome, accepted, outcome}
 use Rattle.basis.specs.declared.refusal.Refusal.{Refusal}
 use Rattle.basis.specs.declared.refusal.Refusal.the-variants.{Accepted, Refused}
 use Rattle.sheet.specs.Legal.{legalRow, legalAt, legal}
-use Rattle.sheet.specs.Answers.{answer, reading}
+use Rattle.reader.specs.Answers.{answer, reading}
 use Rattle.sheet.specs.declared.row.Sheet.{Sheet}
-use Rattle.sheet.specs.declared.reader.Reading.{Reading}
-use Rattle.sheet.proofs.Accepted.{accepted-is-legal}
+use Rattle.reader.specs.declared.reader.Reading.{Reading}
+use Rattle.reader.proofs.Accepted.{accepted-is-legal}
 use Rattle.bound.specs.Tables.{fixedSheet}
 use Rattle.dashboard.specs.Words.{newline, noVerdict}
 use Rattle.dashboard.specs.Labels.{labelBy}

@@ -9,9 +9,9 @@ use native.Mathlib.Omega.{arith}
 use lib.ListN.{length}
 use Rattle.basis.specs.Refusals.{accepted, isAccepted}
 use Rattle.basis.proofs.Words.{true-not-false, both-left, both-right}
-use Rattle.sheet.specs.Answers.{reading}
+use Rattle.reader.specs.Answers.{reading}
 use Rattle.sheet.specs.declared.row.Sheet.{Sheet}
-use Rattle.sheet.proofs.Accepted.{accepted-is-legal}
+use Rattle.reader.proofs.Accepted.{accepted-is-legal}
 use Rattle.bound.specs.Test.{passes}
 use Rattle.bound.specs.Bound.{Word, resultOf, holds}
 use Rattle.green.specs.Demand.{NoJobIsLate}

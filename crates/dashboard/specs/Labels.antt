@@ -2,8 +2,8 @@
 use Prim.Native.Nat.{ℕ}
 use mathlib.Core.List.{List, _++_}
 use lib.ListN.{getD, take, drop}
-use Rattle.sheet.specs.Answers.{labelIn}
-use Rattle.sheet.specs.declared.labels.Part.{Part}
+use Rattle.reader.specs.Answers.{labelIn}
+use Rattle.reader.specs.declared.labels.Part.{Part}
 use Rattle.bound.specs.Bound.{Word, wordIn}
 use Rattle.bound.specs.declared.results.Result.the-variants.{Unreached}
 use Rattle.bound.specs.declared.results.Judged.{Judged}

@@ -4,7 +4,7 @@ use mathlib.Core.Path.{_≡_}
 use mathlib.Core.Logic.{_⊎_}
 use mathlib.Core.List.{List, [], _∷_, _++_}
 use Rattle.basis.specs.Refusals.{refused}
-use Rattle.sheet.specs.Answers.{reading}
+use Rattle.reader.specs.Answers.{reading}
 use Rattle.sheet.specs.declared.row.Row.{Row}
 use Rattle.dashboard.specs.Words.{decimal, space, newline}
 

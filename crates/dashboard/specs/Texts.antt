@@ -2,7 +2,7 @@
 use Prim.Native.Nat.{ℕ, zero, suc, _+_}
 use mathlib.Core.List.{List, [], _∷_, _++_}
 use Rattle.basis.specs.Refusals.{Outcome, accepted, refused}
-use Rattle.sheet.specs.Answers.{reading}
+use Rattle.reader.specs.Answers.{reading}
 use Rattle.sheet.specs.declared.row.Sheet.{Sheet}
 use Rattle.bound.specs.Test.{passes}
 use Rattle.bound.specs.Bound.{Word, resultOf, holds}

@@ -26,7 +26,7 @@ fn put_lines(
     requires { ⌜ count ≤ mostRows ⌝ }
     ensures { λ r. ⌜ (now (text .exit), r) ≡ said (now (text .entry), at) (lines (labelBy labels (now (bytes .entry))) (wordAt rows) count) ⌝ }
 {
-    let own = sheet::label_parts(bytes);
+    let own = reader::label_parts(bytes);
     let parts = own.parts;
     let mut next = at;
     let mut i: usize = 0;

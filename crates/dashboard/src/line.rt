@@ -2,7 +2,7 @@
 ghost use mathlib.Core.Path.{_≡_};
 ghost use Prim.Native.Nat.{_+_, _≤_};
 ghost use lib.ListN.{length};
-ghost use Rattle.sheet.specs.Answers.{shown, part, labelIn};
+ghost use Rattle.reader.specs.Answers.{shown, part, labelIn};
 ghost use Rattle.bound.specs.Bound.{word};
 ghost use Rattle.dashboard.specs.Words.{told, head, line, ending, refusedBy, noVerdict};
 ghost use Rattle.dashboard.specs.Labels.{labelBy};
@@ -11,7 +11,7 @@ use crate::page::put;
 use crate::page::put_bytes;
 use crate::page::put_number;
 use bound::Result;
-use sheet::Part;
+use reader::Part;
 
 // Where the labels of the rows come from.
 pub enum Labels {

@@ -16,7 +16,7 @@ const FIXED_COUNT: usize = 5;
 pub fn write_verdict(bytes: &[u8], text: &mut [u8]) -> usize
     ensures { λ r. ⌜ (now (text .exit), r) ≡ written (verdictText (now (bytes .entry))) (now (text .entry)) ⌝ }
 {
-    let reading = sheet::read(bytes);
+    let reading = reader::read(bytes);
     let refusal = reading.refusal;
     let sheet = reading.sheet;
     match refusal {

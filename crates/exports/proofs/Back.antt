@@ -18,25 +18,25 @@ use Rattle.basis.specs.Refusals.{Outcome, accepted, refused, orElse}
 use Rattle.basis.specs.Upto.{upto}
 use Rattle.basis.proofs.Words.{lt-or-le, all-true, both-left, both-right}
 use Rattle.basis.proofs.Upto.{upto-below, length-upto}
-use Rattle.sheet.specs.Form.{Held, sheet}
+use Rattle.reader.specs.Form.{Held, sheet}
 use Rattle.sheet.specs.Legal.{legal}
-use Rattle.sheet.specs.Answers.{handed, reading}
+use Rattle.reader.specs.Answers.{handed, reading}
 use Rattle.sheet.specs.declared.row.Sheet.{Sheet}
-use Rattle.sheet.proofs.Accepted.{accepted-is-legal}
+use Rattle.reader.proofs.Accepted.{accepted-is-legal}
 use Rattle.sheet.proofs.Legality.{legal-is}
-use Rattle.sheet.proofs.Reach.{refusal-is-listed}
+use Rattle.reader.proofs.Reach.{refusal-is-listed}
 use Rattle.machine.specs.Checks.{needed}
 use Rattle.machine.specs.States.{noRecord, noState, stateOf, recordAt, isZero, legalState}
 use Rattle.machine.specs.declared.state.RowState.{RowState}
 use Rattle.machine.specs.declared.state.State.{State}
 use Rattle.machine.proofs.Checked.{needed-holds}
 use Rattle.machine.proofs.Legals.{legal-state-is}
-use Rattle.flat.specs.Lists.{numberAt, filled, sheetIn, sheetLong}
+use Rattle.sheet.specs.Lists.{numberAt, filled, sheetIn, sheetLong}
 use Rattle.exports.specs.Lists.{spareAt, pairsLong}
 use Rattle.machine.specs.Lists.{zeroFrom, recordIn, spareIsZero, stateIn, stateCell}
 use Rattle.exports.specs.Answers.{told, roomFor, fieldsIn, readIn}
-use Rattle.flat.proofs.Filling.{filled-read}
-use Rattle.flat.proofs.Back.{sheet-comes-back}
+use Rattle.sheet.proofs.Filling.{filled-read}
+use Rattle.sheet.proofs.Back.{sheet-comes-back}
 use Rattle.exports.proofs.Records.{record-read, spare-room, spare-zero, state-read}
 
 -- a record that is all zero, as a value

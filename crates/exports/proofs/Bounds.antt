@@ -18,7 +18,7 @@ use Rattle.bound.specs.Bound.{Answer, answer, boundsOf, wordIn}
 use Rattle.bound.specs.Test.{passes}
 use Rattle.bound.specs.declared.results.Results.{Results}
 use Rattle.bound.proofs.Answers.{refused-by-10}
-use Rattle.flat.specs.Lists.{filled, sheetIn}
+use Rattle.sheet.specs.Lists.{filled, sheetIn}
 use Rattle.exports.specs.Lists.{resultCell, flag}
 use Rattle.exports.specs.Answers.{resultsIn, boundsIn}
 

@@ -27,7 +27,7 @@ use Rattle.machine.specs.declared.margins.Margin.the-variants as margin-variant
 use Rattle.machine.specs.Answers.{started, fresh, slotted, slot, Course, ran, run, Told, margin}
 use Rattle.machine.specs.Answers as machine-answers
 use Rattle.machine.proofs.Checked.{needed-holds}
-use Rattle.flat.specs.Lists.{filled, sheetIn}
+use Rattle.sheet.specs.Lists.{filled, sheetIn}
 use Rattle.machine.specs.Lists.{stateIn, stateCell, slotListed, slotIn, ranIn, runIn}
 use Rattle.exports.specs.Answers.{told, stateGiven, freshIn, slotGiven, slotOn, runGiven, runOn, marginGiven, marginIn}
 

@@ -19,7 +19,7 @@ use Rattle.machine.specs.declared.state.State.{State}
 use Rattle.bound.specs.Bound.{unreached, wordIn}
 use Rattle.bound.specs.declared.results.Judged.{Judged}
 use Rattle.bound.specs.declared.results.Result.the-variants.{Unreached}
-use Rattle.flat.proofs.Filling.{fill-more}
+use Rattle.sheet.proofs.Filling.{fill-more}
 use Rattle.exports.specs.Lists.{resultCell, pairsLong, wordNumber, boundNumber, pairOf, pairCell}
 use Rattle.machine.specs.Lists.{stateCell}
 

@@ -11,13 +11,13 @@ use mir.Val.{Fits}
 use Rattle.basis.specs.Limits.{mostRows}
 use Rattle.basis.specs.Refusals.{Outcome}
 use Rattle.basis.specs.declared.refusal.Refusal.the-variants.{Accepted, Refused}
-use Rattle.sheet.specs.Answers.{answer, reading, labelIn}
-use Rattle.sheet.specs.declared.labels.Part.{Part}
+use Rattle.reader.specs.Answers.{answer, reading, labelIn}
+use Rattle.reader.specs.declared.labels.Part.{Part}
 use Rattle.sheet.specs.declared.row.Sheet.{Sheet}
-use Rattle.sheet.specs.declared.reader.Reading.{Reading}
+use Rattle.reader.specs.declared.reader.Reading.{Reading}
 use Rattle.sheet.proofs.Legality.{legal-is}
 use Rattle.dashboard.proofs.Reports.{accepted-legal}
-use Rattle.flat.specs.Lists.{filled, sheetCell}
+use Rattle.sheet.specs.Lists.{filled, sheetCell}
 use Rattle.exports.specs.Answers.{fieldsIn, readIn, labelAnswer, labelOutcome, answered}
 
 module _ (s : List ℕ) (r : Reading) (e : answer r ≡ reading s) where

@@ -7,7 +7,7 @@ use lib.ListN.{length}
 use lib.IntN.{ℤ}
 use borrow.Author.Tests.{eq-eqb}
 use Rattle.basis.specs.Refusals.{Outcome, accepted, refused, orElse}
-use Rattle.sheet.specs.Answers.{reading}
+use Rattle.reader.specs.Answers.{reading}
 use Rattle.sheet.specs.declared.row.Sheet.{Sheet}
 use Rattle.bound.specs.Bound.{boundsOf}
 use Rattle.machine.specs.Checks.{checkSlot, checkRun}
@@ -15,7 +15,7 @@ use Rattle.machine.specs.Answers.{Course, Told, no-job, margin-is, refused-by, 
 use Rattle.machine.specs.declared.state.State.{State}
 use Rattle.machine.proofs.Done.{Ends, all-done, stopped-at, run-ends, run-not-begun}
 use Rattle.dashboard.specs.Texts.{verdictText}
-use Rattle.flat.specs.Lists.{sheetIn, sheetLong}
+use Rattle.sheet.specs.Lists.{sheetIn, sheetLong}
 use Rattle.exports.specs.Lists.{pairsLong}
 use Rattle.machine.specs.Lists.{stateIn}
 use Rattle.exports.specs.Answers.{told, roomFor, verdictIn, fieldsIn, readIn, labelOutcome, labelAnswer, resultsIn, boundsIn, stateGiven, freshIn, slotGiven, slotOn, runGiven, runOn, marginGiven, marginIn}

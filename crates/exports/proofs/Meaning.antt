@@ -19,10 +19,10 @@ use Rattle.sheet.proofs.Legality.{legal-is}
 use Rattle.machine.specs.States.{recordAt, isZero, legalState}
 use Rattle.machine.specs.declared.state.RowState.{RowState}
 use Rattle.machine.proofs.Legals.{legal-state-is}
-use Rattle.flat.specs.Lists.{numberAt, rowIn, sheetIn, sheetLong}
+use Rattle.sheet.specs.Lists.{numberAt, rowIn, sheetIn, sheetLong}
 use Rattle.exports.specs.Lists.{spareAt, pairsLong}
 use Rattle.machine.specs.Lists.{zeroFrom, recordIn, spareIsZero, stateIn}
-use Rattle.flat.proofs.Handed.{row-in-sheet}
+use Rattle.sheet.proofs.Handed.{row-in-sheet}
 use Rattle.exports.proofs.Records.{spare-other, record-in-state, record-of-none}
 
 -- a test that cannot hold is false

@@ -17,7 +17,7 @@ use Rattle.basis.proofs.Lists.{getD-all}
 use Rattle.machine.specs.States.{noRecord, noState, stateOf, recordAt}
 use Rattle.machine.specs.declared.state.RowState.{RowState}
 use Rattle.machine.specs.declared.state.State.{State}
-use Rattle.flat.specs.Lists.{numberAt}
+use Rattle.sheet.specs.Lists.{numberAt}
 use Rattle.exports.specs.Lists.{spareAt}
 use Rattle.machine.specs.Lists.{zeroAt, zeroFrom, recordIn, spareIsZero, stateIn, stateCell}
 

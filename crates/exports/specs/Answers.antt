@@ -6,7 +6,7 @@ use lib.IntN.{ℤ}
 use lib.Dec.{ltb, leb, eqb}
 use Rattle.basis.specs.Words.{pick}
 use Rattle.basis.specs.Refusals.{Outcome, accepted, refused, orElse}
-use Rattle.sheet.specs.Answers.{reading, labelIn}
+use Rattle.reader.specs.Answers.{reading, labelIn}
 use Rattle.sheet.specs.declared.row.Sheet.{Sheet}
 use Rattle.bound.specs.Bound.{Answer, boundsOf}
 use Rattle.machine.specs.Checks.{needed}
@@ -14,7 +14,7 @@ use Rattle.machine.specs.Answers.{Course, Told, no-job, margin-is, refused-by, 
 use Rattle.machine.specs.declared.state.State.{State}
 use Rattle.dashboard.specs.Pages.{Page, written}
 use Rattle.dashboard.specs.Texts.{verdictText}
-use Rattle.flat.specs.Lists.{filled, sheetIn, sheetCell, sheetLong}
+use Rattle.sheet.specs.Lists.{filled, sheetIn, sheetCell, sheetLong}
 use Rattle.exports.specs.Lists.{pairsLong, resultCell, flag}
 use Rattle.machine.specs.Lists.{stateIn, stateCell}
 

@@ -1,4 +1,4 @@
--- States and results as lists of plain numbers; a sheet's list is that of crate flat.
+-- States and results as lists of plain numbers; a sheet's list is that of crate sheet.
 use Prim.Native.Nat.{ℕ, _+_, _*_, _/_, _%_}
 use mathlib.Core.Bool.{Bool}
 use mathlib.Core.List.{List}

@@ -4,8 +4,8 @@ ghost use Rattle.exports.specs.Answers.{freshIn, slotOn, runOn, marginIn
 use crate::states::put_state;
 use crate::telling::tell;
 use basis::Refusal;
-use flat::sheet_in;
 use machine::Margin;
+use sheet::sheet_in;
 
 // Writes the fresh state of a sheet into a list.
 #[no_mangle]

@@ -3,14 +3,14 @@ ghost use mathlib.Core.Path.{_≡_};
 ghost use Rattle.exports.specs.Answers.{readIn, labelAnswer};
 use crate::telling::tell;
 use basis::Refusal;
-use flat::put_sheet;
+use sheet::put_sheet;
 
 // Reads a sheet's bytes into a list: processors, rows n, and then of each row threads, separation, deadline and budget.
 #[no_mangle]
 pub extern "C" fn giachimu_read(bytes: &[u8], list: &mut [u64], place: &mut usize) -> u64
     ensures { λ r. ⌜ ((r, now (place .exit)), now (list .exit)) ≡ readIn (now (bytes .entry)) (now (list .entry)) ⌝ }
 {
-    let reading = sheet::read(bytes);
+    let reading = reader::read(bytes);
     let refusal = reading.refusal;
     let sheet = reading.sheet;
     match refusal {
@@ -36,7 +36,7 @@ pub extern "C" fn giachimu_label(
 ) -> u64
     ensures { λ r. ⌜ ((r, now (place .exit)), (now (start .exit), now (long .exit))) ≡ labelAnswer (now (bytes .entry)) row (now (start .entry), now (long .entry)) ⌝ }
 {
-    let reading = sheet::read(bytes);
+    let reading = reader::read(bytes);
     let refusal = reading.refusal;
     let sheet = reading.sheet;
     match refusal {
@@ -45,7 +45,7 @@ pub extern "C" fn giachimu_label(
             if sheet.count as usize <= row {
                 return tell(Refusal::Refused(14, 0), place);
             }
-            let part = sheet::label_part(bytes, row);
+            let part = reader::label_part(bytes, row);
             *start = part.start;
             *long = part.long;
             tell(Refusal::Accepted, place)

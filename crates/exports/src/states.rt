@@ -1,6 +1,6 @@
 // States and results in lists: of each row two numbers.
 ghost use mathlib.Core.Path.{_≡_};
-ghost use Rattle.flat.specs.Lists.{filled};
+ghost use Rattle.sheet.specs.Lists.{filled};
 ghost use Rattle.exports.specs.Lists.{pairOf, pairCell};
 ghost use Rattle.machine.specs.Lists.{stateCell};
 use basis::MOST_ROWS;

@@ -4,11 +4,11 @@ ghost use mathlib.Core.Bool.{true};
 ghost use mathlib.Core.List.{_++_, map};
 ghost use lib.ListN.{length, drop};
 ghost use Prim.Native.Nat.{_≤_};
-ghost use Rattle.sheet.specs.Answers.{reading};
+ghost use Rattle.reader.specs.Answers.{reading};
 ghost use Rattle.bound.specs.Bound.{word, wordIn};
 ghost use Rattle.green.specs.Demand.{NoJobIsLate};
 ghost use Rattle.green.specs.Green.{greenOf};
-ghost use Rattle.flat.specs.Lists.{filled};
+ghost use Rattle.sheet.specs.Lists.{filled};
 ghost use Rattle.exports.specs.Lists.{wordNumber, boundNumber, resultCell, flag};
 ghost use Rattle.exports.specs.Answers.{verdictIn, boundsIn};
 use crate::states::pair_cell;
@@ -17,7 +17,7 @@ use crate::telling::tell;
 use basis::Refusal;
 use bound::Result;
 use bound::Results;
-use flat::sheet_in;
+use sheet::sheet_in;
 
 // Copies a text to the start of a buffer.
 fn copy(text: &[u8], buffer: &mut [u8])

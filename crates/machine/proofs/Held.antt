@@ -19,8 +19,8 @@ use Rattle.sheet.specs.Legal.{rowAt, legal}
 use Rattle.sheet.specs.declared.row.Row.{Row}
 use Rattle.sheet.specs.declared.row.Sheet.{Sheet}
 use Rattle.sheet.proofs.Legality.{legal-is}
-use Rattle.flat.specs.Lists.{numberAt}
-use Rattle.flat.proofs.Legality.{not-so}
+use Rattle.sheet.specs.Lists.{numberAt}
+use Rattle.sheet.proofs.Ranges.{not-so}
 use Rattle.machine.specs.declared.state.RowState.{RowState}
 use Rattle.machine.specs.declared.state.State.{State}
 use Rattle.machine.specs.States.{recordAt, isZero, legalRecord, legalState}

@@ -12,8 +12,8 @@ use Rattle.basis.specs.Refusals.{Outcome, outcome}
 use Rattle.basis.specs.Upto.{upto}
 use Rattle.basis.proofs.Upto.{upto-set, upto-below, length-upto}
 use Rattle.sheet.specs.declared.row.Sheet.{Sheet}
-use Rattle.flat.specs.Lists.{filled, sheetIn, sheetCell, sheetLong}
-use Rattle.flat.proofs.Back.{whole-sheet-comes-back}
+use Rattle.sheet.specs.Lists.{filled, sheetIn, sheetCell, sheetLong}
+use Rattle.sheet.proofs.Back.{whole-sheet-comes-back}
 use Rattle.machine.specs.declared.state.RowState.{RowState}
 use Rattle.machine.specs.declared.state.State.{State}
 use Rattle.machine.specs.declared.places.Done.{Done}

@@ -8,7 +8,7 @@ use Rattle.basis.specs.Refusals.{Outcome}
 use Rattle.basis.specs.declared.refusal.Refusal.{Refusal}
 use Rattle.basis.proofs.Refusals.{outcome-one-to-one}
 use Rattle.sheet.specs.declared.row.Sheet.{Sheet}
-use Rattle.flat.specs.Lists.{sheetIn}
+use Rattle.sheet.specs.Lists.{sheetIn}
 use Rattle.machine.specs.declared.state.State.{State}
 use Rattle.machine.specs.declared.start.Started.{Started}
 use Rattle.machine.specs.declared.slots.Slotted.{Slotted}

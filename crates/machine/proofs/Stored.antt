@@ -18,8 +18,8 @@ use Rattle.basis.specs.Upto.{upto}
 use Rattle.basis.proofs.Words.{lt-or-le, all-at, all-same, all-true}
 use Rattle.basis.proofs.Upto.{upto-below, upto-past, length-upto}
 use Rattle.basis.proofs.Lists.{getD-all}
-use Rattle.flat.specs.Lists.{numberAt, filled}
-use Rattle.flat.proofs.Filling.{length-filled}
+use Rattle.sheet.specs.Lists.{numberAt, filled}
+use Rattle.sheet.proofs.Filling.{length-filled}
 use Rattle.machine.specs.declared.state.RowState.{RowState}
 use Rattle.machine.specs.declared.state.State.{State}
 use Rattle.machine.specs.States.{noRecord, noState, stateOf, recordAt}

@@ -27,8 +27,8 @@ use Rattle.machine.specs.States.{recordAt, legalState}
 use Rattle.machine.specs.Checks.{checkState, checkMargin}
 use Rattle.machine.specs.Answers.{Told, no-job, margin-is, refused-by, marginOf, marginAt, margin}
 use Rattle.machine.specs.Lists.{recordIn, stateLong, stateIn}
-use Rattle.flat.specs.Lists.{sheetIn, sheetLong}
-use Rattle.flat.proofs.Legality.{legal-sheet-long}
+use Rattle.sheet.specs.Lists.{sheetIn, sheetLong}
+use Rattle.sheet.proofs.Ranges.{legal-sheet-long}
 use Rattle.machine.proofs.Held.{kept-long, kept-record}
 use Rattle.machine.proofs.Checked.{needed-holds, ready}
 use Rattle.machine.proofs.Differences.{themselves, difference-fits, less-twice}

@@ -1,4 +1,4 @@
--- States as lists of plain numbers, of each row remaining and since; a sheet's list is that of crate flat.
+-- States as lists of plain numbers, of each row remaining and since; a sheet's list is that of crate sheet.
 use Prim.Native.Nat.{ℕ, zero, suc, _+_, _*_, _/_, _%_}
 use mathlib.Core.Bool.{Bool, true}
 use mathlib.Core.List.{List}
@@ -8,7 +8,7 @@ use Rattle.basis.specs.Limits.{mostRows}
 use Rattle.basis.specs.Words.{pick, allOf}
 use Rattle.basis.specs.Refusals.{Outcome, outcome}
 use Rattle.basis.specs.Upto.{upto}
-use Rattle.flat.specs.Lists.{numberAt, filled}
+use Rattle.sheet.specs.Lists.{numberAt, filled}
 use Rattle.sheet.specs.declared.row.Sheet.{Sheet}
 use Rattle.machine.specs.declared.state.RowState.{RowState}
 use Rattle.machine.specs.declared.state.State.{State}

@@ -6,7 +6,7 @@ ghost use lib.ListN.{length};
 ghost use Rattle.basis.specs.Limits.{mostRows};
 ghost use Rattle.basis.specs.Refusals.{accepted, outcome};
 ghost use Rattle.sheet.specs.Legal.{rowAt, legal};
-ghost use Rattle.flat.specs.Lists.{sheetIn, sheetLong};
+ghost use Rattle.sheet.specs.Lists.{sheetIn, sheetLong};
 ghost use Rattle.machine.specs.States.{legalState};
 ghost use Rattle.machine.specs.Slot.{next};
 ghost use Rattle.machine.specs.Checks.{checkRow, checkReleases, checkState, checkSlot, checkRun};
@@ -31,7 +31,7 @@ fn check_in(sheet: &[u64], list: &[u64], release: u64, place: usize) -> Refusal
     if release == 0 {
         return Refusal::Accepted;
     }
-    let row = flat::row_inside(sheet, place);
+    let row = sheet::row_inside(sheet, place);
     let s = record_in(list, place);
     check_row(row, s, release, place)
 }
@@ -59,7 +59,7 @@ fn step_row(sheet: &[u64], list: &mut [u64], k: usize, release: u64, free: u64) 
     ensures { λ r. ⌜ (r ≡ steppedRow (rowAt (sheetIn (now (sheet .entry))) k) (recordIn (now (list .entry)) k) release free)
         × (now (list .exit) ≡ putRecord (now (list .entry)) k (r .after)) ⌝ }
 {
-    let row = flat::row_inside(sheet, k);
+    let row = sheet::row_inside(sheet, k);
     let s = record_in(list, k);
     let stepped = s.stepped(row, release, free);
     let after = stepped.after;
@@ -145,7 +145,7 @@ fn run_part(
 pub(crate) fn check_state_in(sheet: &[u64], list: &[u64]) -> Refusal
     ensures { λ r. ⌜ outcome r ≡ checkState (sheetIn (now (sheet .entry))) (stateIn (now (list .entry))) ⌝ }
 {
-    let sheet_fine = flat::is_legal(sheet);
+    let sheet_fine = sheet::is_legal_in(sheet);
     if sheet_fine {
         let n = rows_in(sheet);
         let state_fine = is_legal_in(sheet, list, n);

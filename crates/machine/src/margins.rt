@@ -3,7 +3,7 @@ ghost use mathlib.Core.Path.{_≡_};
 ghost use Prim.Native.Nat.{_≤_};
 ghost use Rattle.basis.specs.Limits.{mostSeparation};
 ghost use Rattle.basis.specs.Refusals.{outcome};
-ghost use Rattle.flat.specs.Lists.{sheetIn};
+ghost use Rattle.sheet.specs.Lists.{sheetIn};
 ghost use Rattle.machine.specs.Checks.{checkMargin};
 ghost use Rattle.machine.specs.Lists.{stateIn};
 ghost use Rattle.machine.specs.Answers.{told, marginAt, margin};
@@ -67,7 +67,7 @@ pub fn margin_on(sheet: &[u64], list: &[u64], row: usize) -> Margin
     match refusal {
         Refusal::Refused(number, place) => Margin::Refused(number, place),
         Refusal::Accepted => {
-            let numbers = flat::row_inside(sheet, row);
+            let numbers = sheet::row_inside(sheet, row);
             let s = record_in(list, row);
             margin_of(numbers, s)
         }

@@ -5,7 +5,7 @@ ghost use Prim.Native.Nat.{_+_, _*_, _<_, _≤_};
 ghost use lib.ListN.{length};
 ghost use Rattle.basis.specs.Limits.{mostRows};
 ghost use Rattle.sheet.specs.Legal.{legal};
-ghost use Rattle.flat.specs.Lists.{sheetIn};
+ghost use Rattle.sheet.specs.Lists.{sheetIn};
 ghost use Rattle.machine.specs.States.{legalState};
 ghost use Rattle.machine.specs.Lists.{recordWide, recordIn, putRecord, stateLong, zeroFrom, stateIn};
 use crate::start::zeros;
@@ -83,7 +83,7 @@ pub(crate) fn is_legal_in(sheet: &[u64], list: &[u64], n: usize) -> bool
     }
     let mut i: usize = 0;
     while i < n {
-        let row = flat::row_inside(sheet, i);
+        let row = sheet::row_inside(sheet, i);
         let s = record_in(list, i);
         let fine = is_legal_record(row, s);
         if fine {

@@ -63,7 +63,7 @@ pub(crate) fn answer_label(case: &[u8], page: &mut [u8]) -> bool {
     let mut place: usize = 7;
     let number = exports::giachimu_label(bytes, row, &mut start, &mut long, &mut place);
     let words = [number, place as u64, start as u64, long as u64];
-    reply(page, words, 4, sheet::label(bytes, row))
+    reply(page, words, 4, reader::label(bytes, row))
 }
 
 // The verdict's text in a part of a room.

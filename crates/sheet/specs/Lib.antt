@@ -1,6 +1,3 @@
-pub mod Form
 pub mod Legal
-pub mod Answers
-pub mod Longest
-pub mod Cases
-pub mod Steps
+pub mod Values
+pub mod Lists

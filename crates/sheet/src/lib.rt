@@ -1,18 +1,20 @@
-// A sheet: its rows, its reader, the label of a row, and the check of its ranges.
-mod head;
-mod labels;
+// A sheet: its rows, the check of its ranges, and the list of plain numbers that hands it over: processors, rows n, and then of each row threads, separation, deadline and budget.
+mod inside;
 mod legal;
-mod reader;
+mod reading;
 mod row;
+mod writing;
 
-pub use labels::Part;
-pub use labels::Parts;
-pub use labels::label;
-pub use labels::label_part;
-pub use labels::label_parts;
+pub use inside::count;
+pub use inside::processors;
+pub use inside::row_inside;
 pub use legal::is_legal;
+pub use legal::is_legal_in;
 pub use legal::is_legal_row;
-pub use reader::Reading;
-pub use reader::read;
+pub use reading::number_at;
+pub use reading::row_at;
+pub use reading::sheet_in;
 pub use row::Row;
 pub use row::Sheet;
+pub use writing::SHEET_LONG;
+pub use writing::put_sheet;

@@ -1,15 +1,5 @@
-// A row of a sheet, and reading one.
-ghost use mathlib.Core.Path.{_≡_};
-ghost use Prim.Native.Nat.{_-_, _≤_};
-ghost use lib.ListN.{length};
-ghost use Rattle.basis.specs.Readers.{told};
-ghost use Rattle.numbers.specs.Numbers.{step};
-ghost use Rattle.sheet.specs.Form.{rowOf, plain, label, entry};
-ghost use Rattle.sheet.specs.Steps.{passedStep, rowStep, nothing};
-use basis::LONGEST_LABEL;
+// A row of a sheet, and a sheet by value.
 use basis::MOST_ROWS;
-use basis::MOST_SEPARATION;
-use numbers::Number;
 
 pub struct Row {
     pub threads: u64,
@@ -22,84 +12,4 @@ pub struct Sheet {
     pub processors: u64,
     pub count: u64,
     pub rows: [Row; MOST_ROWS],
-}
-
-// What passing over some bytes gives: the place after them, or a refusal's number and place.
-pub enum Passed {
-    To(usize),
-    Refused(u64, usize),
-}
-
-// What reading a row gives: the row and the place after it, or a refusal's number and place.
-pub enum RowRead {
-    Is(Row, usize),
-    Refused(u64, usize),
-}
-
-// The bytes of a label, from a place to its end.
-pub(crate) fn read_plain(bytes: &[u8], at: usize, end: usize) -> Passed
-    requires { ⌜ (at ≤ end) × (end ≤ length (now bytes)) ⌝ }
-    ensures { λ r. ⌜ passedStep r ≡ told nothing (plain (end - at) (now (bytes .entry)) at) ⌝ }
-{
-    let mut i = at;
-    while i < end {
-        let b = bytes[i];
-        if b < 0x21 {
-            return Passed::Refused(6, i);
-        }
-        if 0x7E < b {
-            return Passed::Refused(6, i);
-        }
-        i = i + 1;
-    }
-    Passed::To(end)
-}
-
-// The label at a place: its length, and the place after it.
-pub(crate) fn read_label(bytes: &[u8], at: usize) -> Number
-    ensures { λ r. ⌜ step r ≡ told length (label (now (bytes .entry)) at) ⌝ }
-{
-    match numbers::read_up_to(bytes, at, LONGEST_LABEL, 6, 6) {
-        Number::Refused(k, p) => Number::Refused(k, p),
-        Number::Is(count, start) => {
-            let end = start + count as usize;
-            if bytes.len() < end {
-                return Number::Refused(2, bytes.len());
-            }
-            match read_plain(bytes, start, end) {
-                Passed::Refused(k, p) => Number::Refused(k, p),
-                Passed::To(next) => Number::Is(count, next),
-            }
-        }
-    }
-}
-
-// The row at a place, on so many processors.
-pub(crate) fn read_row(bytes: &[u8], at: usize, processors: u64) -> RowRead
-    ensures { λ r. ⌜ rowStep r ≡ told rowOf (entry processors (now (bytes .entry)) at) ⌝ }
-{
-    match read_label(bytes, at) {
-        Number::Refused(k, p) => RowRead::Refused(k, p),
-        Number::Is(_, a) => match numbers::read_up_to(bytes, a, processors, 7, 8) {
-            Number::Refused(k, p) => RowRead::Refused(k, p),
-            Number::Is(threads, b) => match numbers::read_up_to(bytes, b, MOST_SEPARATION, 7, 8) {
-                Number::Refused(k, p) => RowRead::Refused(k, p),
-                Number::Is(separation, d) => match numbers::read_up_to(bytes, d, separation, 7, 8) {
-                    Number::Refused(k, p) => RowRead::Refused(k, p),
-                    Number::Is(deadline, e) => match numbers::read_up_to(bytes, e, deadline, 7, 8) {
-                        Number::Refused(k, p) => RowRead::Refused(k, p),
-                        Number::Is(budget, f) => RowRead::Is(
-                            Row {
-                                threads,
-                                separation,
-                                deadline,
-                                budget,
-                            },
-                            f,
-                        ),
-                    },
-                },
-            },
-        },
-    }
 }

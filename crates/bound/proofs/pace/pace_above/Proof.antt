@@ -1,7 +1,7 @@
 -- `pace_above` is a pace of the sum: the loop has that of the first i rows. Assumes nothing.
 use borrow.Author.Needs.{needs}
 use Prim.Native.Nat.{_≤_, _-_}
-use Rattle.flat.specs.Lists.{sheetIn}
+use Rattle.sheet.specs.Lists.{sheetIn}
 use Rattle.bound.specs.Ready.{heldIn}
 use Rattle.bound.specs.Skipping.{Paces}
 use Rattle.bound.proofs.Amounts.{row-above, capped-small}

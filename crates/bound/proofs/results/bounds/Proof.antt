@@ -1,6 +1,6 @@
 -- `bounds` meets its promise, by the check of the ranges: the sheet comes back from the list that it is put into. Assumes nothing.
 use borrow.Author.Needs.{needs}
-use Rattle.flat.proofs.Cells.{unmapped}
+use Rattle.sheet.proofs.Cells.{unmapped}
 use Rattle.bound.proofs.Rows.{list-legal, answered, not-answered}
 use Rattle.bound.proofs.results.bounds.Statement.{statement}
 use Rattle.bound.proofs.results.bounds.Tie as tie

@@ -6,7 +6,7 @@ use mathlib.Core.List.{map}
 use lib.ListN.{length}
 use Rattle.basis.specs.Limits.{mostRows}
 use Rattle.basis.specs.Upto.{upto}
-use Rattle.flat.specs.Lists.{sheetIn}
+use Rattle.sheet.specs.Lists.{sheetIn}
 use Rattle.bound.specs.Test.{passes}
 use Rattle.bound.specs.Bound.{wordIn, resultOf, allUnreached}
 use Rattle.bound.specs.Ready.{SoFar}

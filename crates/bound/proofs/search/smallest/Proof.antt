@@ -4,7 +4,7 @@ use Prim.Native.Nat.{_≤_, _-_, _+_}
 use native.Mathlib.Nat.{le-of-lt}
 use mathlib.Core.Path.{_≡_}
 use Rattle.sheet.specs.Legal.{rowAt}
-use Rattle.flat.specs.Lists.{sheetIn}
+use Rattle.sheet.specs.Lists.{sheetIn}
 use Rattle.bound.specs.Test.{passes}
 use Rattle.bound.specs.Bound.{least, passesAt, boundBy}
 use Rattle.bound.specs.Ready.{heldIn}

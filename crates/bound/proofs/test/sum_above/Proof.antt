@@ -3,7 +3,7 @@ use borrow.Author.Needs.{needs}
 use Prim.Native.Nat.{_≤_, _-_}
 use mathlib.Core.Path.{_≡_}
 use Rattle.bound.specs.Test.{amounts}
-use Rattle.flat.specs.Lists.{sheetIn}
+use Rattle.sheet.specs.Lists.{sheetIn}
 use Rattle.bound.specs.Ready.{heldIn}
 use Rattle.bound.proofs.Amounts.{row-above, window-small, busy-small, sum-none, sum-fits, sum-more, sum-done}
 use Rattle.bound.proofs.test.sum_above.Statement.{statement}

@@ -3,7 +3,7 @@ use Prim.Native.Nat.{_≤_, _-_}
 use mathlib.Core.Path.{_≡_}
 use borrow.Author.Needs.{needs}
 use lib.ListN.{length}
-use Rattle.sheet.specs.Answers.{labelsIn}
+use Rattle.reader.specs.Answers.{labelsIn}
 use Rattle.dashboard.specs.Texts.{lines}
 use Rattle.dashboard.specs.Labels.{labelBy, wordAt}
 use Rattle.dashboard.specs.Pages.{said}

@@ -1,6 +1,6 @@
 -- `put_label` meets its promise: the sheet's own label, or the bytes and the row number. Assumes nothing.
 use borrow.Author.Needs.{needs}
-use Rattle.sheet.proofs.Shown.{part-fits}
+use Rattle.reader.proofs.Shown.{part-fits}
 use Rattle.dashboard.proofs.Boards.{own-said, numbered-said}
 use Rattle.dashboard.proofs.line.put_label.Statement.{statement}
 use Rattle.dashboard.proofs.line.put_label.Tie as tie

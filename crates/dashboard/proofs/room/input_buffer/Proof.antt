@@ -1,7 +1,7 @@
 -- `input_buffer` meets its promise: its size is computed from the limits. Assumes nothing.
 use mathlib.Core.Path.{refl}
 use Rattle.numbers.specs.Numbers.{spelt, width}
-use Rattle.sheet.specs.Longest.{longestRow, longestSheet}
+use Rattle.reader.specs.Longest.{longestRow, longestSheet}
 use Rattle.dashboard.specs.Longest.{inputSize}
 use Rattle.dashboard.proofs.room.input_buffer.Statement.{statement}
 use Rattle.dashboard.proofs.room.input_buffer.Tie as tie

@@ -4,8 +4,8 @@ use Prim.Native.Nat.{_≤_, _-_}
 use mathlib.Core.Path.{_≡_}
 use lib.ListN.{length}
 use Rattle.basis.specs.Upto.{upto}
-use Rattle.flat.proofs.Filling.{fill-none, fill-done}
-use Rattle.flat.proofs.Cells.{unmapped}
+use Rattle.sheet.proofs.Filling.{fill-none, fill-done}
+use Rattle.sheet.proofs.Cells.{unmapped}
 use Rattle.machine.specs.Lists.{stateCell}
 use Rattle.exports.proofs.Cells.{pair-there, state-stored}
 use Rattle.exports.proofs.states.put_state.Statement.{statement}

@@ -6,8 +6,8 @@ use mathlib.Core.List.{map}
 use lib.ListN.{length}
 use Rattle.basis.specs.Upto.{upto}
 use Rattle.bound.specs.Bound.{wordIn}
-use Rattle.flat.proofs.Filling.{fill-none, fill-done}
-use Rattle.flat.proofs.Cells.{unmapped}
+use Rattle.sheet.proofs.Filling.{fill-none, fill-done}
+use Rattle.sheet.proofs.Cells.{unmapped}
 use Rattle.exports.specs.Lists.{resultCell}
 use Rattle.exports.proofs.Cells.{pair-there, result-stored}
 use Rattle.exports.proofs.verdicts.put_results.Statement.{statement}

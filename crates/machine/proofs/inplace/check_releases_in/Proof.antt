@@ -6,8 +6,8 @@ use lib.ListN.{length}
 use Rattle.basis.specs.Limits.{mostRows}
 use Rattle.basis.specs.Refusals.{accepted, firstOf}
 use Rattle.sheet.specs.Legal.{legal}
-use Rattle.flat.specs.Lists.{sheetIn, sheetLong}
-use Rattle.flat.proofs.Legality.{legal-sheet-long}
+use Rattle.sheet.specs.Lists.{sheetIn, sheetLong}
+use Rattle.sheet.proofs.Ranges.{legal-sheet-long}
 use Rattle.machine.specs.States.{legalState}
 use Rattle.machine.specs.Checks.{checkAt}
 use Rattle.machine.specs.Lists.{stateLong, stateIn}

@@ -5,7 +5,7 @@ use mathlib.Core.Bool.{true}
 use lib.ListN.{length}
 use Rattle.basis.specs.Refusals.{accepted}
 use Rattle.sheet.specs.Legal.{legal}
-use Rattle.flat.specs.Lists.{sheetIn}
+use Rattle.sheet.specs.Lists.{sheetIn}
 use Rattle.machine.specs.States.{legalState}
 use Rattle.machine.specs.Answers.{notBegun, course}
 use Rattle.machine.specs.Lists.{stateIn}

@@ -1,0 +1,39 @@
+-- Equal answers of the reader and of the labels.
+-- Assumes nothing.
+use Prim.Native.Nat.{ℕ}
+use mathlib.Core.Path.{_≡_, sym, ap, ap₂, _∙_}
+use mathlib.Core.List.{List}
+use denote.Ref.{RefT}
+use Rattle.basis.specs.Refusals.{Outcome}
+use Rattle.basis.specs.declared.refusal.Refusal.{Refusal}
+use Rattle.basis.proofs.Refusals.{outcome-one-to-one}
+use Rattle.reader.specs.Answers.{answer, reading, shown, part, labelIn, labelsIn}
+use Rattle.reader.specs.declared.labels.Part.{Part}
+use Rattle.reader.specs.declared.labels.Parts.{Parts}
+use Rattle.sheet.specs.declared.row.Sheet.{Sheet}
+use Rattle.reader.specs.declared.reader.Reading.{Reading}
+
+-- an answer stands for one value of the code
+pub answer-one-to-one : (a b : Reading) → answer a ≡ answer b → a ≡ b
+answer-one-to-one a b e =
+    ap₂ (λ (r : Refusal) (h : Sheet). record { refusal = r; sheet = h })
+    (outcome-one-to-one (a .refusal) (b .refusal) (ap (λ (x : Outcome × Sheet). x .0) e))
+    (ap (λ (x : Outcome × Sheet). x .1) e)
+
+-- `read`
+pub read-same : (s : List ℕ) (a b : Reading) → answer a ≡ reading s → answer b ≡ reading s → a ≡ b
+read-same s a b e f = answer-one-to-one a b (e ∙ sym f)
+
+-- `label`: the same place in memory, and the same bytes
+pub label-same : (s : RefT (List ℕ)) (i : ℕ) (a b : RefT (List ℕ)) → shown a ≡ part s (labelIn (s .now) i) → shown b ≡ part s (labelIn (s .now) i) → (a .ptr ≡ b .ptr) × (a .now ≡ b .now)
+label-same s i a b e f =
+    let g = e ∙ sym f in
+    (ap (λ (x : (ℕ × ℕ) × List ℕ). x .0) g, ap (λ (x : (ℕ × ℕ) × List ℕ). x .1) g)
+
+-- of the part that is a label
+pub label-part-same : (s : List ℕ) (i : ℕ) (a b : Part) → a ≡ labelIn s i → b ≡ labelIn s i → a ≡ b
+label-part-same s i a b e f = e ∙ sym f
+
+-- `label_parts`
+pub label-parts-same : (s : List ℕ) (a b : Parts) → a .parts ≡ labelsIn s → b .parts ≡ labelsIn s → a ≡ b
+label-parts-same s a b e f = ap (λ (l : List Part). record { parts = l }) (e ∙ sym f)

@@ -1,0 +1,91 @@
+-- What stands before the rows: each way out of the function that reads it, and what follows it in a whole sheet.
+-- Assumes nothing.
+use Prim.Native.Nat.{ℕ, _≤_}
+use mathlib.Core.Path.{_≡_, sym, ap, ap₂, _∙_}
+use mathlib.Core.List.{List}
+use mathlib.Core.Bool.{Bool, true, false}
+use Rattle.basis.specs.Limits.{longestLabel, mostProcessors, mostRows}
+use Rattle.basis.specs.Readers.{ok, refuse, begins, marked, told}
+use Rattle.basis.proofs.Steps.{got, after-ok, ok-same, marked-ok, told-ok, told-no}
+use Rattle.numbers.specs.Numbers.{step, upTo}
+use Rattle.numbers.specs.declared.number.Number.{Number}
+use Rattle.numbers.specs.declared.number.Number.the-variants.{Is, Refused}
+use Rattle.numbers.proofs.Bounds.{bounded}
+use Rattle.reader.specs.Form.{Head, markBytes, entries, body, head, sheet, labelHead}
+use Rattle.reader.specs.Steps.{passedStep, headStep, nothing}
+use Rattle.reader.specs.Answers.{answer, handed, reading}
+use Rattle.reader.specs.declared.head.HeadRead.{HeadRead}
+use Rattle.reader.specs.declared.head.HeadRead.the-variants as head-variants
+use Rattle.reader.specs.declared.reader.Reading.{Reading}
+use Rattle.reader.specs.declared.row.Passed.{Passed}
+use Rattle.reader.specs.declared.row.Passed.the-variants as passed-variants
+
+-- the ways out of `read_head`
+module _ (s : List ℕ) (b : Bool) (e : b ≡ begins markBytes s) where
+  pub head-unmarked : b ≡ false → refuse 1 0 ≡ head s 0
+  unfolding head
+  head-unmarked q = simp (sym e ∙ q)
+
+  module _ (q : b ≡ true) (r : Number) (m : step r ≡ upTo mostProcessors 4 4 s 4) where
+    pub head-no-processors : (k p : ℕ) → r ≡ Refused k p → refuse k p ≡ head s 0
+    unfolding head
+    head-no-processors k p g = simp (sym e ∙ q, got step m g)
+
+    module _ (v a : ℕ) (g : r ≡ Is v a) (r₂ : Number) (n : step r₂ ≡ upTo mostRows 5 5 s a) where
+      pub head-no-count : (k p : ℕ) → r₂ ≡ Refused k p → refuse k p ≡ head s 0
+      unfolding head
+      head-no-count k p g₂ = simp (sym e ∙ q, got step m g, got step n g₂)
+
+      pub head-whole : (c z : ℕ) → r₂ ≡ Is c z → ok (record { processors = v; count = c }) z ≡ head s 0
+      unfolding head
+      head-whole c z g₂ = simp (sym e ∙ q, got step m g, got step n g₂)
+
+-- what is known where it is accepted
+pub record Headed (s : List ℕ) (h : Head) (n : ℕ) : Type 0 where
+  pub is-marked : begins markBytes s ≡ true
+  pub from : ℕ
+  pub processors : upTo mostProcessors 4 4 s 4 ≡ ok (h .processors) from
+  pub count : upTo mostRows 5 5 s from ≡ ok (h .count) n
+
+pub headed : (s : List ℕ) (h : Head) (n : ℕ) → head s 0 ≡ ok h n → Headed s h n
+unfolding head
+headed s h n e =
+    after-ok (marked markBytes s 0) _ e λ u z m₁ m₂.
+    let (is, ez) = marked-ok markBytes s 0 u z m₁ in
+    after-ok (upTo mostProcessors 4 4 s z) _ m₂ λ m a e₁ e₂.
+    after-ok (upTo mostRows 5 5 s a) _ e₂ λ k b e₃ e₄.
+    let (same, eb) = ok-same e₄ in
+    record {
+      is-marked = is;
+      from = a;
+      processors = ap (upTo mostProcessors 4 4 s) ez ∙ e₁ ∙ ap (λ (x : Head). ok (x .processors) a) same;
+      count = e₃ ∙ ap₂ (λ (x : Head) (y : ℕ). ok (x .count) y) same eb;
+    }
+
+-- the ways out of `read` and of `find_label`, where the answer is r
+module _ (s : List ℕ) (r : HeadRead) (e : headStep r ≡ head s 0) where
+  module _ (k p : ℕ) (g : r ≡ head-variants.Refused k p) where
+    pub sheet-no-head : (a : Reading) → answer a ≡ handed (refuse k p) → answer a ≡ reading s
+    unfolding sheet
+    sheet-no-head a h = simp (got headStep e g) h
+
+    pub label-no-head : (i : ℕ) → refuse k p ≡ labelHead i s 0
+    unfolding labelHead
+    label-no-head i = simp (got headStep e g)
+
+  module _ (m n z : ℕ) (g : r ≡ head-variants.Is m n z) where
+    pub few-rows : n ≤ mostRows
+    few-rows = bounded mostRows 5 5 _ _ _ _ (headed s _ z (got headStep e g) .count) .not-over
+
+    pub sheet-body : (a : Reading) → answer a ≡ handed (body m n s z) → answer a ≡ reading s
+    unfolding sheet
+    sheet-body a h = simp (got headStep e g) h
+
+    module _ (i : ℕ) (x : Passed) (h : passedStep x ≡ told nothing (entries m i s z)) where
+      pub label-no-rows : (k p : ℕ) → x ≡ passed-variants.Refused k p → refuse k p ≡ labelHead i s 0
+      unfolding labelHead
+      label-no-rows k p q = simp (got headStep e g, told-no nothing (entries m i s z) (got passedStep h q))
+
+      pub label-after : (d : ℕ) → x ≡ passed-variants.To d → (y : Number) → step y ≡ upTo longestLabel 6 6 s d → step y ≡ labelHead i s 0
+      unfolding labelHead
+      label-after d q y l = simp (got headStep e g, told-ok nothing (entries m i s z) (got passedStep h q) .1) l

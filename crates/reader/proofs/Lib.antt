@@ -1,0 +1,13 @@
+pub mod Accepted
+pub mod Answered
+pub mod Cases
+pub mod Entries
+pub mod Found
+pub mod Heads
+pub mod Labelled
+pub mod Naming
+pub mod Plain
+pub mod Reach
+pub mod Rows
+pub mod Shown
+pub mod Skips

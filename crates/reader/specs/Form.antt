@@ -1,0 +1,107 @@
+-- The form of a sheet, read from left to right: the first fault decides.
+use Prim.Native.Nat.{ℕ, zero, suc}
+use mathlib.Core.List.{List, [], _∷_}
+use mathlib.Core.Bool.{Bool}
+use Rattle.basis.specs.Limits.{mostProcessors, mostRows, longestLabel, mostSeparation}
+use Rattle.basis.specs.Words.{pick, within}
+use Rattle.basis.specs.Readers.{Step, ok, refuse, Reader, _>>=_, _>>_, give, refuse-at, here, byte, enough, end, marked}
+use Rattle.numbers.specs.Numbers.{upTo}
+use Rattle.sheet.specs.declared.row.Row.{Row}
+
+-- A row with its label.
+pub record Entry : Type 0 where
+  pub label : List ℕ
+  pub row : Row
+
+-- The row of an entry.
+abbrev pub rowOf : Entry → Row
+rowOf e = e .row
+
+-- What a sheet holds.
+pub record Held : Type 0 where
+  pub processors : ℕ
+  pub entries : List Entry
+
+-- The four fixed bytes of the mark.
+abbrev pub markBytes : List ℕ
+markBytes = 0x47 ∷ 0x53 ∷ 0x48 ∷ 0x01 ∷ []
+
+-- A byte that a label may have.
+abbrev pub isPlain : ℕ → Bool
+isPlain b = within 0x21 0x7E b
+
+-- k bytes of a label; 6 at the first that is out of range.
+unfoldable pub plain : ℕ → Reader (List ℕ)
+plain zero = give []
+plain (suc k) = do
+  place ← here
+  b ← byte
+  pick (isPlain b)
+      (do
+        bs ← plain k
+        give (b ∷ bs))
+      (refuse-at 6 place)
+
+-- A label: its length, enough bytes, each byte.
+unfoldable pub label : Reader (List ℕ)
+label = do
+  k ← upTo longestLabel 6 6
+  enough k
+  plain k
+
+-- A row on m processors: label, threads, separation, deadline, budget.
+unfoldable pub entry : ℕ → Reader Entry
+entry m = do
+  l ← label
+  t ← upTo m 7 8
+  T ← upTo mostSeparation 7 8
+  D ← upTo T 7 8
+  C ← upTo D 7 8
+  give (record { label = l; row = record { threads = t; separation = T; deadline = D; budget = C } })
+
+-- n rows.
+unfoldable pub entries : ℕ → ℕ → Reader (List Entry)
+entries m zero = give []
+entries m (suc n) = do
+  e ← entry m
+  es ← entries m n
+  give (e ∷ es)
+
+-- n rows, and nothing after them.
+unfoldable pub body : ℕ → ℕ → Reader Held
+body m n = do
+  es ← entries m n
+  end
+  give (record { processors = m; entries = es })
+
+-- What stands before the rows.
+pub record Head : Type 0 where
+  pub processors : ℕ
+  pub count : ℕ
+
+-- The mark, processors m, rows n.
+unfoldable pub head : Reader Head
+head = do
+  marked markBytes
+  m ← upTo mostProcessors 4 4
+  n ← upTo mostRows 5 5
+  give (record { processors = m; count = n })
+
+-- A whole sheet.
+unfoldable pub sheet : Reader Held
+sheet = do
+  h ← head
+  body (h .processors) (h .count)
+
+-- The length of row i's label, before its first byte: what stands after the rows above it.
+unfoldable pub labelHead : ℕ → Reader ℕ
+labelHead i = do
+  h ← head
+  entries (h .processors) i
+  upTo longestLabel 6 6
+
+-- The length of row i's label, where the rows on m processors begin here.
+unfoldable pub labelFrom : ℕ → ℕ → Reader ℕ
+labelFrom m i = do
+  entries m i
+  upTo longestLabel 6 6

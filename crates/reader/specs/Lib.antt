@@ -1,0 +1,5 @@
+pub mod Form
+pub mod Answers
+pub mod Longest
+pub mod Cases
+pub mod Steps

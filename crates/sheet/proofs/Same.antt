@@ -1,0 +1,28 @@
+-- Two answers that a promise allows are equal.
+-- Assumes nothing.
+use Prim.Native.Nat.{ℕ}
+use mathlib.Core.Path.{_≡_, sym, _∙_}
+use mathlib.Core.List.{List}
+use Rattle.sheet.specs.Legal.{rowAt}
+use Rattle.sheet.specs.declared.row.Row.{Row}
+use Rattle.sheet.specs.declared.row.Sheet.{Sheet}
+use Rattle.sheet.specs.Lists.{numberAt, filled, sheetIn, sheetCell}
+
+pub number-at-same : (l : List ℕ) (i r r′ : ℕ) → r ≡ numberAt l i → r′ ≡ numberAt l i → r ≡ r′
+number-at-same l i r r′ e e′ = e ∙ sym e′
+
+pub processors-same : (l : List ℕ) (r r′ : ℕ) → r ≡ sheetIn l .processors → r′ ≡ sheetIn l .processors → r ≡ r′
+processors-same l r r′ e e′ = e ∙ sym e′
+
+pub count-same : (l : List ℕ) (r r′ : ℕ) → r ≡ sheetIn l .count → r′ ≡ sheetIn l .count → r ≡ r′
+count-same l r r′ e e′ = e ∙ sym e′
+
+pub row-at-same : (l : List ℕ) (k : ℕ) (r r′ : Row) → r ≡ rowAt (sheetIn l) k → r′ ≡ rowAt (sheetIn l) k → r ≡ r′
+row-at-same l k r r′ e e′ = e ∙ sym e′
+
+pub sheet-in-same : (l : List ℕ) (r r′ : Sheet) → r ≡ sheetIn l → r′ ≡ sheetIn l → r ≡ r′
+sheet-in-same l r r′ e e′ = e ∙ sym e′
+
+-- what is left in the list
+pub put-sheet-same : (h : Sheet) (l l₁ l₂ : List ℕ) → l₁ ≡ filled (sheetCell h) l → l₂ ≡ filled (sheetCell h) l → l₁ ≡ l₂
+put-sheet-same h l l₁ l₂ e e′ = e ∙ sym e′

@@ -1,0 +1,36 @@
+// The parts of the sheet that a list hands over.
+ghost use mathlib.Core.Path.{_≡_};
+ghost use Prim.Native.Nat.{_+_, _≤_, _<_};
+ghost use lib.ListN.{length};
+ghost use Rattle.basis.specs.Limits.{mostRows};
+ghost use Rattle.sheet.specs.Legal.{rowAt};
+ghost use Rattle.sheet.specs.Lists.{sheetIn, sheetLong};
+use crate::reading::number_at;
+use crate::row::Row;
+
+// The processors of the sheet that a list hands over.
+pub fn processors(list: &[u64]) -> u64
+    ensures { λ r. ⌜ r ≡ sheetIn (now (list .entry)) .processors ⌝ }
+{
+    number_at(list, 0)
+}
+
+// How many rows it has.
+pub fn count(list: &[u64]) -> u64
+    ensures { λ r. ⌜ r ≡ sheetIn (now (list .entry)) .count ⌝ }
+{
+    number_at(list, 1)
+}
+
+// Its row k, where the list has room for it, read without a look at its end.
+pub fn row_inside(list: &[u64], k: usize) -> Row
+    requires { ⌜ (k < mostRows) × (sheetLong (k + 1) ≤ length (now list)) ⌝ }
+    ensures { λ r. ⌜ r ≡ rowAt (sheetIn (now (list .entry))) k ⌝ }
+{
+    Row {
+        threads: list[k * 4 + 2],
+        separation: list[k * 4 + 3],
+        deadline: list[k * 4 + 4],
+        budget: list[k * 4 + 5],
+    }
+}

@@ -1,0 +1,66 @@
+// A sheet written into a list.
+ghost use mathlib.Core.Path.{_≡_};
+ghost use Rattle.sheet.specs.Lists.{filled, rowCell, sheetCell, cellBy, rowOf};
+use crate::row::Row;
+use crate::row::Sheet;
+use basis::MOST_ROWS;
+
+// The places of a list that has room for every row.
+pub const SHEET_LONG: usize = MOST_ROWS * 4 + 2;
+
+// The numbers of a row, from 0 to 3.
+fn row_cell(row: Row, j: usize) -> u64
+    ensures { λ r. ⌜ r ≡ rowCell row j ⌝ }
+{
+    if j == 0 {
+        return row.threads;
+    }
+    if j == 1 {
+        return row.separation;
+    }
+    if j == 2 {
+        return row.deadline;
+    }
+    row.budget
+}
+
+// The row that a place of a list belongs to, or any where it belongs to none.
+fn row_of(at: usize) -> usize
+    ensures { λ r. ⌜ r ≡ rowOf at ⌝ }
+{
+    if at < 2 {
+        return 0;
+    }
+    if SHEET_LONG <= at {
+        return 0;
+    }
+    (at - 2) / 4
+}
+
+// The number at a place of a list, by the row that it belongs to.
+fn cell_by(processors: u64, count: u64, row: Row, at: usize) -> u64
+    ensures { λ r. ⌜ r ≡ cellBy processors count row at ⌝ }
+{
+    if at == 0 {
+        return processors;
+    }
+    if at == 1 {
+        return count;
+    }
+    if SHEET_LONG <= at {
+        return 0;
+    }
+    row_cell(row, (at - 2) % 4)
+}
+
+// Writes a sheet into a list; places past its rows are made zero.
+pub fn put_sheet(list: &mut [u64], sheet: Sheet)
+    ensures { λ _. ⌜ now (list .exit) ≡ filled (sheetCell sheet) (now (list .entry)) ⌝ }
+{
+    let mut i: usize = 0;
+    while i < list.len() {
+        let row = sheet.rows[row_of(i)];
+        list[i] = cell_by(sheet.processors, sheet.count, row, i);
+        i += 1;
+    }
+}
