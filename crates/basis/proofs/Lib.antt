@@ -1,6 +1,7 @@
 pub mod First
 pub mod Lists
 pub mod Marks
+pub mod Pairs
 pub mod Refusals
 pub mod Steps
 pub mod Sums
