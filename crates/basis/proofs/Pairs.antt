@@ -1,12 +1,14 @@
 -- Laws of a list of pairs: the store of a pair, and what is read of one.
 -- Assumes nothing.
 use Prim.Native.Nat.{ℕ, _+_, _*_, _/_, _%_, _≤_, _<_}
-use mathlib.Core.Path.{_≡_, sym, ap, ap₂, _∙_}
+use mathlib.Core.Path.{_≡_, refl, sym, ap, ap₂, _∙_}
+use mathlib.Core.Bool.{Bool, true, false}
 use mathlib.Core.List.{List}
 use lib.Arith.{digits-div, digits-mod}
 use lib.Dec.{eqb}
 use lib.ListN.{length, getD, set}
 use native.Mathlib.Omega.{arith}
+use native.Mathlib.Nat.{div-add-mod', mod-lt}
 use Rattle.basis.specs.Words.{pick}
 use Rattle.basis.specs.Upto.{upto, pairCell}
 use Rattle.basis.proofs.Upto.{upto-set, upto-below}
@@ -39,3 +41,21 @@ module _ (f g : ℕ → ℕ) (k : ℕ) where
 
     pub second-read : getD (upto (n * 2) (pairCell f g) l) (k * 2 + 1) 0 ≡ g k
     second-read = upto-below (n * 2) (pairCell f g) l 0 (k * 2 + 1) (omega arith) long ∙ second-cell
+
+-- two lists of the same n pairs
+pub pairs-agree : (f g f′ g′ : ℕ → ℕ) (n : ℕ) → ((k : ℕ) → k < n → f k ≡ f′ k) → ((k : ℕ) → k < n → g k ≡ g′ k) → (i : ℕ) → i < n * 2 → pairCell f g i ≡ pairCell f′ g′ i
+unfolding pairCell
+pairs-agree f g f′ g′ n sf sg i l =
+    let h : i / 2 < n = omega (arith, div-add-mod' i 2) in
+    ap₂ (λ (a b : ℕ). pick (eqb (i % 2) 0) a b) (sf (i / 2) h) (sg (i / 2) h)
+
+-- pairs of zeros past n
+pub pair-zero : (f g : ℕ → ℕ) (n : ℕ) → ((k : ℕ) → n ≤ k → f k ≡ 0) → ((k : ℕ) → n ≤ k → g k ≡ 0) → (i : ℕ) → n * 2 ≤ i → pairCell f g i ≡ 0
+unfolding pairCell
+pair-zero f g n zf zg i l =
+    let h : n ≤ i / 2 = omega (arith, div-add-mod' i 2, mod-lt i {m = 2} (omega arith)) in
+    rw (zf (i / 2) h, zg (i / 2) h) (either (eqb (i % 2) 0))
+  where
+    either : (b : Bool) → _≡_ {A = ℕ} (pick b 0 0) 0
+    either true = refl
+    either false = refl

@@ -81,12 +81,23 @@ module _ {A : Type 0} where
   upto-agree zero f g l h = refl
   upto-agree (suc n) f g l h = rw (upto-agree n f g l (λ k b. h k (omega arith)), h n (omega arith))
 
-  -- a filling over another hides it
-  pub upto-over : (n : ℕ) (f g : ℕ → A) (l : List A) (d : A) → n ≤ length l → upto n f (upto n g l) ≡ upto n f l
-  upto-over n f g l d r =
-      ext-getD d (upto n f (upto n g l)) (upto n f l)
-      (length-upto n f (upto n g l) ∙ length-upto n g l ∙ sym (length-upto n f l))
+  -- a filling over a shorter one hides it
+  pub upto-over : (n k : ℕ) (f g : ℕ → A) (l : List A) (d : A) → k ≤ n → n ≤ length l → upto n f (upto k g l) ≡ upto n f l
+  upto-over n k f g l d h r =
+      ext-getD d (upto n f (upto k g l)) (upto n f l)
+      (length-upto n f (upto k g l) ∙ length-upto k g l ∙ sym (length-upto n f l))
       (λ i b. ⊎-elim
-      (λ m. upto-below n f (upto n g l) d i m (rw length-upto r) ∙ sym (upto-below n f l d i m r))
-      (λ m. upto-past n f (upto n g l) d i m ∙ upto-past n g l d i m ∙ sym (upto-past n f l d i m))
+      (λ m. upto-below n f (upto k g l) d i m (rw length-upto r) ∙ sym (upto-below n f l d i m r))
+      (λ m. upto-past n f (upto k g l) d i m ∙ upto-past k g l d i (omega arith) ∙ sym (upto-past n f l d i m))
       (lt-or-le i n))
+
+  -- a loop over the first n places: the list is as long as it was, place i is inside, and the last turn is the end
+  module _ (n i : ℕ) (f : ℕ → A) (l l₀ : List A) (so-far : l ≡ upto i f l₀) where
+    pub upto-long : length l ≡ length l₀
+    upto-long = ap length so-far ∙ length-upto i f l₀
+
+    pub upto-room : i < n → n ≤ length l₀ → i < length l
+    upto-room h r = omega (arith, upto-long)
+
+    pub upto-whole : i ≤ n → n ≤ i → l ≡ upto n f l₀
+    upto-whole h g = let e : i ≡ n = omega arith in rw e at so-far

@@ -64,7 +64,7 @@ entries-legal m (suc n) i s at es f e h =
 
 -- the rows of the sheet by value are those that were read, and zeros past them
 module _ (h : Held) where
-  row-read : (i : ℕ) → i < length (h .entries) → rowAt (sheetOf h) i ≡ getD (map rowOf (h .entries)) i noRow
+  pub row-read : (i : ℕ) → i < length (h .entries) → rowAt (sheetOf h) i ≡ getD (map rowOf (h .entries)) i noRow
   row-read i l = List·getD-append (map rowOf (h .entries)) _ noRow i (omega (arith, length-map (h .entries) rowOf))
 
   pub zero-past : ZeroPast (sheetOf h)

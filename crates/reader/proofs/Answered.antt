@@ -4,14 +4,15 @@ use Prim.Native.Nat.{ℕ}
 use mathlib.Core.Path.{_≡_, sym, ap, ap₂, _∙_}
 use mathlib.Core.List.{List}
 use denote.Ref.{RefT}
-use Rattle.basis.specs.Refusals.{Outcome}
+use Rattle.basis.specs.Refusals.{Outcome, outcome}
 use Rattle.basis.specs.declared.refusal.Refusal.{Refusal}
 use Rattle.basis.proofs.Refusals.{outcome-one-to-one}
 use Rattle.reader.specs.Answers.{answer, reading, shown, part, labelIn, labelsIn}
-use Rattle.reader.specs.declared.labels.Part.{Part}
+use Rattle.reader.specs.Lists.{readInto}
+use Rattle.reader.specs.declared.row.Part.{Part}
 use Rattle.reader.specs.declared.labels.Parts.{Parts}
 use Rattle.sheet.specs.declared.row.Sheet.{Sheet}
-use Rattle.reader.specs.declared.reader.Reading.{Reading}
+use Rattle.reader.specs.declared.whole.Reading.{Reading}
 
 -- an answer stands for one value of the code
 pub answer-one-to-one : (a b : Reading) → answer a ≡ answer b → a ≡ b
@@ -37,3 +38,10 @@ label-part-same s i a b e f = e ∙ sym f
 -- `label_parts`
 pub label-parts-same : (s : List ℕ) (a b : Parts) → a .parts ≡ labelsIn s → b .parts ≡ labelsIn s → a ≡ b
 label-parts-same s a b e f = ap (λ (l : List Part). record { parts = l }) (e ∙ sym f)
+
+-- `read_into`: the same outcome and the same lists
+pub read-into-same : (s list labels : List ℕ) (a b : Refusal) (l b₁ l′ b₂ : List ℕ) → _≡_ {A = Outcome × (List ℕ × List ℕ)} (outcome a, (l, b₁)) (readInto s list labels) → _≡_ {A = Outcome × (List ℕ × List ℕ)} (outcome b, (l′, b₂)) (readInto s list labels)
+    → (a ≡ b) × (l ≡ l′) × (b₁ ≡ b₂)
+read-into-same s list labels a b l b₁ l′ b₂ e f =
+    let g = e ∙ sym f in
+    (outcome-one-to-one a b (ap (λ (x : Outcome × (List ℕ × List ℕ)). x .0) g), ap (λ (x : Outcome × (List ℕ × List ℕ)). x .1 .0) g, ap (λ (x : Outcome × (List ℕ × List ℕ)). x .1 .1) g)

@@ -1,42 +1,77 @@
--- A row: each way out of the function that reads one.
+-- A row: each way out of the functions that read its numbers, and its label before them.
 -- Assumes nothing.
 use Prim.Native.Nat.{ℕ}
-use mathlib.Core.Path.{_≡_}
+use mathlib.Core.Path.{_≡_, refl, sym, ap, subst, _∙_}
 use mathlib.Core.List.{List}
 use lib.ListN.{length}
-use Rattle.basis.specs.Limits.{mostSeparation}
-use Rattle.basis.specs.Readers.{ok, refuse, told}
+use Rattle.basis.specs.Limits.{longestLabel, mostSeparation}
+use Rattle.basis.specs.Readers.{Step, ok, refuse, after, told}
 use Rattle.basis.proofs.Steps.{got, told-ok, told-no}
 use Rattle.numbers.specs.Numbers.{step, upTo}
 use Rattle.numbers.specs.declared.number.Number.{Number}
 use Rattle.numbers.specs.declared.number.Number.the-variants.{Is, Refused}
+use Rattle.sheet.specs.declared.row.Row.{Row}
 use Rattle.reader.specs.Form.{rowOf, label, entry}
+use Rattle.reader.specs.Answers.{partAfter}
+use Rattle.reader.specs.Steps.{labelStep, LabelAt, numbers, rowStep}
+use Rattle.reader.specs.declared.row.Part.{Part}
+use Rattle.reader.specs.declared.row.LabelRead.{LabelRead}
+use Rattle.reader.specs.declared.row.LabelRead.the-variants as label-variants
+use Rattle.reader.specs.declared.row.RowRead.{RowRead}
+use Rattle.reader.specs.declared.row.RowRead.the-variants as row-variants
 
-module _ (m : ℕ) (s : List ℕ) (at : ℕ) (r₀ : Number) (e₀ : step r₀ ≡ told length (label s at)) where
-  pub no-label : (k p : ℕ) → r₀ ≡ Refused k p → refuse k p ≡ told rowOf (entry m s at)
+-- the four numbers
+module _ (m : ℕ) (s : List ℕ) (at : ℕ) (r₁ : Number) (e₁ : step r₁ ≡ upTo m 7 8 s at) where
+  pub no-threads : (k p : ℕ) → r₁ ≡ Refused k p → refuse k p ≡ numbers m s at
+  unfolding numbers
+  no-threads k p g = simp (got step e₁ g)
+
+  module _ (t b : ℕ) (g₁ : r₁ ≡ Is t b) (r₂ : Number) (e₂ : step r₂ ≡ upTo mostSeparation 7 8 s b) where
+    pub no-separation : (k p : ℕ) → r₂ ≡ Refused k p → refuse k p ≡ numbers m s at
+    unfolding numbers
+    no-separation k p g = simp (got step e₁ g₁, got step e₂ g)
+
+    module _ (T c : ℕ) (g₂ : r₂ ≡ Is T c) (r₃ : Number) (e₃ : step r₃ ≡ upTo T 7 8 s c) where
+      pub no-deadline : (k p : ℕ) → r₃ ≡ Refused k p → refuse k p ≡ numbers m s at
+      unfolding numbers
+      no-deadline k p g = simp (got step e₁ g₁, got step e₂ g₂, got step e₃ g)
+
+      module _ (D d : ℕ) (g₃ : r₃ ≡ Is D d) (r₄ : Number) (e₄ : step r₄ ≡ upTo D 7 8 s d) where
+        pub no-budget : (k p : ℕ) → r₄ ≡ Refused k p → refuse k p ≡ numbers m s at
+        unfolding numbers
+        no-budget k p g = simp (got step e₁ g₁, got step e₂ g₂, got step e₃ g₃, got step e₄ g)
+
+        pub whole-row : (C f : ℕ) → r₄ ≡ Is C f → ok (record { threads = t; separation = T; deadline = D; budget = C }) f ≡ numbers m s at
+        unfolding numbers
+        whole-row C f g = simp (got step e₁ g₁, got step e₂ g₂, got step e₃ g₃, got step e₄ g)
+
+-- a part that is told of what follows a step
+through : {A B C : Type 0} (f : B → C) (x : Step A) (K : A → ℕ → Step B) (K′ : A → ℕ → Step C) → ((a : A) (n : ℕ) → told f (K a n) ≡ K′ a n) → told f (after x K) ≡ after x K′
+unfolding told
+through f (ok a n) K K′ h = h a n
+through f (refuse k p) K K′ h = refl
+
+-- a label, and the numbers after it
+module _ (m : ℕ) (s : List ℕ) (at : ℕ) (r₀ : LabelRead) (e₀ : labelStep r₀ ≡ told length (label s at)) where
+  pub no-label : (k p : ℕ) → r₀ ≡ label-variants.Refused k p → refuse k p ≡ told rowOf (entry m s at)
   unfolding entry told
-  no-label k p g = simp (told-no length (label s at) (got step e₀ g))
+  no-label k p g = simp (told-no length (label s at) (got labelStep e₀ g))
 
-  module _ (w a : ℕ) (g₀ : r₀ ≡ Is w a) (r₁ : Number) (e₁ : step r₁ ≡ upTo m 7 8 s a) where
-    pub no-threads : (k p : ℕ) → r₁ ≡ Refused k p → refuse k p ≡ told rowOf (entry m s at)
-    unfolding entry told
-    no-threads k p g = simp (told-ok length (label s at) (got step e₀ g₀) .1, got step e₁ g)
+  module _ (w : Part) (a : ℕ) (g₀ : r₀ ≡ label-variants.Is w a) (x : RowRead) (q : rowStep x ≡ numbers m s a) where
+    after-label : numbers m s a ≡ told rowOf (entry m s at)
+    unfolding entry numbers told
+    after-label =
+        let (l, el, _) = told-ok length (label s at) (got labelStep e₀ g₀) in
+        sym (simp el
+        (through rowOf (upTo m 7 8 s a) _ _ λ t b. through rowOf (upTo mostSeparation 7 8 s b) _ _ λ T c.
+        through rowOf (upTo T 7 8 s c) _ _ λ D d. through rowOf (upTo D 7 8 s d) _ _ λ C f. refl))
 
-    module _ (t b : ℕ) (g₁ : r₁ ≡ Is t b) (r₂ : Number) (e₂ : step r₂ ≡ upTo mostSeparation 7 8 s b) where
-      pub no-separation : (k p : ℕ) → r₂ ≡ Refused k p → refuse k p ≡ told rowOf (entry m s at)
-      unfolding entry told
-      no-separation k p g = simp (told-ok length (label s at) (got step e₀ g₀) .1, got step e₁ g₁, got step e₂ g)
+    pub no-numbers : (k p : ℕ) → x ≡ row-variants.Refused k p → refuse k p ≡ told rowOf (entry m s at)
+    no-numbers k p g = sym (got rowStep q g) ∙ after-label
 
-      module _ (T c : ℕ) (g₂ : r₂ ≡ Is T c) (r₃ : Number) (e₃ : step r₃ ≡ upTo T 7 8 s c) where
-        pub no-deadline : (k p : ℕ) → r₃ ≡ Refused k p → refuse k p ≡ told rowOf (entry m s at)
-        unfolding entry told
-        no-deadline k p g = simp (told-ok length (label s at) (got step e₀ g₀) .1, got step e₁ g₁, got step e₂ g₂, got step e₃ g)
+    pub whole-entry : (r : Row) (f : ℕ) → x ≡ row-variants.Is r f → ok r f ≡ told rowOf (entry m s at)
+    whole-entry r f g = sym (got rowStep q g) ∙ after-label
 
-        module _ (D d : ℕ) (g₃ : r₃ ≡ Is D d) (r₄ : Number) (e₄ : step r₄ ≡ upTo D 7 8 s d) where
-          pub no-budget : (k p : ℕ) → r₄ ≡ Refused k p → refuse k p ≡ told rowOf (entry m s at)
-          unfolding entry told
-          no-budget k p g = simp (told-ok length (label s at) (got step e₀ g₀) .1, got step e₁ g₁, got step e₂ g₂, got step e₃ g₃, got step e₄ g)
-
-          pub whole-row : (C f : ℕ) → r₄ ≡ Is C f → ok (record { threads = t; separation = T; deadline = D; budget = C }) f ≡ told rowOf (entry m s at)
-          unfolding entry told
-          whole-row C f g = simp (told-ok length (label s at) (got step e₀ g₀) .1, got step e₁ g₁, got step e₂ g₂, got step e₃ g₃, got step e₄ g)
+-- where the label lies
+pub entry-part : (s : List ℕ) (at : ℕ) (r₀ : LabelRead) → LabelAt s at r₀ → (w : Part) (a : ℕ) → r₀ ≡ label-variants.Is w a → w ≡ partAfter (upTo longestLabel 6 6 s at)
+entry-part s at r₀ lies w a g = subst (LabelAt s at) g lies

@@ -5,16 +5,14 @@ use mathlib.Core.Path.{_≡_, refl, sym, ap, ap₂, _∙_}
 use mathlib.Core.List.{List, [], _∷_, map}
 use native.Mathlib.Omega.{arith}
 use native.Mathlib.Nat.{not-suc-le-zero, le-of-suc-le-suc}
-use lib.ListN.{length, getD, take, drop}
+use lib.ListN.{length, getD, take, drop, List·getD-map}
 use Rattle.basis.specs.Limits.{longestLabel, mostSeparation}
-use Rattle.basis.specs.Refusals.{Outcome, accepted, refused, outcome}
 use Rattle.basis.specs.Readers.{Step, ok, refuse, enough, end}
-use Rattle.basis.specs.declared.refusal.Refusal.the-variants.{Accepted, Refused}
 use Rattle.basis.proofs.Steps.{after-ok, ok-same, enough-ok, end-ok, end-stays}
 use Rattle.numbers.specs.Numbers.{upTo}
-use Rattle.reader.specs.Form.{Entry, Held, plain, label, entry, entries, body, Head, head, sheet, labelHead}
-use Rattle.reader.specs.Answers.{answer, handed, reading, rowsRead}
-use Rattle.reader.specs.declared.reader.Reading.{Reading}
+use Rattle.sheet.specs.Legal.{noRow}
+use Rattle.reader.specs.Form.{Entry, Held, rowOf, plain, label, entry, entries, body, Head, head, sheet, labelHead}
+use Rattle.reader.specs.Steps.{rowFrom, rowAfter}
 use Rattle.reader.proofs.Plain.{plain-ok}
 
 -- the label of an entry
@@ -55,22 +53,26 @@ entry-label m s at x n e =
     let (same, _) = ok-same e₀ in
     (a, e₁ ∙ ap (λ (y : Entry). ok (labelOf y) a) same)
 
+-- an entry that is not there
+abbrev noEntry : Entry
+noEntry = record { label = []; row = noRow }
+
 -- row i of n rows, where all are accepted
 entries-at : (m n i : ℕ) (s : List ℕ) (at : ℕ) (es : List Entry) (f : ℕ) → entries m n s at ≡ ok es f → i < n
-    → (fs : List Entry) × (p : ℕ) × (x : Entry) × (q : ℕ) × (entries m i s at ≡ ok fs p) × (entry m s p ≡ ok x q) × (getD (map labelOf es) i [] ≡ labelOf x)
+    → (fs : List Entry) × (p : ℕ) × (x : Entry) × (q : ℕ) × (entries m i s at ≡ ok fs p) × (entry m s p ≡ ok x q) × (getD es i noEntry ≡ x)
 unfolding entries
 entries-at m zero i s at es f e h = absurd (not-suc-le-zero h)
 entries-at m (suc n) zero s at es f e h =
     after-ok (entry m s at) _ e λ x q e₁ e₂.
     after-ok (entries m n s q) _ e₂ λ gs l e₃ e₄.
     let (same, _) = ok-same e₄ in
-    ([], at, x, q, refl, e₁, ap (λ (y : List Entry). getD (map labelOf y) 0 []) (sym same))
+    ([], at, x, q, refl, e₁, ap (λ (y : List Entry). getD y 0 noEntry) (sym same))
 entries-at m (suc n) (suc i) s at es f e h =
     after-ok (entry m s at) _ e λ x q e₁ e₂.
     after-ok (entries m n s q) _ e₂ λ gs l e₃ e₄.
     let (same, _) = ok-same e₄ in
     let (fs, p, y, r, f₁, f₂, f₃) = entries-at m n i s q gs l e₃ (le-of-suc-le-suc h) in
-    (x ∷ fs, p, y, r, simp (e₁, f₁), f₂, ap (λ (z : List Entry). getD (map labelOf z) (suc i) []) (sym same) ∙ f₃)
+    (x ∷ fs, p, y, r, simp (e₁, f₁), f₂, ap (λ (z : List Entry). getD z (suc i) noEntry) (sym same) ∙ f₃)
 
 pub entries-length : (m n : ℕ) (s : List ℕ) (at : ℕ) (es : List Entry) (f : ℕ) → entries m n s at ≡ ok es f → length es ≡ n
 unfolding entries
@@ -136,21 +138,11 @@ found s i h n e l =
     let (fs, p, x, q, f₁, f₂, f₃) = entries-at (w .top .processors) (w .top .count) i s (w .from) (h .entries) (w .to) (w .all) (omega (arith, w .many)) in
     let (c, lab) = entry-label (w .top .processors) s p x q f₂ in
     let r = label-lies s p (labelOf x) c lab in
-    record { at = p; label = labelOf x; is = f₃; lies = r; head = simp (w .before, f₁) (r .head) }
+    record { at = p; label = labelOf x; is = List·getD-map labelOf (h .entries) i noEntry ∙ ap labelOf f₃; lies = r; head = simp (w .before, f₁) (r .head) }
 
--- what is known of the rows where the reader has answered
-module _ (s : List ℕ) (r : Reading) (e : answer r ≡ reading s) where
-  pub rows-none : (k p : ℕ) → r .refusal ≡ Refused k p → rowsRead (sheet s 0) ≡ 0
-  rows-none k p q = go (sheet s 0) (sym (ap outcome q) ∙ ap (λ (a : Outcome × _). a .0) e)
-    where
-      go : (x : Step Held) → refused k p ≡ handed x .0 → rowsRead x ≡ 0
-      go (ok h n) z = let y : _≡_ {A = ℕ} 0 1 = cc in absurd (omega arith)
-      go (refuse j q) z = refl
-
-  -- the sheet that was read
-  pub read-so : {R : Type 0} → r .refusal ≡ Accepted → ((h : Held) (n : ℕ) → sheet s 0 ≡ ok h n → length (h .entries) ≡ r .sheet .count → R) → R
-  read-so {R} q k = go (sheet s 0) refl (sym (ap outcome q) ∙ ap (λ (a : Outcome × _). a .0) e) (ap (λ (a : Outcome × _). a .1 .count) e)
-    where
-      go : (x : Step Held) → sheet s 0 ≡ x → accepted ≡ handed x .0 → r .sheet .count ≡ handed x .1 .count → R
-      go (ok h n) es z c = k h n es (sym c)
-      go (refuse j p) es z c = let y : _≡_ {A = ℕ} 0 1 = cc in absurd (omega arith)
+-- row i of n rows from a place on is the one that was read
+pub row-was-read : (m n i : ℕ) (s : List ℕ) (at : ℕ) (es : List Entry) (f : ℕ) → entries m n s at ≡ ok es f → i < n → rowAfter m s at i ≡ getD (map rowOf es) i noRow
+unfolding rowAfter rowFrom
+row-was-read m n i s at es f e l =
+    let (fs, p, x, q, f₁, f₂, f₃) = entries-at m n i s at es f e l in
+    simp (f₁, f₂) (sym (List·getD-map rowOf es i noEntry ∙ ap rowOf f₃))

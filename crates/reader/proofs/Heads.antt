@@ -1,24 +1,16 @@
--- What stands before the rows: each way out of the function that reads it, and what follows it in a whole sheet.
+-- What stands before the rows: each way out of the function that reads it, and what is known where it is accepted.
 -- Assumes nothing.
-use Prim.Native.Nat.{ℕ, _≤_}
+use Prim.Native.Nat.{ℕ}
 use mathlib.Core.Path.{_≡_, sym, ap, ap₂, _∙_}
 use mathlib.Core.List.{List}
 use mathlib.Core.Bool.{Bool, true, false}
-use Rattle.basis.specs.Limits.{longestLabel, mostProcessors, mostRows}
-use Rattle.basis.specs.Readers.{ok, refuse, begins, marked, told}
-use Rattle.basis.proofs.Steps.{got, after-ok, ok-same, marked-ok, told-ok, told-no}
+use Rattle.basis.specs.Limits.{mostProcessors, mostRows}
+use Rattle.basis.specs.Readers.{ok, refuse, begins, marked}
+use Rattle.basis.proofs.Steps.{got, after-ok, ok-same, marked-ok}
 use Rattle.numbers.specs.Numbers.{step, upTo}
 use Rattle.numbers.specs.declared.number.Number.{Number}
 use Rattle.numbers.specs.declared.number.Number.the-variants.{Is, Refused}
-use Rattle.numbers.proofs.Bounds.{bounded}
-use Rattle.reader.specs.Form.{Head, markBytes, entries, body, head, sheet, labelHead}
-use Rattle.reader.specs.Steps.{passedStep, headStep, nothing}
-use Rattle.reader.specs.Answers.{answer, handed, reading}
-use Rattle.reader.specs.declared.head.HeadRead.{HeadRead}
-use Rattle.reader.specs.declared.head.HeadRead.the-variants as head-variants
-use Rattle.reader.specs.declared.reader.Reading.{Reading}
-use Rattle.reader.specs.declared.row.Passed.{Passed}
-use Rattle.reader.specs.declared.row.Passed.the-variants as passed-variants
+use Rattle.reader.specs.Form.{Head, markBytes, head}
 
 -- the ways out of `read_head`
 module _ (s : List ℕ) (b : Bool) (e : b ≡ begins markBytes s) where
@@ -61,31 +53,3 @@ headed s h n e =
       processors = ap (upTo mostProcessors 4 4 s) ez ∙ e₁ ∙ ap (λ (x : Head). ok (x .processors) a) same;
       count = e₃ ∙ ap₂ (λ (x : Head) (y : ℕ). ok (x .count) y) same eb;
     }
-
--- the ways out of `read` and of `find_label`, where the answer is r
-module _ (s : List ℕ) (r : HeadRead) (e : headStep r ≡ head s 0) where
-  module _ (k p : ℕ) (g : r ≡ head-variants.Refused k p) where
-    pub sheet-no-head : (a : Reading) → answer a ≡ handed (refuse k p) → answer a ≡ reading s
-    unfolding sheet
-    sheet-no-head a h = simp (got headStep e g) h
-
-    pub label-no-head : (i : ℕ) → refuse k p ≡ labelHead i s 0
-    unfolding labelHead
-    label-no-head i = simp (got headStep e g)
-
-  module _ (m n z : ℕ) (g : r ≡ head-variants.Is m n z) where
-    pub few-rows : n ≤ mostRows
-    few-rows = bounded mostRows 5 5 _ _ _ _ (headed s _ z (got headStep e g) .count) .not-over
-
-    pub sheet-body : (a : Reading) → answer a ≡ handed (body m n s z) → answer a ≡ reading s
-    unfolding sheet
-    sheet-body a h = simp (got headStep e g) h
-
-    module _ (i : ℕ) (x : Passed) (h : passedStep x ≡ told nothing (entries m i s z)) where
-      pub label-no-rows : (k p : ℕ) → x ≡ passed-variants.Refused k p → refuse k p ≡ labelHead i s 0
-      unfolding labelHead
-      label-no-rows k p q = simp (got headStep e g, told-no nothing (entries m i s z) (got passedStep h q))
-
-      pub label-after : (d : ℕ) → x ≡ passed-variants.To d → (y : Number) → step y ≡ upTo longestLabel 6 6 s d → step y ≡ labelHead i s 0
-      unfolding labelHead
-      label-after d q y l = simp (got headStep e g, told-ok nothing (entries m i s z) (got passedStep h q) .1) l

@@ -3,11 +3,13 @@ pub mod Answered
 pub mod Cases
 pub mod Entries
 pub mod Found
+pub mod Handing
 pub mod Heads
-pub mod Labelled
+pub mod Lying
 pub mod Naming
+pub mod Owned
 pub mod Plain
 pub mod Reach
-pub mod Rows
 pub mod Shown
-pub mod Skips
+pub mod Spelling
+pub mod Taken

@@ -20,7 +20,7 @@ use Rattle.basis.proofs.Words.{lt-or-le}
 use Rattle.numbers.proofs.Bounds.{bounded}
 use Rattle.reader.specs.Form.{Held, isPlain, plain, sheet, labelHead}
 use Rattle.reader.specs.Answers.{handed, reading, nowhere, rowsRead, partAfter, labelIn}
-use Rattle.reader.specs.declared.labels.Part.{Part}
+use Rattle.reader.specs.declared.row.Part.{Part}
 use Rattle.reader.proofs.Found.{labelOf, found}
 
 -- each byte that was read as a label's is one that it may have

@@ -9,11 +9,11 @@ use Rattle.basis.specs.Words.{pick}
 use Rattle.basis.specs.Upto.{upto}
 use Rattle.basis.specs.Refusals.{Outcome, accepted, refused, outcome}
 use Rattle.basis.specs.Readers.{Step, ok, refuse}
-use Rattle.reader.specs.Form.{Held, rowOf, sheet, labelHead, labelFrom}
+use Rattle.reader.specs.Form.{Held, rowOf, sheet, labelHead}
 use Rattle.sheet.specs.Values.{padded, noSheet}
-use Rattle.reader.specs.declared.labels.Part.{Part}
+use Rattle.reader.specs.declared.row.Part.{Part}
 use Rattle.sheet.specs.declared.row.Sheet.{Sheet}
-use Rattle.reader.specs.declared.reader.Reading.{Reading}
+use Rattle.reader.specs.declared.whole.Reading.{Reading}
 
 -- What the code's answer stands for: the outcome, and the sheet beside it.
 abbrev pub answer : Reading → Outcome × Sheet
@@ -57,10 +57,6 @@ noParts = replicate mostRows nowhere
 -- The labels of all rows, by a whole reading: of each row its label, and the empty part past the rows.
 unfoldable pub labelsIn : List ℕ → List Part
 labelsIn s = upto mostRows (labelIn s) noParts
-
--- The same for the code inside, where what stands before the rows was read: x is what the rows on m processors from here on are read as.
-unfoldable pub partsAfter : ℕ → Step Held → List ℕ → ℕ → List Part
-partsAfter m x s at = upto mostRows (λ i. pick (ltb i (rowsRead x)) (partAfter (labelFrom m i s at)) nowhere) noParts
 
 -- What a lent part shows: where in memory it starts, and its bytes.
 abbrev pub shown : RefT (List ℕ) → (ℕ × ℕ) × List ℕ

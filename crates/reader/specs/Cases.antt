@@ -1,7 +1,7 @@
 -- A worked sheet with two equal labels.
 use Prim.Native.Nat.{ℕ}
 use mathlib.Core.List.{List, [], _∷_}
-use Rattle.reader.specs.declared.labels.Part.{Part}
+use Rattle.reader.specs.declared.row.Part.{Part}
 
 -- Two rows, each with the label pump: sheet E of the table.
 abbrev pub twoPumps : List ℕ

@@ -99,9 +99,3 @@ labelHead i = do
   h ← head
   entries (h .processors) i
   upTo longestLabel 6 6
-
--- The length of row i's label, where the rows on m processors begin here.
-unfoldable pub labelFrom : ℕ → ℕ → Reader ℕ
-labelFrom m i = do
-  entries m i
-  upTo longestLabel 6 6

@@ -1,5 +1,6 @@
 pub mod Form
 pub mod Answers
+pub mod Lists
 pub mod Longest
 pub mod Cases
 pub mod Steps

@@ -3,9 +3,8 @@ ghost use mathlib.Core.Path.{_≡_};
 ghost use Prim.Native.Nat.{_-_, _≤_};
 ghost use lib.ListN.{length};
 ghost use Rattle.basis.specs.Readers.{told};
-ghost use Rattle.numbers.specs.Numbers.{step};
 ghost use Rattle.reader.specs.Form.{rowOf, plain, label, entry};
-ghost use Rattle.reader.specs.Steps.{passedStep, rowStep, nothing};
+ghost use Rattle.reader.specs.Steps.{passedStep, labelStep, rowStep, entryStep, nothing, numbers, LabelAt, EntryAt};
 use basis::LONGEST_LABEL;
 use basis::MOST_SEPARATION;
 use numbers::Number;
@@ -17,9 +16,27 @@ pub enum Passed {
     Refused(u64, usize),
 }
 
-// What reading a row gives: the row and the place after it, or a refusal's number and place.
+// A part of a sheet's bytes: where it starts, and how long it is.
+pub struct Part {
+    pub start: usize,
+    pub long: usize,
+}
+
+// What reading a label gives: where it lies and the place after it, or a refusal's number and place.
+pub enum LabelRead {
+    Is(Part, usize),
+    Refused(u64, usize),
+}
+
+// What reading the numbers of a row gives: the row and the place after it, or a refusal's number and place.
 pub enum RowRead {
     Is(Row, usize),
+    Refused(u64, usize),
+}
+
+// What reading a row with its label gives: the row, where its label lies, and the place after both, or a refusal's number and place.
+pub enum EntryRead {
+    Is(Row, Part, usize),
     Refused(u64, usize),
 }
 
@@ -42,51 +59,62 @@ pub(crate) fn read_plain(bytes: &[u8], at: usize, end: usize) -> Passed
     Passed::To(end)
 }
 
-// The label at a place: its length, and the place after it.
-pub(crate) fn read_label(bytes: &[u8], at: usize) -> Number
-    ensures { λ r. ⌜ step r ≡ told length (label (now (bytes .entry)) at) ⌝ }
+// The label at a place.
+pub(crate) fn read_label(bytes: &[u8], at: usize) -> LabelRead
+    ensures { λ r. ⌜ (labelStep r ≡ told length (label (now (bytes .entry)) at)) × (LabelAt (now (bytes .entry)) at r) ⌝ }
 {
     match numbers::read_up_to(bytes, at, LONGEST_LABEL, 6, 6) {
-        Number::Refused(k, p) => Number::Refused(k, p),
+        Number::Refused(k, p) => LabelRead::Refused(k, p),
         Number::Is(count, start) => {
-            let end = start + count as usize;
+            let long = count as usize;
+            let end = start + long;
             if bytes.len() < end {
-                return Number::Refused(2, bytes.len());
+                return LabelRead::Refused(2, bytes.len());
             }
             match read_plain(bytes, start, end) {
-                Passed::Refused(k, p) => Number::Refused(k, p),
-                Passed::To(next) => Number::Is(count, next),
+                Passed::Refused(k, p) => LabelRead::Refused(k, p),
+                Passed::To(next) => LabelRead::Is(Part { start, long }, next),
             }
         }
     }
 }
 
-// The row at a place, on so many processors.
-pub(crate) fn read_row(bytes: &[u8], at: usize, processors: u64) -> RowRead
-    ensures { λ r. ⌜ rowStep r ≡ told rowOf (entry processors (now (bytes .entry)) at) ⌝ }
+// The four numbers of a row at a place, on so many processors.
+fn read_numbers(bytes: &[u8], at: usize, processors: u64) -> RowRead
+    ensures { λ r. ⌜ rowStep r ≡ numbers processors (now (bytes .entry)) at ⌝ }
 {
-    match read_label(bytes, at) {
+    match numbers::read_up_to(bytes, at, processors, 7, 8) {
         Number::Refused(k, p) => RowRead::Refused(k, p),
-        Number::Is(_, a) => match numbers::read_up_to(bytes, a, processors, 7, 8) {
+        Number::Is(threads, b) => match numbers::read_up_to(bytes, b, MOST_SEPARATION, 7, 8) {
             Number::Refused(k, p) => RowRead::Refused(k, p),
-            Number::Is(threads, b) => match numbers::read_up_to(bytes, b, MOST_SEPARATION, 7, 8) {
+            Number::Is(separation, d) => match numbers::read_up_to(bytes, d, separation, 7, 8) {
                 Number::Refused(k, p) => RowRead::Refused(k, p),
-                Number::Is(separation, d) => match numbers::read_up_to(bytes, d, separation, 7, 8) {
+                Number::Is(deadline, e) => match numbers::read_up_to(bytes, e, deadline, 7, 8) {
                     Number::Refused(k, p) => RowRead::Refused(k, p),
-                    Number::Is(deadline, e) => match numbers::read_up_to(bytes, e, deadline, 7, 8) {
-                        Number::Refused(k, p) => RowRead::Refused(k, p),
-                        Number::Is(budget, f) => RowRead::Is(
-                            Row {
-                                threads,
-                                separation,
-                                deadline,
-                                budget,
-                            },
-                            f,
-                        ),
-                    },
+                    Number::Is(budget, f) => RowRead::Is(
+                        Row {
+                            threads,
+                            separation,
+                            deadline,
+                            budget,
+                        },
+                        f,
+                    ),
                 },
             },
+        },
+    }
+}
+
+// The row at a place with its label, on so many processors.
+pub(crate) fn read_entry(bytes: &[u8], at: usize, processors: u64) -> EntryRead
+    ensures { λ r. ⌜ (entryStep r ≡ told rowOf (entry processors (now (bytes .entry)) at)) × (EntryAt (now (bytes .entry)) at r) ⌝ }
+{
+    match read_label(bytes, at) {
+        LabelRead::Refused(k, p) => EntryRead::Refused(k, p),
+        LabelRead::Is(part, next) => match read_numbers(bytes, next, processors) {
+            RowRead::Refused(k, p) => EntryRead::Refused(k, p),
+            RowRead::Is(row, after) => EntryRead::Is(row, part, after),
         },
     }
 }

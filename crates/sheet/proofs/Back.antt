@@ -13,7 +13,7 @@ use Rattle.basis.proofs.Upto.{upto-below, length-upto}
 use Rattle.sheet.specs.Legal.{noRow, rowAt}
 use Rattle.sheet.specs.Values.{noRows}
 use Rattle.sheet.specs.declared.row.Sheet.{Sheet}
-use Rattle.sheet.specs.Lists.{numberAt, filled, rowIn, sheetIn, rowCell, sheetCell, sheetLong}
+use Rattle.sheet.specs.Lists.{numberAt, filled, rowIn, sheetIn, rowCell, listCell, sheetCell, sheetLong}
 use Rattle.sheet.proofs.Filling.{filled-read}
 use Rattle.sheet.proofs.Handed.{row-read}
 use Rattle.sheet.proofs.Cells.{cell-of-row, cell-past, no-row-past}
@@ -34,7 +34,7 @@ module _ (h : Sheet) (n : ℕ) (l : List ℕ) (long : length (h .rows) ≡ mostR
       (row-number-back k 2 (k * 4 + 4) (omega arith) (omega arith)) (row-number-back k 3 (k * 4 + 5) (omega arith) (omega arith))
 
   pub sheet-comes-back : sheetIn (filled (sheetCell h) l) ≡ h
-  unfolding sheetIn sheetCell
+  unfolding sheetIn listCell
   sheet-comes-back =
       let rows : upto mostRows (rowIn (filled (sheetCell h) l)) (noRows mostRows) ≡ h .rows =
       sym (ext-getD noRow (h .rows) (upto mostRows (rowIn (filled (sheetCell h) l)) (noRows mostRows))

@@ -11,19 +11,25 @@ use native.Mathlib.Nat.{mod-lt, div-add-mod'}
 use borrow.Author.Tests.{lt-ltb, le-ltb, le-leb, lt-leb, eq-eqb, ne-eqb}
 use Rattle.basis.specs.Limits.{mostRows}
 use Rattle.basis.specs.Upto.{upto}
+use Rattle.basis.proofs.Lists.{getD-all}
 use Rattle.basis.proofs.Words.{lt-or-le}
 use Rattle.sheet.specs.Legal.{noRow, rowAt}
+use Rattle.sheet.specs.Values.{noSheet}
 use Rattle.sheet.specs.declared.row.Row.{Row}
 use Rattle.sheet.specs.declared.row.Sheet.{Sheet}
-use Rattle.sheet.specs.Lists.{rowCell, sheetCell, sheetLong, rowOf, cellBy}
+use Rattle.sheet.specs.Lists.{rowCell, listCell, sheetCell, sheetLong, rowOf, cellBy}
 use Rattle.sheet.proofs.Filling.{fill-more}
 
--- number j of row k of a sheet
-pub cell-of-row : (h : Sheet) (i k j : ℕ) → i ≡ k * 4 + j + 2 → j < 4 → sheetCell h i ≡ rowCell (rowAt h k) j
-unfolding sheetCell
-cell-of-row h i k j e b =
+-- number j of row k of a list
+pub cell-of : (m n : ℕ) (rows : ℕ → Row) (i k j : ℕ) → i ≡ k * 4 + j + 2 → j < 4 → listCell m n rows i ≡ rowCell (rows k) j
+unfolding listCell
+cell-of m n rows i k j e b =
     let q : i - 2 ≡ k * 4 + j = omega arith in
     rw (ne-eqb i 0 (λ z. omega arith), ne-eqb i 1 (λ z. omega arith), q, digits-div k {m = 4} {r = j} b, digits-mod k {m = 4} {r = j} b)
+
+-- and of a sheet
+pub cell-of-row : (h : Sheet) (i k j : ℕ) → i ≡ k * 4 + j + 2 → j < 4 → sheetCell h i ≡ rowCell (rowAt h k) j
+cell-of-row h = cell-of (h .processors) (h .count) (rowAt h)
 
 -- a cell of a row that is not there
 pub cell-of-none : (j : ℕ) → rowCell noRow j ≡ 0
@@ -37,6 +43,15 @@ cell-past h n past i b =
     cell-of-row h i ((i - 2) / 4) ((i - 2) % 4) (omega (arith, div-add-mod' (i - 2) 4)) (mod-lt (i - 2) {m = 4} (omega arith))
     ∙ ap (λ (row : Row). rowCell row ((i - 2) % 4)) (past ((i - 2) / 4) (omega (arith, div-add-mod' (i - 2) 4, mod-lt (i - 2) {m = 4} (omega arith))))
     ∙ cell-of-none ((i - 2) % 4)
+
+-- every number of no sheet is zero
+pub no-sheet-cell : (i : ℕ) → sheetCell noSheet i ≡ 0
+unfolding listCell
+no-sheet-cell i =
+    ⊎-elim (λ a. rw (eq-eqb i 0 (omega arith)))
+    (λ a. ⊎-elim (λ b. rw (ne-eqb i 0 (λ z. omega arith), eq-eqb i 1 (omega arith)))
+    (λ b. rw (ne-eqb i 0 (λ z. omega arith), ne-eqb i 1 (λ z. omega arith)) (ap (λ (row : Row). rowCell row ((i - 2) % 4)) (getD-all mostRows ((i - 2) / 4) noRow) ∙ cell-of-none ((i - 2) % 4)))
+    (lt-or-le i 2)) (lt-or-le i 1)
 
 -- no sheet has a row past those that there is room for
 pub no-row-past : (h : Sheet) → length (h .rows) ≡ mostRows → (k : ℕ) → mostRows ≤ k → rowAt h k ≡ noRow
@@ -58,11 +73,11 @@ unmapped f l n e = sym (length-map l f) ∙ e
 -- the three kinds of places: the first two, those of a row, and those past the rows
 module _ (h : Sheet) (i : ℕ) (row : Row) where
   at-head : i < 2 → cellBy (h .processors) (h .count) row i ≡ sheetCell h i
-  unfolding cellBy sheetCell
+  unfolding cellBy listCell
   at-head a = ⊎-elim (λ z. rw (eq-eqb i 0 (omega arith))) (λ z. rw (ne-eqb i 0 (λ y. omega arith), eq-eqb i 1 (omega arith))) (lt-or-le i 1)
 
   at-row : 2 ≤ i → i < sheetLong mostRows → row ≡ rowAt h ((i - 2) / 4) → cellBy (h .processors) (h .count) row i ≡ sheetCell h i
-  unfolding cellBy sheetCell
+  unfolding cellBy listCell
   at-row a b e = rw (ne-eqb i 0 (λ z. omega arith), ne-eqb i 1 (λ z. omega arith), lt-leb (sheetLong mostRows) i b, e)
 
   at-end : length (h .rows) ≡ mostRows → sheetLong mostRows ≤ i → cellBy (h .processors) (h .count) row i ≡ sheetCell h i

@@ -1,13 +1,15 @@
 -- A loop that stores f i at every place i of a list: a turn, its length, and its end.
 -- Assumes nothing.
-use Prim.Native.Nat.{ℕ, _+_, _≤_}
+use Prim.Native.Nat.{ℕ, _+_, _≤_, _<_}
 use mathlib.Core.Path.{_≡_, sym, ap, _∙_}
 use mathlib.Core.List.{List}
 use mathlib.Core.Logic.{⊎-elim}
-use lib.ListN.{length, set, List·getD-eq-default}
+use lib.ListN.{length, set, replicate, length-replicate, List·getD-eq-default}
+use lib.Seq.{ext-getD}
 use native.Mathlib.Omega.{arith}
 use native.Mathlib.Nat.{le-refl}
 use Rattle.basis.specs.Upto.{upto}
+use Rattle.basis.proofs.Lists.{getD-all}
 use Rattle.basis.proofs.Upto.{upto-none, upto-set, upto-below, upto-past, length-upto}
 use Rattle.basis.proofs.Words.{lt-or-le}
 use Rattle.sheet.specs.Lists.{numberAt, filled}
@@ -42,3 +44,21 @@ filled-read f l i z =
 pub length-filled : (f : ℕ → ℕ) (l : List ℕ) → length (filled f l) ≡ length l
 unfolding filled
 length-filled f l = length-upto (length l) f l
+
+-- a list of zeros
+abbrev pub zeros : ℕ → List ℕ
+zeros n = replicate n 0
+
+pub zeros-long : (n : ℕ) → length (zeros n) ≡ n
+zeros-long n = length-replicate n 0
+
+-- it is filled where its first k places are, and f is zero past them
+pub zeros-filled : (f : ℕ → ℕ) (n k : ℕ) → ((i : ℕ) → k ≤ i → f i ≡ 0) → k ≤ n → upto k f (zeros n) ≡ filled f (zeros n)
+unfolding filled
+zeros-filled f n k z h =
+    ext-getD 0 (upto k f (zeros n)) (upto (length (zeros n)) f (zeros n))
+    (length-upto k f (zeros n) ∙ sym (length-upto (length (zeros n)) f (zeros n)))
+    (λ i b. let inside : i < length (zeros n) = omega (arith, length-upto k f (zeros n)) in
+    ⊎-elim (λ a. upto-below k f (zeros n) 0 i a (omega (arith, zeros-long n)))
+    (λ a. upto-past k f (zeros n) 0 i a ∙ getD-all n i 0 ∙ sym (z i a)) (lt-or-le i k)
+    ∙ sym (upto-below (length (zeros n)) f (zeros n) 0 i inside (le-refl (length (zeros n)))))

@@ -6,3 +6,4 @@ pub mod Legality
 pub mod Places
 pub mod Ranges
 pub mod Same
+pub mod Stores

@@ -39,10 +39,13 @@ unfoldable pub rowCell : Row → ℕ → ℕ
 rowCell row j =
     pick (eqb j 0) (row .threads) (pick (eqb j 1) (row .separation) (pick (eqb j 2) (row .deadline) (row .budget)))
 
+-- The number at place i of the list of m processors and n rows.
+unfoldable pub listCell : ℕ → ℕ → (ℕ → Row) → ℕ → ℕ
+listCell m n rows i = pick (eqb i 0) m (pick (eqb i 1) n (rowCell (rows ((i - 2) / 4)) ((i - 2) % 4)))
+
 -- The number at place i of a sheet's list: past the rows it is zero.
-unfoldable pub sheetCell : Sheet → ℕ → ℕ
-sheetCell h i =
-    pick (eqb i 0) (h .processors) (pick (eqb i 1) (h .count) (rowCell (rowAt h ((i - 2) / 4)) ((i - 2) % 4)))
+abbrev pub sheetCell : Sheet → ℕ → ℕ
+sheetCell h = listCell (h .processors) (h .count) (rowAt h)
 
 -- The places that a list needs for the sheet of so many rows.
 abbrev pub sheetLong : ℕ → ℕ

@@ -1,39 +1,38 @@
--- `label_parts` meets its promise: what stands before the rows, then the rows. Assumes nothing.
+-- `label_parts` meets its promise: each part of its own list. Assumes nothing.
 use borrow.Author.Needs.{needs}
-use Rattle.reader.proofs.Heads.{few-rows}
-use Rattle.reader.proofs.Labelled.{parts-no-head, parts-body}
+use Prim.Native.Nat.{_-_, _≤_, _<_, ℕ}
+use mathlib.Core.Path.{_≡_}
+use Rattle.basis.specs.Limits.{mostRows}
+use Rattle.basis.specs.Upto.{upto}
+use Rattle.basis.proofs.Upto.{upto-none}
+use Rattle.reader.specs.Answers.{labelIn, noParts}
+use Rattle.reader.specs.Steps.{partIn}
+use Rattle.reader.proofs.Owned.{parts-were-read, one-part-more, all-parts}
 use Rattle.reader.proofs.labels.label_parts.Statement.{statement}
 use Rattle.reader.proofs.labels.label_parts.Tie as tie
 
-read-head-requires : tie.Need-read-head-requires
-read-head-requires c κs = search needs
+abbrev Inv-loop : tie.InvT-loop
+Inv-loop bytes labels parts₀ i₀ parts i =
+    (i ≤ mostRows) × (parts ≡ upto i (labelIn bytes) noParts) × ((k : ℕ) → k < mostRows → partIn labels k ≡ labelIn bytes k)
 
-enum-told : tie.Need-enum-told
-enum-told c = search needs
-
-no-parts-requires : tie.Need-no-parts-requires
-no-parts-requires c κs = search needs
-
-enum-known-processors : tie.Need-enum-known-processors
-enum-known-processors c = search needs
-
-parts-after-requires : tie.Need-parts-after-requires
-parts-after-requires c κs = search few-rows
-
-returns : tie.Need-returns
-returns c = search parts-no-head
-
-returns-2 : tie.Need-returns-2
-returns-2 c = search parts-body
+abbrev μ-loop : tie.MeasureT-loop
+μ-loop bytes labels parts₀ i₀ parts i = mostRows - i
 
 pub label-parts-spec : {M : Type 1} → statement M
 label-parts-spec =
     tie.close
     (tie.spec
-    read-head-requires
-    enum-told
-    no-parts-requires
-    enum-known-processors
-    parts-after-requires
-    returns
-    returns-2)
+    Inv-loop
+    μ-loop
+    (λ c. search needs)
+    (λ c. search needs)
+    (λ c κs. search needs)
+    (λ c. (search needs, search upto-none, search parts-were-read))
+    (λ c. search needs)
+    (λ c κs. search needs)
+    (λ c. search needs)
+    (λ c. search needs)
+    (λ c. search needs)
+    (λ c. search needs)
+    (λ c. (search needs, search one-part-more, search needs))
+    (λ c. search all-parts))

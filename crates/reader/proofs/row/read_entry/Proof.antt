@@ -1,0 +1,19 @@
+-- `read_entry` meets its promise: a label, then the numbers. Assumes nothing.
+use borrow.Author.Needs.{needs}
+use Rattle.reader.proofs.Entries.{no-label, no-numbers, whole-entry, entry-part}
+use Rattle.reader.proofs.row.read_entry.Statement.{statement}
+use Rattle.reader.proofs.row.read_entry.Tie as tie
+
+pub read-entry-spec : {M : Type 1} → statement M
+read-entry-spec =
+    tie.close
+    (tie.spec
+    (λ c κs. search needs)
+    (λ c. search needs)
+    (λ c. search needs)
+    (λ c κs. search needs)
+    (λ c. search needs)
+    (λ c. search needs)
+    (λ c. (search no-label, tt))
+    (λ c. (search no-numbers, tt))
+    (λ c. (search whole-entry, search entry-part)))

@@ -1,0 +1,19 @@
+-- `put_part` meets its promise. Assumes nothing.
+use borrow.Author.Needs.{needs}
+use Rattle.reader.proofs.Taken.{part-set, length-inside}
+use Rattle.reader.proofs.rows.put_part.Statement.{statement}
+use Rattle.reader.proofs.rows.put_part.Tie as tie
+
+pub put-part-spec : {M : Type 1} → statement M
+put-part-spec =
+    tie.close
+    (tie.spec
+    (λ c. search needs)
+    (λ c. search needs)
+    (λ c. search needs)
+    (λ c. search needs)
+    (λ c. search needs)
+    (λ c. search needs)
+    (λ c. search length-inside)
+    (λ c. search needs)
+    (λ c. search part-set))

@@ -1,0 +1,28 @@
+-- `put_row` meets its promise. Assumes nothing.
+use borrow.Author.Needs.{needs}
+use Rattle.reader.proofs.Taken.{row-set, second-inside, third-inside, fourth-inside}
+use Rattle.reader.proofs.rows.put_row.Statement.{statement}
+use Rattle.reader.proofs.rows.put_row.Tie as tie
+
+pub put-row-spec : {M : Type 1} → statement M
+put-row-spec =
+    tie.close
+    (tie.spec
+    (λ c. search needs)
+    (λ c. search needs)
+    (λ c. search needs)
+    (λ c. search needs)
+    (λ c. search needs)
+    (λ c. search needs)
+    (λ c. search needs)
+    (λ c. search second-inside)
+    (λ c. search needs)
+    (λ c. search needs)
+    (λ c. search needs)
+    (λ c. search third-inside)
+    (λ c. search needs)
+    (λ c. search needs)
+    (λ c. search needs)
+    (λ c. search fourth-inside)
+    (λ c. search needs)
+    (λ c. search row-set))

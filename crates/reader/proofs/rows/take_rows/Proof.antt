@@ -1,0 +1,41 @@
+-- `take_rows` meets its promise. The invariant: the rows passed are accepted, and stand in the lists with their labels. Assumes nothing.
+use borrow.Author.Needs.{needs}
+use Prim.Native.Nat.{_-_, _≤_}
+use mathlib.Core.Path.{_≡_}
+use Rattle.basis.specs.Readers.{ok, told}
+use Rattle.reader.specs.Form.{entries}
+use Rattle.reader.specs.Steps.{nothing, rowsIn, partsIn}
+use Rattle.reader.proofs.Taken.{none-passed, head-put, no-part-put, row-refused, one-passed, row-put, part-put, all-passed, rows-put, parts-put, rows-long, parts-long, row-room, part-room, count-inside}
+use Rattle.reader.proofs.rows.take_rows.Statement.{statement}
+use Rattle.reader.proofs.rows.take_rows.Tie as tie
+
+abbrev Inv-loop : tie.InvT-loop
+Inv-loop bytes at processors count list₀ labels₀ next₀ i₀ list labels next i =
+    (i ≤ count) × (told nothing (entries processors i bytes at) ≡ ok tt next) × (list ≡ rowsIn processors count bytes at i list₀) × (labels ≡ partsIn processors bytes at i labels₀)
+
+abbrev μ-loop : tie.MeasureT-loop
+μ-loop bytes at processors count list₀ labels₀ next₀ i₀ list labels next i = count - i
+
+pub take-rows-spec : {M : Type 1} → statement M
+take-rows-spec =
+    tie.close
+    (tie.spec
+    Inv-loop
+    μ-loop
+    (λ c. search needs)
+    (λ c. search count-inside)
+    (λ c. (search needs, search none-passed, search head-put, search no-part-put))
+    (λ c κs. search needs)
+    (λ c. search needs)
+    (λ c. search rows-long)
+    (λ c. search parts-long)
+    (λ c. (search row-refused, tt))
+    (λ c. search needs)
+    (λ c κs. (search needs, search row-room))
+    (λ c κs. (search needs, search part-room))
+    (λ c. search needs)
+    (λ c. search needs)
+    (λ c. (search needs, search one-passed, search row-put, search part-put))
+    (λ c. search rows-long)
+    (λ c. search parts-long)
+    (λ c. (search all-passed, (search rows-put, search parts-put))))

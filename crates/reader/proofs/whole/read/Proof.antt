@@ -1,0 +1,16 @@
+-- `read` meets its promise: the sheet of its own list. Assumes nothing.
+use borrow.Author.Needs.{needs}
+use Rattle.reader.proofs.Owned.{sheet-was-read}
+use Rattle.reader.proofs.whole.read.Statement.{statement}
+use Rattle.reader.proofs.whole.read.Tie as tie
+
+pub read-spec : {M : Type 1} → statement M
+read-spec =
+    tie.close
+    (tie.spec
+    (λ c. search needs)
+    (λ c. search needs)
+    (λ c κs. search needs)
+    (λ c. search needs)
+    (λ c κs. search needs)
+    (λ c. search sheet-was-read))

@@ -1,0 +1,27 @@
+-- What reading into lent lists answers: the sheet's list, and the list of where each label lies.
+use Prim.Native.Nat.{ℕ, _*_}
+use mathlib.Core.List.{List}
+use lib.ListN.{length}
+use Rattle.basis.specs.Refusals.{Outcome, orElse, roomFor, handed}
+use Rattle.basis.specs.Upto.{upto, pairCell}
+use Rattle.sheet.specs.Lists.{sheetCell, sheetLong}
+use Rattle.sheet.specs.declared.row.Sheet.{Sheet}
+use Rattle.reader.specs.Answers.{reading, labelIn}
+
+-- The places that a list needs for the labels of so many rows.
+abbrev pub labelsLong : ℕ → ℕ
+labelsLong n = n * 2
+
+-- The number at place i of the list of labels: of each row where its label starts, and how long it is.
+abbrev pub labelCell : List ℕ → ℕ → ℕ
+labelCell s = pairCell (λ k. labelIn s k .start) (λ k. labelIn s k .long)
+
+-- The reader's refusals, then 15 where a list has no room for the rows; what stands in the lists past the rows is as it was.
+unfoldable pub intoLists : Outcome × Sheet → List ℕ → List ℕ → List ℕ → Outcome × (List ℕ × List ℕ)
+intoLists (o, h) s list labels =
+    handed (orElse o (orElse (roomFor (sheetLong (h .count)) (length list)) (roomFor (labelsLong (h .count)) (length labels))))
+    (upto (sheetLong (h .count)) (sheetCell h) list, upto (labelsLong (h .count)) (labelCell s) labels) (list, labels)
+
+-- Reading some bytes into a list and a list of labels.
+unfoldable pub readInto : List ℕ → List ℕ → List ℕ → Outcome × (List ℕ × List ℕ)
+readInto s list labels = intoLists (reading s) s list labels
