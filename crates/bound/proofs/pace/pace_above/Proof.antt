@@ -10,10 +10,10 @@ use Rattle.bound.proofs.pace.pace_above.Statement.{statement}
 use Rattle.bound.proofs.pace.pace_above.Tie as tie
 
 abbrev Inv-loop : tie.InvT-loop
-Inv-loop sheet bounds k length busy window pace₀ i₀ pace i = (i ≤ k) × (Paces (sheetIn sheet) (heldIn bounds) k length i pace)
+Inv-loop sheet results k length busy window pace₀ i₀ pace i = (i ≤ k) × (Paces (sheetIn sheet) (heldIn results) k length i pace)
 
 abbrev μ-loop : tie.MeasureT-loop
-μ-loop sheet bounds k length busy window pace₀ i₀ pace i = k - i
+μ-loop sheet results k length busy window pace₀ i₀ pace i = k - i
 
 busy-of-requires : tie.Need-busy-of-requires Inv-loop μ-loop
 busy-of-requires c κs = search needs
@@ -24,14 +24,8 @@ window-of-requires c κs = search needs
 loop-holds : tie.Need-loop-holds Inv-loop μ-loop
 loop-holds c = (search needs, search paces-none)
 
-row-at-requires : tie.Need-row-at-requires Inv-loop μ-loop
-row-at-requires c κs = search needs
-
-mul-t15 : tie.Need-mul-t15 Inv-loop μ-loop
-mul-t15 c = search needs
-
-shared-slice-read-t17 : tie.Need-shared-slice-read-t17 Inv-loop μ-loop
-shared-slice-read-t17 c = search needs
+row-inside-requires : tie.Need-row-inside-requires Inv-loop μ-loop
+row-inside-requires c κs = search needs
 
 stay-of-row-requires : tie.Need-stay-of-row-requires Inv-loop μ-loop
 stay-of-row-requires c κs = search row-above
@@ -63,9 +57,11 @@ pace-above-spec =
     busy-of-requires
     window-of-requires
     loop-holds
-    row-at-requires
-    mul-t15
-    shared-slice-read-t17
+    row-inside-requires
+    (λ c. search needs)
+    (λ c. search needs)
+    (λ c. search needs)
+    (λ c. search needs)
     stay-of-row-requires
     fewer-requires
     joined-requires

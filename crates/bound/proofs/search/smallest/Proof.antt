@@ -13,15 +13,15 @@ use Rattle.bound.proofs.search.smallest.Statement.{statement}
 use Rattle.bound.proofs.search.smallest.Tie as tie
 
 abbrev Inv-loop : tie.InvT-loop
-Inv-loop sheet bounds k deadline length₀ length =
+Inv-loop sheet results k deadline length₀ length =
     (rowAt (sheetIn sheet) k .budget ≤ length .0)
-    × (least (passesAt passes (sheetIn sheet) (heldIn bounds) k) (length .0) (rowAt (sheetIn sheet) k .deadline + 1 - length .0) ≡ boundBy passes (sheetIn sheet) (heldIn bounds) k)
+    × (least (passesAt passes (sheetIn sheet) (heldIn results) k) (length .0) (rowAt (sheetIn sheet) k .deadline + 1 - length .0) ≡ boundBy passes (sheetIn sheet) (heldIn results) k)
 
 abbrev μ-loop : tie.MeasureT-loop
-μ-loop sheet bounds k deadline length₀ length = rowAt (sheetIn sheet) k .deadline + 1 - length .0
+μ-loop sheet results k deadline length₀ length = rowAt (sheetIn sheet) k .deadline + 1 - length .0
 
-row-at-requires : tie.Need-row-at-requires Inv-loop μ-loop
-row-at-requires c κs = search needs
+row-inside-requires : tie.Need-row-inside-requires Inv-loop μ-loop
+row-inside-requires c κs = search needs
 
 loop-holds : tie.Need-loop-holds Inv-loop μ-loop
 loop-holds c = (search start-low, search search-starts)
@@ -53,7 +53,7 @@ smallest-spec =
     (tie.spec
     Inv-loop
     μ-loop
-    row-at-requires
+    row-inside-requires
     loop-holds
     try-length-requires
     enum-known-tried

@@ -10,10 +10,10 @@ use Rattle.bound.proofs.test.sum_above.Statement.{statement}
 use Rattle.bound.proofs.test.sum_above.Tie as tie
 
 abbrev Inv-loop : tie.InvT-loop
-Inv-loop sheet bounds k length busy window sum₀ i₀ sum i = (i ≤ k) × (sum ≡ amounts (sheetIn sheet) (heldIn bounds) k length i)
+Inv-loop sheet results k length busy window sum₀ i₀ sum i = (i ≤ k) × (sum ≡ amounts (sheetIn sheet) (heldIn results) k length i)
 
 abbrev μ-loop : tie.MeasureT-loop
-μ-loop sheet bounds k length busy window sum₀ i₀ sum i = k - i
+μ-loop sheet results k length busy window sum₀ i₀ sum i = k - i
 
 busy-of-requires : tie.Need-busy-of-requires Inv-loop μ-loop
 busy-of-requires c κs = search needs
@@ -27,14 +27,8 @@ none-requires c κs = search needs
 loop-holds : tie.Need-loop-holds Inv-loop μ-loop
 loop-holds c = (search needs, search sum-none)
 
-row-at-requires : tie.Need-row-at-requires Inv-loop μ-loop
-row-at-requires c κs = search needs
-
-mul-t13 : tie.Need-mul-t13 Inv-loop μ-loop
-mul-t13 c = search needs
-
-shared-slice-read-t15 : tie.Need-shared-slice-read-t15 Inv-loop μ-loop
-shared-slice-read-t15 c = search needs
+row-inside-requires : tie.Need-row-inside-requires Inv-loop μ-loop
+row-inside-requires c κs = search needs
 
 amount-above-requires : tie.Need-amount-above-requires Inv-loop μ-loop
 amount-above-requires c κs = (search row-above, search window-small, search busy-small)
@@ -64,9 +58,11 @@ sum-above-spec =
     window-of-requires
     none-requires
     loop-holds
-    row-at-requires
-    mul-t13
-    shared-slice-read-t15
+    row-inside-requires
+    (λ c. search needs)
+    (λ c. search needs)
+    (λ c. search needs)
+    (λ c. search needs)
     amount-above-requires
     plus-requires
     add-i
