@@ -1,7 +1,7 @@
 -- A list of results: what stands at its places, how it is put together, cleared past the rows and read back, and what `bounds_on` makes of it at each way out.
 -- Assumes nothing.
 use Prim.Native.Nat.{ℕ, _+_, _*_, _/_, _%_, _≤_, _<_}
-use mathlib.Core.Path.{_≡_, refl, sym, ap, ap₂, _∙_}
+use mathlib.Core.Path.{_≡_, refl, sym, _∙_}
 use mathlib.Core.Bool.{Bool, true, false}
 use mathlib.Core.List.{List}
 use mathlib.Core.Logic.{⊎-elim}
@@ -16,18 +16,18 @@ use mir.Syntax.{w64}
 use Rattle.basis.specs.Limits.{mostRows}
 use Rattle.basis.specs.Words.{pick}
 use Rattle.basis.specs.Upto.{upto, pairCell}
-use Rattle.basis.specs.Refusals.{Outcome, accepted, refused}
+use Rattle.basis.specs.Refusals.{accepted, refused}
 use Rattle.basis.proofs.Words.{lt-or-le}
 use Rattle.basis.proofs.Upto.{upto-set, upto-below, upto-past, length-upto}
-use Rattle.basis.proofs.Pairs.{first-cell, second-cell, pair-stored, second-read}
+use Rattle.basis.proofs.Pairs.{first-cell, second-cell}
 use Rattle.basis.proofs.Lists.{getD-all}
 use Rattle.sheet.specs.Legal.{legal, Legal}
 use Rattle.sheet.specs.declared.row.Sheet.{Sheet}
 use Rattle.sheet.specs.Lists.{numberAt, filled, sheetIn}
 use Rattle.sheet.proofs.Legality.{legal-is}
-use Rattle.sheet.proofs.Filling.{filled-read, length-filled}
+use Rattle.sheet.proofs.Filling.{length-filled}
 use Rattle.bound.specs.Test.{passes}
-use Rattle.bound.specs.Bound.{Word, bound, none, unreached, valueOf, resultOf, allUnreached, holds, judged, boundsBy}
+use Rattle.bound.specs.Bound.{Word, bound, none, unreached, resultOf, allUnreached, holds, judged, boundsBy}
 use Rattle.bound.specs.Lists.{wordNumber, boundNumber, resultsLong, resultCell, resultsOn, boundsOn, words, putResult, clearedCell, wordAt}
 
 -- ---- the words of a sheet

@@ -1,14 +1,14 @@
 -- The loop over the rows: what a row is judged by, what stands in the list of results, and the answer by value.
 -- Assumes nothing.
-use Prim.Native.Nat.{ℕ, zero, suc, _+_, _*_, _≤_, _<_}
-use mathlib.Core.Path.{_≡_, refl, sym, ap, ap₂, _∙_}
+use Prim.Native.Nat.{ℕ, suc, _+_, _*_, _≤_, _<_}
+use mathlib.Core.Path.{_≡_, refl, sym, ap, _∙_}
 use mathlib.Core.Bool.{Bool, true, false}
 use mathlib.Core.List.{List, map}
 use native.Mathlib.Omega.{arith}
 use lib.ListN.{length, getD, set, replicate, length-replicate}
 use Rattle.basis.specs.Limits.{mostRows}
 use Rattle.basis.specs.Words.{allOf}
-use Rattle.basis.specs.Upto.{upto, pairCell}
+use Rattle.basis.specs.Upto.{upto}
 use Rattle.basis.specs.Refusals.{Outcome, accepted, refused}
 use Rattle.basis.proofs.Words.{all-at}
 use Rattle.basis.proofs.Upto.{upto-set, length-upto}
@@ -21,9 +21,9 @@ use Rattle.sheet.proofs.Legality.{legal-is}
 use Rattle.sheet.proofs.Ranges.{legal-sheet-long}
 use Rattle.sheet.proofs.Back.{whole-sheet-comes-back}
 use Rattle.bound.specs.Test.{passes}
-use Rattle.bound.specs.Bound.{Word, unreached, bound, none, word, wordIn, isBound, valueOf, boundBy, bounds, bounded, resultOf, allUnreached, holds, Answer, judged, boundsBy, boundsOf}
+use Rattle.bound.specs.Bound.{Word, unreached, bound, none, word, wordIn, isBound, valueOf, boundBy, bounds, bounded, resultOf, allUnreached, holds, Answer, judged, boundsOf}
 use Rattle.bound.specs.Lists.{wordNumber, boundNumber, resultsLong, resultCell, words, putResult, wordAt, boundsOn}
-use Rattle.bound.specs.Ready.{heldIn, Long, Lent, RowsAbove, SoFar, Ready}
+use Rattle.bound.specs.Ready.{heldIn, Lent, RowsAbove, SoFar, Ready}
 use Rattle.bound.specs.declared.results.Judged.{Judged}
 use Rattle.bound.specs.declared.results.Result.{Result}
 use Rattle.bound.proofs.Durations.{same, number}
@@ -140,12 +140,12 @@ module _ (h : Sheet) (l₀ l rs : List ℕ) (put : l ≡ filled (sheetCell h) l�
       go : (b : Bool) → legal h ≡ b → a ≡ boundsOf h
       go true f =
           let fine : legal (sheetIn l) ≡ true = ap legal list-is ∙ f in
-          let d = e ∙ legal-is-put l zeros fine (omega (arith, legal-is (sheetIn l) fine .most-rows, length-replicate (resultsLong mostRows) (zero))) in
+          let d = e ∙ legal-is-put l zeros fine (omega (arith, legal-is (sheetIn l) fine .most-rows, length-replicate {A = ℕ} (resultsLong mostRows) 0)) in
           let eo : o ≡ accepted = ap (λ (x : Outcome × (Bool × List ℕ)). x .0) d in
           let et : t ≡ holds passes h = ap (λ (x : Outcome × (Bool × List ℕ)). x .1 .0) d ∙ ap (holds passes) list-is in
           let ew : upto mostRows (wordAt rs) allUnreached ≡ words h =
           ap (λ (x : Outcome × (Bool × List ℕ)). upto mostRows (wordAt (x .1 .1)) allUnreached) d
-          ∙ words-come-back (words (sheetIn l)) zeros (words-long (sheetIn l)) (omega (arith, length-replicate (resultsLong mostRows) (zero))) ∙ ap words list-is in
+          ∙ words-come-back (words (sheetIn l)) zeros (words-long (sheetIn l)) (omega (arith, length-replicate {A = ℕ} (resultsLong mostRows) 0)) ∙ ap words list-is in
           ea ∙ (λ i. (eo i, et i, ew i)) ∙ sym (legal-is-judged passes h f)
       go false f =
           let d = e ∙ not-legal-is-kept l zeros (ap legal list-is ∙ f) in

@@ -15,32 +15,14 @@ Inv-loop sheet results k length busy window pace₀ i₀ pace i = (i ≤ k) × (
 abbrev μ-loop : tie.MeasureT-loop
 μ-loop sheet results k length busy window pace₀ i₀ pace i = k - i
 
-busy-of-requires : tie.Need-busy-of-requires Inv-loop μ-loop
-busy-of-requires c κs = search needs
-
-window-of-requires : tie.Need-window-of-requires Inv-loop μ-loop
-window-of-requires c κs = search needs
-
 loop-holds : tie.Need-loop-holds Inv-loop μ-loop
 loop-holds c = (search needs, search paces-none)
-
-row-inside-requires : tie.Need-row-inside-requires Inv-loop μ-loop
-row-inside-requires c κs = search needs
 
 stay-of-row-requires : tie.Need-stay-of-row-requires Inv-loop μ-loop
 stay-of-row-requires c κs = search row-above
 
-fewer-requires : tie.Need-fewer-requires Inv-loop μ-loop
-fewer-requires c κs = search needs
-
 joined-requires : tie.Need-joined-requires Inv-loop μ-loop
 joined-requires c κs = (search width-small, search capped-small)
-
-add-i : tie.Need-add-i Inv-loop μ-loop
-add-i c = search needs
-
-loop-less : tie.Need-loop-less Inv-loop μ-loop
-loop-less c = search needs
 
 loop-again : tie.Need-loop-again Inv-loop μ-loop
 loop-again c = (search needs, search paces-more)
@@ -54,18 +36,18 @@ pace-above-spec =
     (tie.spec
     Inv-loop
     μ-loop
-    busy-of-requires
-    window-of-requires
+    (λ c κs. search needs)
+    (λ c κs. search needs)
     loop-holds
-    row-inside-requires
+    (λ c κs. search needs)
     (λ c. search needs)
     (λ c. search needs)
     (λ c. search needs)
     (λ c. search needs)
     stay-of-row-requires
-    fewer-requires
+    (λ c κs. search needs)
     joined-requires
-    add-i
-    loop-less
+    (λ c. search needs)
+    (λ c. search needs)
     loop-again
     returns)

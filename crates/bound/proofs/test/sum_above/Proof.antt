@@ -15,32 +15,14 @@ Inv-loop sheet results k length busy window sum₀ i₀ sum i = (i ≤ k) × (su
 abbrev μ-loop : tie.MeasureT-loop
 μ-loop sheet results k length busy window sum₀ i₀ sum i = k - i
 
-busy-of-requires : tie.Need-busy-of-requires Inv-loop μ-loop
-busy-of-requires c κs = search needs
-
-window-of-requires : tie.Need-window-of-requires Inv-loop μ-loop
-window-of-requires c κs = search needs
-
-none-requires : tie.Need-none-requires Inv-loop μ-loop
-none-requires c κs = search needs
-
 loop-holds : tie.Need-loop-holds Inv-loop μ-loop
 loop-holds c = (search needs, search sum-none)
-
-row-inside-requires : tie.Need-row-inside-requires Inv-loop μ-loop
-row-inside-requires c κs = search needs
 
 amount-above-requires : tie.Need-amount-above-requires Inv-loop μ-loop
 amount-above-requires c κs = (search row-above, search window-small, search busy-small)
 
 plus-requires : tie.Need-plus-requires Inv-loop μ-loop
 plus-requires c κs = search sum-fits
-
-add-i : tie.Need-add-i Inv-loop μ-loop
-add-i c = search needs
-
-loop-less : tie.Need-loop-less Inv-loop μ-loop
-loop-less c = search needs
 
 loop-again : tie.Need-loop-again Inv-loop μ-loop
 loop-again c = (search needs, search sum-more)
@@ -54,18 +36,18 @@ sum-above-spec =
     (tie.spec
     Inv-loop
     μ-loop
-    busy-of-requires
-    window-of-requires
-    none-requires
+    (λ c κs. search needs)
+    (λ c κs. search needs)
+    (λ c κs. search needs)
     loop-holds
-    row-inside-requires
+    (λ c κs. search needs)
     (λ c. search needs)
     (λ c. search needs)
     (λ c. search needs)
     (λ c. search needs)
     amount-above-requires
     plus-requires
-    add-i
-    loop-less
+    (λ c. search needs)
+    (λ c. search needs)
     loop-again
     returns)
