@@ -5,22 +5,25 @@ use mathlib.Core.Path.{_≡_, refl, sym, ap, ap₂, _∙_}
 use mathlib.Core.Bool.{Bool, true, false}
 use mathlib.Core.List.{List}
 use native.Mathlib.Omega.{arith}
-use lib.ListN.{getD, length-replicate}
+use lib.ListN.{length, getD, length-replicate}
 use Rattle.basis.specs.Limits.{mostRows}
-use Rattle.basis.specs.Refusals.{accepted, refused}
+use Rattle.basis.specs.Refusals.{Outcome, accepted, refused, outcome, orElse, roomFor, handed}
 use Rattle.basis.specs.declared.refusal.Refusal.{Refusal}
 use Rattle.basis.proofs.Refusals.{outcome-one-to-one}
 use Rattle.basis.proofs.Upto.{upto-below, upto-past}
 use Rattle.sheet.specs.Legal.{legal}
+use Rattle.sheet.specs.Lists.{filled, sheetIn}
 use Rattle.sheet.specs.declared.row.Sheet.{Sheet}
 use Rattle.sheet.proofs.Legality.{legal-is}
 use Rattle.bound.specs.Test.{Test, passes}
 use Rattle.bound.specs.Bound.{Word, bound, none, unreached, word, wordIn, resultOf, allUnreached, holds, Answer, answer, judged, notLegal, boundsBy, boundsOf}
+use Rattle.bound.specs.Lists.{resultsLong, resultCell, resultsOn, boundsOn}
 use Rattle.bound.specs.Tables.{fixedSheet}
 use Rattle.bound.specs.declared.results.Result.{Result}
 use Rattle.bound.specs.declared.results.Result.the-variants.{Unreached, Bound, NoBound}
 use Rattle.bound.specs.declared.results.Judged.{Judged}
 use Rattle.bound.specs.declared.results.Results.{Results}
+use Rattle.bound.specs.declared.results.Judgement.{Judgement}
 use Rattle.basis.proofs.Lists.{map-one-to-one, getD-all}
 use Rattle.bound.proofs.Judging.{Agree, passes-local, result-agrees}
 
@@ -54,6 +57,14 @@ answer-one-to-one a b e =
 -- `bounds`
 pub bounds-same : (h : Sheet) (a b : Results) → answer a ≡ boundsOf h → answer b ≡ boundsOf h → a ≡ b
 bounds-same h a b e f = answer-one-to-one a b (e ∙ sym f)
+
+-- `bounds_on`: the judgement, and the list after it
+pub bounds-on-same : (l b : List ℕ) (r s : Judgement) (m d : List ℕ) → (outcome (r .refusal), (r .holds, m)) ≡ boundsOn l b → (outcome (s .refusal), (s .holds, d)) ≡ boundsOn l b → (r ≡ s) × (m ≡ d)
+bounds-on-same l b r s m d e f =
+    let g = e ∙ sym f in
+    let refusal : r .refusal ≡ s .refusal = outcome-one-to-one (r .refusal) (s .refusal) (ap (λ (x : Outcome × (Bool × List ℕ)). x .0) g) in
+    let holds : r .holds ≡ s .holds = ap (λ (x : Outcome × (Bool × List ℕ)). x .1 .0) g in
+    (ap₂ (λ (x : Refusal) (t : Bool). record { refusal = x; holds = t }) refusal holds, ap (λ (x : Outcome × (Bool × List ℕ)). x .1 .1) g)
 
 -- `fixed_sheet`
 pub fixed-sheet-same : (n : ℕ) (a b : Sheet) → a ≡ fixedSheet n → b ≡ fixedSheet n → a ≡ b
@@ -104,3 +115,24 @@ pub rows-above-decide : (h s : Sheet) (k : ℕ) → legal h ≡ true → legal s
     → (i : ℕ) → i ≤ k → told (boundsOf h) i ≡ told (boundsOf s) i
 rows-above-decide h s k eh es lh ls a i l =
     told-is passes h eh i (omega arith) ∙ result-agrees passes passes-local h s k a i l ∙ sym (told-is passes s es i (omega arith))
+
+-- ---- the answer in a list is the answer by value
+
+-- a refusal hands over what was found
+found-is-handed : {A : Type 0} (o : Outcome) (done found : A) (n p : ℕ) → handed o done found .0 ≡ refused n p → handed o done found ≡ (refused n p, found)
+found-is-handed accepted done found n p e = absurd (let z : _≡_ {A = ℕ} 0 1 = cc in omega arith)
+found-is-handed {A} (refused k q) done found n p e = ap (λ (o : Outcome). (o, found)) e
+
+module _ (l b : List ℕ) where
+  -- its refusal first, then the room; whether the sheet holds, and each row's result
+  pub put-is-the-answer : boundsOn l b
+      ≡ handed (orElse (boundsOf (sheetIn l) .0) (roomFor (resultsLong (sheetIn l .count)) (length b))) (boundsOf (sheetIn l) .1, filled (resultCell (boundsOf (sheetIn l) .2)) b) (false, b)
+  unfolding boundsOn resultsOn
+  put-is-the-answer = refl
+
+  -- any refusal leaves the list as it was, and the sheet does not hold
+  pub refused-list-is-kept : (n p : ℕ) → boundsOn l b .0 ≡ refused n p → boundsOn l b ≡ (refused n p, (false, b))
+  refused-list-is-kept n p e =
+      put-is-the-answer
+      ∙ found-is-handed (orElse (boundsOf (sheetIn l) .0) (roomFor (resultsLong (sheetIn l .count)) (length b))) (boundsOf (sheetIn l) .1, filled (resultCell (boundsOf (sheetIn l) .2)) b) (false, b) n p
+      (sym (ap (λ (x : Outcome × (Bool × List ℕ)). x .0) put-is-the-answer) ∙ e)

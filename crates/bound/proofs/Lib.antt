@@ -8,6 +8,7 @@ pub mod Lengths
 pub mod Shares
 pub mod Judging
 pub mod Meaning
+pub mod Lists
 pub mod Rows
 pub mod Worked
 pub mod Answers

@@ -3,5 +3,6 @@ pub mod Test
 pub mod Bound
 pub mod Tables
 pub mod Cases
+pub mod Lists
 pub mod Ready
 pub mod Skipping

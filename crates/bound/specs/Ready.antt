@@ -1,41 +1,43 @@
 -- The facts that the functions below the public ones are called with.
-use Prim.Native.Nat.{ℕ, _*_, _≤_, _<_}
+use Prim.Native.Nat.{ℕ, _+_, _*_, _≤_, _<_}
 use mathlib.Core.Path.{_≡_}
 use mathlib.Core.Bool.{Bool}
 use mathlib.Core.List.{List}
-use lib.ListN.{length, replicate}
-use Rattle.basis.specs.Limits.{mostProcessors, mostRows, mostSeparation}
+use lib.ListN.{length}
+use Rattle.basis.specs.Limits.{mostProcessors, mostSeparation}
 use Rattle.basis.specs.Words.{allOf}
 use Rattle.basis.specs.Upto.{upto}
 use Rattle.sheet.specs.Legal.{rowAt, Legal}
 use Rattle.sheet.specs.declared.row.Row.{Row}
 use Rattle.sheet.specs.declared.row.Sheet.{Sheet}
-use Rattle.sheet.specs.Lists.{numberAt, sheetLong}
+use Rattle.sheet.specs.Lists.{numberAt, sheetIn, sheetLong}
 use Rattle.bound.specs.Quantities.{slots}
 use Rattle.bound.specs.Test.{passes}
 use Rattle.bound.specs.Bound.{bounds, bounded, resultOf}
+use Rattle.bound.specs.Lists.{resultsLong, resultCell, words}
 use Rattle.bound.specs.declared.quantity.Duration.{Duration}
 
--- The bounds that a list of plain numbers holds.
+-- The bounds that a list of results holds.
 abbrev pub heldIn : List ℕ → ℕ → Duration
-heldIn l i = slots (numberAt l i)
+heldIn l i = slots (numberAt l (i * 2 + 1))
 
--- No bounds yet.
-abbrev pub noBounds : List ℕ
-noBounds = replicate mostRows 0
-
--- A sheet's list has room for every row.
+-- A sheet's list has room for its rows.
 abbrev pub Long : List ℕ → Type 0
-Long l = sheetLong mostRows ≤ length l
+Long l = sheetLong (sheetIn l .count) ≤ length l
 
--- The two lists that rows are judged by, the sheet's and that of the bounds, have room for every row.
+-- The two lists that rows are judged by, the sheet's and that of the results, have room for the sheet's rows.
 pub record Lent (l b : List ℕ) : Type 0 where
   pub sheet-long : Long l
-  pub bounds-long : mostRows ≤ length b
+  pub results-long : resultsLong (sheetIn l .count) ≤ length b
 
--- The loop over the rows has judged the first k: what it holds are their bounds, and whether each has one.
-pub record SoFar (h : Sheet) (rs : List ℕ) (reached : Bool) (k : ℕ) : Type 0 where
-  pub above : rs ≡ upto k (λ i. bounds (resultOf passes h) i .0) noBounds
+-- What is known of the rows above row k: a list of results holds their bounds, and whether each has one.
+pub record RowsAbove (h : Sheet) (rs : List ℕ) (reached : Bool) (k : ℕ) : Type 0 where
+  pub held : (i : ℕ) → i < k → heldIn rs i ≡ bounds (resultOf passes h) i
+  pub all : reached ≡ allOf k (bounded (resultOf passes h))
+
+-- The loop over the rows has judged the first k: their results are put into the list that was lent, and whether each is a bound.
+pub record SoFar (h : Sheet) (lent rs : List ℕ) (reached : Bool) (k : ℕ) : Type 0 where
+  pub put : rs ≡ upto (resultsLong k) (resultCell (words h)) lent
   pub all : reached ≡ allOf k (bounded (resultOf passes h))
 
 -- Row k of a legal sheet can be judged by these bounds: each above is from C to D.

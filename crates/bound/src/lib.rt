@@ -1,4 +1,6 @@
 // The bound of each row of a sheet, and the fixed tables of sheets A to F.
+mod inside;
+mod judge;
 mod pace;
 mod quantity;
 mod results;
@@ -8,7 +10,10 @@ mod tables;
 mod test;
 
 pub use results::Judged;
+pub use results::Judgement;
+pub use results::RESULTS_LONG;
 pub use results::Result;
 pub use results::Results;
 pub use results::bounds;
+pub use results::bounds_on;
 pub use tables::fixed_sheet;

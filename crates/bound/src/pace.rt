@@ -5,6 +5,7 @@ ghost use Rattle.basis.specs.Limits.{mostProcessors, mostRows};
 ghost use Rattle.sheet.specs.Lists.{sheetIn};
 ghost use Rattle.bound.specs.Ready.{heldIn, Lent, Ready, Length, Above};
 ghost use Rattle.bound.specs.Skipping.{stayOf, joined, Paces, Steep};
+use crate::inside::row_inside;
 use crate::quantity::Amount;
 use crate::quantity::Duration;
 use crate::test::busy_of;
@@ -14,7 +15,6 @@ use crate::test::window_of;
 use crate::test::work_above;
 use basis::MOST_SEPARATION;
 use sheet::Row;
-use sheet::row_at;
 
 // Rows whose durations grow by one in each of the next `stay` slots, and the processors that they take together.
 pub struct Pace {
@@ -50,9 +50,9 @@ fn joined(pace: Pace, capped: u64, stay: Duration) -> Pace
 }
 
 // The pace at which the sum of the amounts above row `k` grows from a length on.
-pub(crate) fn pace_above(sheet: &[u64], bounds: &[u64], k: usize, length: Duration) -> Pace
-    requires { ⌜ (Lent (now sheet) (now bounds)) × (Ready (sheetIn (now sheet)) (heldIn (now bounds)) k) × (Length (sheetIn (now sheet)) k length) ⌝ }
-    ensures { λ r. ⌜ Paces (sheetIn (now (sheet .entry))) (heldIn (now (bounds .entry))) k length k r ⌝ }
+pub(crate) fn pace_above(sheet: &[u64], results: &[u64], k: usize, length: Duration) -> Pace
+    requires { ⌜ (Lent (now sheet) (now results)) × (Ready (sheetIn (now sheet)) (heldIn (now results)) k) × (Length (sheetIn (now sheet)) k length) ⌝ }
+    ensures { λ r. ⌜ Paces (sheetIn (now (sheet .entry))) (heldIn (now (results .entry))) k length k r ⌝ }
 {
     let busy = busy_of(sheet, k);
     let window = window_of(sheet, k, length);
@@ -62,8 +62,8 @@ pub(crate) fn pace_above(sheet: &[u64], bounds: &[u64], k: usize, length: Durati
     };
     let mut i: usize = 0;
     while i < k {
-        let row = row_at(sheet, i);
-        let bound = Duration(bounds[i]);
+        let row = row_inside(sheet, i);
+        let bound = Duration(results[i * 2 + 1]);
         let stay = stay_of_row(row, bound, length, window);
         let capped = fewer(row.threads, busy);
         pace = joined(pace, capped, stay);

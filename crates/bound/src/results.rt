@@ -1,12 +1,14 @@
-// The result of each row, and whether the sheet holds.
+// The result of each row, and whether the sheet holds: in a lent list, and by value.
 ghost use mathlib.Core.Path.{_≡_};
-ghost use Prim.Native.Nat.{_<_};
-ghost use Rattle.sheet.specs.Legal.{Legal};
-ghost use Rattle.sheet.specs.Lists.{sheetIn};
-ghost use Rattle.bound.specs.Test.{passes};
-ghost use Rattle.bound.specs.Bound.{isBound, valueOf, wordIn, resultOf, answer, judged, boundsOf};
-ghost use Rattle.bound.specs.Ready.{Long, Lent, SoFar};
-use crate::search::bound_of;
+ghost use Prim.Native.Nat.{_+_, _<_, _≤_};
+ghost use lib.ListN.{length};
+ghost use Rattle.basis.specs.Limits.{mostRows};
+ghost use Rattle.basis.specs.Upto.{upto};
+ghost use Rattle.basis.specs.Refusals.{outcome};
+ghost use Rattle.bound.specs.Bound.{wordIn, allUnreached, answer, boundsOf};
+ghost use Rattle.bound.specs.Lists.{resultsLong, wordAt, boundsOn};
+use crate::judge::clear_from;
+use crate::judge::judge_rows;
 use basis::MOST_ROWS;
 use basis::Refusal;
 use sheet::SHEET_LONG;
@@ -32,68 +34,80 @@ pub struct Results {
     pub rows: [Judged; MOST_ROWS],
 }
 
-impl Judged {
-    // The slots of the bound.
-    fn value(self) -> u64
-        ensures { λ r. ⌜ r ≡ valueOf (wordIn self) .0 ⌝ }
-    {
-        let result = self.result;
-        match result {
-            Result::Unreached => 0,
-            Result::Bound(r) => r,
-            Result::NoBound => 0,
-        }
-    }
+// What `bounds_on` answers beside the list: refused, or whether the sheet holds.
+pub struct Judgement {
+    pub refusal: Refusal,
+    pub holds: bool,
+}
 
-    // Whether there is a bound.
-    fn is_bound(self) -> bool
-        ensures { λ r. ⌜ r ≡ isBound (wordIn self) ⌝ }
-    {
-        let result = self.result;
-        match result {
-            Result::Unreached => false,
-            Result::Bound(_) => true,
-            Result::NoBound => false,
+// The places of a list that has room for the results of every row.
+pub const RESULTS_LONG: usize = MOST_ROWS * 2;
+
+// The bounds of the sheet in a list, put into a list of results: of each row its word as a number and its bound, and zeros past the rows.
+pub fn bounds_on(sheet: &[u64], results: &mut [u64]) -> Judgement
+    ensures { λ r. ⌜ (outcome (r .refusal), (r .holds, now (results .exit))) ≡ boundsOn (now (sheet .entry)) (now (results .entry)) ⌝ }
+{
+    let fine = sheet::is_legal_in(sheet);
+    if fine {
+        let n = sheet::count(sheet) as usize;
+        if results.len() < n * 2 {
+            return Judgement {
+                refusal: Refusal::Refused(15, 0),
+                holds: false,
+            };
         }
+        let holds = judge_rows(sheet, results, n);
+        clear_from(results, n * 2);
+        return Judgement {
+            refusal: Refusal::Accepted,
+            holds,
+        };
+    }
+    Judgement {
+        refusal: Refusal::Refused(10, 0),
+        holds: false,
     }
 }
 
-// The result of row `k`, by the bounds above, and whether every row above has one.
-fn judge_row(sheet: &[u64], above: &[u64], k: usize, reached: bool) -> Judged
-    requires { ⌜ (Lent (now sheet) (now above)) × (Legal (sheetIn (now sheet))) × (k < sheetIn (now sheet) .count) × (SoFar (sheetIn (now sheet)) (now above) reached k) ⌝ }
-    ensures { λ r. ⌜ wordIn r ≡ resultOf passes (sheetIn (now (sheet .entry))) k ⌝ }
+// Result `k` of a list of results, which has room for it.
+fn judged_at(results: &[u64], k: usize) -> Judged
+    requires { ⌜ (k < mostRows) × (resultsLong (k + 1) ≤ length (now results)) ⌝ }
+    ensures { λ r. ⌜ wordIn r ≡ wordAt (now (results .entry)) k ⌝ }
 {
-    if reached {
-        let result = bound_of(sheet, above, k);
-        return Judged { result };
+    let word = results[k * 2];
+    if word == 0 {
+        return Judged {
+            result: Result::Unreached,
+        };
+    }
+    if word == 1 {
+        return Judged {
+            result: Result::Bound(results[k * 2 + 1]),
+        };
     }
     Judged {
-        result: Result::Unreached,
+        result: Result::NoBound,
     }
 }
 
-// The results of a legal sheet.
-fn judge_rows(sheet: &[u64]) -> Results
-    requires { ⌜ (Long (now sheet)) × (Legal (sheetIn (now sheet))) ⌝ }
-    ensures { λ r. ⌜ answer r ≡ judged passes (sheetIn (now (sheet .entry))) ⌝ }
+// An answer by value, of a list with room for the results of every row.
+fn results_of(results: &[u64], judgement: Judgement) -> Results
+    requires { ⌜ resultsLong mostRows ≤ length (now results) ⌝ }
+    ensures { λ r. ⌜ answer r ≡ (outcome (judgement .refusal), judgement .holds, upto mostRows (wordAt (now (results .entry))) allUnreached) ⌝ }
 {
+    let refusal = judgement.refusal;
+    let holds = judgement.holds;
     let mut rows = [Judged {
         result: Result::Unreached,
     }; MOST_ROWS];
-    let mut above = [0u64; MOST_ROWS];
-    let mut reached = true;
-    let n = sheet::count(sheet) as usize;
     let mut i: usize = 0;
-    while i < n {
-        let judged = judge_row(sheet, &above, i, reached);
-        rows[i] = judged;
-        above[i] = judged.value();
-        reached = judged.is_bound();
+    while i < MOST_ROWS {
+        rows[i] = judged_at(results, i);
         i += 1;
     }
     Results {
-        refusal: Refusal::Accepted,
-        holds: reached,
+        refusal,
+        holds,
         rows,
     }
 }
@@ -102,17 +116,9 @@ fn judge_rows(sheet: &[u64]) -> Results
 pub fn bounds(sheet: Sheet) -> Results
     ensures { λ r. ⌜ answer r ≡ boundsOf sheet ⌝ }
 {
-    if sheet::is_legal(sheet) {
-        let mut list = [0u64; SHEET_LONG];
-        sheet::put_sheet(&mut list, sheet);
-        return judge_rows(&list);
-    }
-    let rows = [Judged {
-        result: Result::Unreached,
-    }; MOST_ROWS];
-    Results {
-        refusal: Refusal::Refused(10, 0),
-        holds: false,
-        rows,
-    }
+    let mut list = [0u64; SHEET_LONG];
+    sheet::put_sheet(&mut list, sheet);
+    let mut results = [0u64; RESULTS_LONG];
+    let judgement = bounds_on(&list, &mut results);
+    results_of(&results, judgement)
 }

@@ -6,6 +6,7 @@ ghost use Rattle.sheet.specs.Lists.{sheetIn};
 ghost use Rattle.bound.specs.Quantities.{on};
 ghost use Rattle.bound.specs.Ready.{heldIn, Lent, Ready, Length, Above};
 ghost use Rattle.bound.specs.Skipping.{shareOf, Shares, LeavesRoom};
+use crate::inside::row_inside;
 use crate::quantity::Amount;
 use crate::quantity::Duration;
 use crate::test::busy_of;
@@ -14,7 +15,6 @@ use crate::test::passes;
 use crate::test::span_above;
 use crate::test::window_of;
 use sheet::Row;
-use sheet::row_at;
 
 // The amount of a row above with this bound, by its share: its budget of every separation.
 fn share_above(row: Row, bound: Duration, length: Duration, window: Duration, busy: u64) -> Amount
@@ -30,17 +30,17 @@ fn share_above(row: Row, bound: Duration, length: Duration, window: Duration, bu
 }
 
 // The sum of the amounts above row `k` by their shares.
-fn shares_above(sheet: &[u64], bounds: &[u64], k: usize, length: Duration) -> Amount
-    requires { ⌜ (Lent (now sheet) (now bounds)) × (Ready (sheetIn (now sheet)) (heldIn (now bounds)) k) × (Length (sheetIn (now sheet)) k length) ⌝ }
-    ensures { λ r. ⌜ Shares (sheetIn (now (sheet .entry))) (heldIn (now (bounds .entry))) k length k r ⌝ }
+fn shares_above(sheet: &[u64], results: &[u64], k: usize, length: Duration) -> Amount
+    requires { ⌜ (Lent (now sheet) (now results)) × (Ready (sheetIn (now sheet)) (heldIn (now results)) k) × (Length (sheetIn (now sheet)) k length) ⌝ }
+    ensures { λ r. ⌜ Shares (sheetIn (now (sheet .entry))) (heldIn (now (results .entry))) k length k r ⌝ }
 {
     let busy = busy_of(sheet, k);
     let window = window_of(sheet, k, length);
     let mut sum = Amount::none();
     let mut i: usize = 0;
     while i < k {
-        let row = row_at(sheet, i);
-        let bound = Duration(bounds[i]);
+        let row = row_inside(sheet, i);
+        let bound = Duration(results[i * 2 + 1]);
         let share = share_above(row, bound, length, window, busy);
         sum = sum.plus(share);
         i += 1;
@@ -49,10 +49,10 @@ fn shares_above(sheet: &[u64], bounds: &[u64], k: usize, length: Duration) -> Am
 }
 
 // Whether the shares leave room in a length; where they do not, no length up to it passes.
-pub(crate) fn leaves_room(sheet: &[u64], bounds: &[u64], k: usize, length: Duration) -> bool
-    requires { ⌜ (Lent (now sheet) (now bounds)) × (Ready (sheetIn (now sheet)) (heldIn (now bounds)) k) × (Length (sheetIn (now sheet)) k length) ⌝ }
-    ensures { λ r. ⌜ LeavesRoom (sheetIn (now (sheet .entry))) (heldIn (now (bounds .entry))) k length r ⌝ }
+pub(crate) fn leaves_room(sheet: &[u64], results: &[u64], k: usize, length: Duration) -> bool
+    requires { ⌜ (Lent (now sheet) (now results)) × (Ready (sheetIn (now sheet)) (heldIn (now results)) k) × (Length (sheetIn (now sheet)) k length) ⌝ }
+    ensures { λ r. ⌜ LeavesRoom (sheetIn (now (sheet .entry))) (heldIn (now (results .entry))) k length r ⌝ }
 {
-    let sum = shares_above(sheet, bounds, k, length);
+    let sum = shares_above(sheet, results, k, length);
     passes(sheet, k, length, sum)
 }

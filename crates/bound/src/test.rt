@@ -7,11 +7,11 @@ ghost use Rattle.sheet.specs.Lists.{sheetIn};
 ghost use Rattle.bound.specs.Quantities.{on, less};
 ghost use Rattle.bound.specs.Test.{q, X, x, W, durationOf, amounts, room};
 ghost use Rattle.bound.specs.Ready.{heldIn, Long, Lent, Ready, Length, Above, Spans};
+use crate::inside::row_inside;
 use crate::quantity::Amount;
 use crate::quantity::Duration;
 use sheet::Row;
 use sheet::processors;
-use sheet::row_at;
 
 // The smaller of two counts.
 pub(crate) fn fewer(a: u64, b: u64) -> u64
@@ -25,7 +25,7 @@ pub(crate) fn busy_of(sheet: &[u64], k: usize) -> u64
     requires { ⌜ (Long (now sheet)) × (Legal (sheetIn (now sheet))) × (k < sheetIn (now sheet) .count) ⌝ }
     ensures { λ r. ⌜ r ≡ q (sheetIn (now (sheet .entry))) k ⌝ }
 {
-    let row = row_at(sheet, k);
+    let row = row_inside(sheet, k);
     processors(sheet) - row.threads + 1
 }
 
@@ -34,7 +34,7 @@ pub(crate) fn window_of(sheet: &[u64], k: usize, length: Duration) -> Duration
     requires { ⌜ (Long (now sheet)) × (Legal (sheetIn (now sheet))) × (k < sheetIn (now sheet) .count) × (Length (sheetIn (now sheet)) k length) ⌝ }
     ensures { λ r. ⌜ r ≡ X (sheetIn (now (sheet .entry))) k length ⌝ }
 {
-    let row = row_at(sheet, k);
+    let row = row_inside(sheet, k);
     let before = length.after(Duration(row.budget));
     before.plus(Duration(1))
 }
@@ -82,17 +82,17 @@ fn amount_above(row: Row, bound: Duration, length: Duration, window: Duration, b
 }
 
 // The sum of the amounts of the rows above row `k`, by their bounds.
-pub(crate) fn sum_above(sheet: &[u64], bounds: &[u64], k: usize, length: Duration) -> Amount
-    requires { ⌜ (Lent (now sheet) (now bounds)) × (Ready (sheetIn (now sheet)) (heldIn (now bounds)) k) × (Length (sheetIn (now sheet)) k length) ⌝ }
-    ensures { λ r. ⌜ r ≡ amounts (sheetIn (now (sheet .entry))) (heldIn (now (bounds .entry))) k length k ⌝ }
+pub(crate) fn sum_above(sheet: &[u64], results: &[u64], k: usize, length: Duration) -> Amount
+    requires { ⌜ (Lent (now sheet) (now results)) × (Ready (sheetIn (now sheet)) (heldIn (now results)) k) × (Length (sheetIn (now sheet)) k length) ⌝ }
+    ensures { λ r. ⌜ r ≡ amounts (sheetIn (now (sheet .entry))) (heldIn (now (results .entry))) k length k ⌝ }
 {
     let busy = busy_of(sheet, k);
     let window = window_of(sheet, k, length);
     let mut sum = Amount::none();
     let mut i: usize = 0;
     while i < k {
-        let row = row_at(sheet, i);
-        let bound = Duration(bounds[i]);
+        let row = row_inside(sheet, i);
+        let bound = Duration(results[i * 2 + 1]);
         let amount = amount_above(row, bound, length, window, busy);
         sum = sum.plus(amount);
         i += 1;

@@ -7,14 +7,8 @@ use Rattle.bound.proofs.pace.joined.Tie as tie
 returns : tie.Need-returns
 returns c = search join-none
 
-lesser-requires : tie.Need-lesser-requires
-lesser-requires c κs = search needs
-
-add-t6 : tie.Need-add-t6
-add-t6 c = search needs
-
 returns-2 : tie.Need-returns-2
 returns-2 c = search join-more
 
 pub joined-spec : {M : Type 1} → statement M
-joined-spec = tie.close (tie.spec returns lesser-requires add-t6 returns-2)
+joined-spec = tie.close (tie.spec returns (λ c κs. search needs) (λ c. search needs) returns-2)

@@ -10,43 +10,19 @@ use Rattle.bound.proofs.pace.pace_above.Statement.{statement}
 use Rattle.bound.proofs.pace.pace_above.Tie as tie
 
 abbrev Inv-loop : tie.InvT-loop
-Inv-loop sheet bounds k length busy window pace₀ i₀ pace i = (i ≤ k) × (Paces (sheetIn sheet) (heldIn bounds) k length i pace)
+Inv-loop sheet results k length busy window pace₀ i₀ pace i = (i ≤ k) × (Paces (sheetIn sheet) (heldIn results) k length i pace)
 
 abbrev μ-loop : tie.MeasureT-loop
-μ-loop sheet bounds k length busy window pace₀ i₀ pace i = k - i
-
-busy-of-requires : tie.Need-busy-of-requires Inv-loop μ-loop
-busy-of-requires c κs = search needs
-
-window-of-requires : tie.Need-window-of-requires Inv-loop μ-loop
-window-of-requires c κs = search needs
+μ-loop sheet results k length busy window pace₀ i₀ pace i = k - i
 
 loop-holds : tie.Need-loop-holds Inv-loop μ-loop
 loop-holds c = (search needs, search paces-none)
 
-row-at-requires : tie.Need-row-at-requires Inv-loop μ-loop
-row-at-requires c κs = search needs
-
-mul-t15 : tie.Need-mul-t15 Inv-loop μ-loop
-mul-t15 c = search needs
-
-shared-slice-read-t17 : tie.Need-shared-slice-read-t17 Inv-loop μ-loop
-shared-slice-read-t17 c = search needs
-
 stay-of-row-requires : tie.Need-stay-of-row-requires Inv-loop μ-loop
 stay-of-row-requires c κs = search row-above
 
-fewer-requires : tie.Need-fewer-requires Inv-loop μ-loop
-fewer-requires c κs = search needs
-
 joined-requires : tie.Need-joined-requires Inv-loop μ-loop
 joined-requires c κs = (search width-small, search capped-small)
-
-add-i : tie.Need-add-i Inv-loop μ-loop
-add-i c = search needs
-
-loop-less : tie.Need-loop-less Inv-loop μ-loop
-loop-less c = search needs
 
 loop-again : tie.Need-loop-again Inv-loop μ-loop
 loop-again c = (search needs, search paces-more)
@@ -60,16 +36,18 @@ pace-above-spec =
     (tie.spec
     Inv-loop
     μ-loop
-    busy-of-requires
-    window-of-requires
+    (λ c κs. search needs)
+    (λ c κs. search needs)
     loop-holds
-    row-at-requires
-    mul-t15
-    shared-slice-read-t17
+    (λ c κs. search needs)
+    (λ c. search needs)
+    (λ c. search needs)
+    (λ c. search needs)
+    (λ c. search needs)
     stay-of-row-requires
-    fewer-requires
+    (λ c κs. search needs)
     joined-requires
-    add-i
-    loop-less
+    (λ c. search needs)
+    (λ c. search needs)
     loop-again
     returns)

@@ -4,26 +4,8 @@ use Rattle.bound.proofs.Steps.{divides, next-fits, one-more-fits, next-
 use Rattle.bound.proofs.search.next_length.Statement.{statement}
 use Rattle.bound.proofs.search.next_length.Tie as tie
 
-busy-of-requires : tie.Need-busy-of-requires
-busy-of-requires c κs = search needs
-
-room-of-requires : tie.Need-room-of-requires
-room-of-requires c κs = search needs
-
-minus-requires : tie.Need-minus-requires
-minus-requires c κs = search needs
-
 fills-requires : tie.Need-fills-requires
 fills-requires c κs = search divides
-
-pace-above-requires : tie.Need-pace-above-requires
-pace-above-requires c κs = search needs
-
-steep-requires : tie.Need-steep-requires
-steep-requires c κs = search needs
-
-greater-requires : tie.Need-greater-requires
-greater-requires c κs = search needs
 
 plus-requires : tie.Need-plus-requires
 plus-requires c κs = search next-fits
@@ -38,13 +20,13 @@ pub next-length-spec : {M : Type 1} → statement M
 next-length-spec =
     tie.close
     (tie.spec
-    busy-of-requires
-    room-of-requires
-    minus-requires
+    (λ c κs. search needs)
+    (λ c κs. search needs)
+    (λ c κs. search needs)
     fills-requires
-    pace-above-requires
-    steep-requires
-    greater-requires
+    (λ c κs. search needs)
+    (λ c κs. search needs)
+    (λ c κs. search needs)
     plus-requires
     plus-requires-2
     returns)

@@ -13,30 +13,21 @@ use Rattle.bound.proofs.search.smallest.Statement.{statement}
 use Rattle.bound.proofs.search.smallest.Tie as tie
 
 abbrev Inv-loop : tie.InvT-loop
-Inv-loop sheet bounds k deadline length₀ length =
+Inv-loop sheet results k deadline length₀ length =
     (rowAt (sheetIn sheet) k .budget ≤ length .0)
-    × (least (passesAt passes (sheetIn sheet) (heldIn bounds) k) (length .0) (rowAt (sheetIn sheet) k .deadline + 1 - length .0) ≡ boundBy passes (sheetIn sheet) (heldIn bounds) k)
+    × (least (passesAt passes (sheetIn sheet) (heldIn results) k) (length .0) (rowAt (sheetIn sheet) k .deadline + 1 - length .0) ≡ boundBy passes (sheetIn sheet) (heldIn results) k)
 
 abbrev μ-loop : tie.MeasureT-loop
-μ-loop sheet bounds k deadline length₀ length = rowAt (sheetIn sheet) k .deadline + 1 - length .0
-
-row-at-requires : tie.Need-row-at-requires Inv-loop μ-loop
-row-at-requires c κs = search needs
+μ-loop sheet results k deadline length₀ length = rowAt (sheetIn sheet) k .deadline + 1 - length .0
 
 loop-holds : tie.Need-loop-holds Inv-loop μ-loop
 loop-holds c = (search start-low, search search-starts)
 
 try-length-requires : tie.Need-try-length-requires Inv-loop μ-loop
-try-length-requires c κs = (search needs, search needs, search (length-of-row, le-of-lt))
-
-enum-known-tried : tie.Need-enum-known-tried Inv-loop μ-loop
-enum-known-tried c = search needs
-
-enum-told : tie.Need-enum-told Inv-loop μ-loop
-enum-told c = search needs
+try-length-requires c κs = (search needs, search needs, search length-of-row)
 
 returns : tie.Need-returns Inv-loop μ-loop
-returns c = search (search-found, le-of-lt)
+returns c = search search-found
 
 loop-less : tie.Need-loop-less Inv-loop μ-loop
 loop-less c = search (search-less, le-of-lt)
@@ -53,11 +44,11 @@ smallest-spec =
     (tie.spec
     Inv-loop
     μ-loop
-    row-at-requires
+    (λ c κs. search needs)
     loop-holds
     try-length-requires
-    enum-known-tried
-    enum-told
+    (λ c. search needs)
+    (λ c. search needs)
     returns
     loop-less
     loop-again

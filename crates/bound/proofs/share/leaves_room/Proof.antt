@@ -4,14 +4,8 @@ use Rattle.bound.proofs.Shares.{room-told}
 use Rattle.bound.proofs.share.leaves_room.Statement.{statement}
 use Rattle.bound.proofs.share.leaves_room.Tie as tie
 
-shares-above-requires : tie.Need-shares-above-requires
-shares-above-requires c κs = search needs
-
-passes-requires : tie.Need-passes-requires
-passes-requires c κs = search needs
-
 returns : tie.Need-returns
 returns c = search room-told
 
 pub leaves-room-spec : {M : Type 1} → statement M
-leaves-room-spec = tie.close (tie.spec shares-above-requires passes-requires returns)
+leaves-room-spec = tie.close (tie.spec (λ c κs. search needs) (λ c κs. search needs) returns)

@@ -4,12 +4,6 @@ use Rattle.bound.proofs.Amounts.{threads-fit, busy-fits, busy-is}
 use Rattle.bound.proofs.test.busy_of.Statement.{statement}
 use Rattle.bound.proofs.test.busy_of.Tie as tie
 
-row-at-requires : tie.Need-row-at-requires
-row-at-requires c κs = search needs
-
-processors-requires : tie.Need-processors-requires
-processors-requires c κs = search needs
-
 sub-result : tie.Need-sub-result
 sub-result c = search threads-fit
 
@@ -21,4 +15,4 @@ returns c = search busy-is
 
 pub busy-of-spec : {M : Type 1} → statement M
 busy-of-spec =
-    tie.close (tie.spec row-at-requires processors-requires sub-result add-result returns)
+    tie.close (tie.spec (λ c κs. search needs) (λ c κs. search needs) sub-result add-result returns)

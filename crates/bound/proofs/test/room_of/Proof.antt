@@ -4,15 +4,6 @@ use Rattle.bound.proofs.Amounts.{window-small, capped-small, room-is}
 use Rattle.bound.proofs.test.room_of.Statement.{statement}
 use Rattle.bound.proofs.test.room_of.Tie as tie
 
-busy-of-requires : tie.Need-busy-of-requires
-busy-of-requires c κs = search needs
-
-window-of-requires : tie.Need-window-of-requires
-window-of-requires c κs = search needs
-
-fewer-requires : tie.Need-fewer-requires
-fewer-requires c κs = search needs
-
 on-requires : tie.Need-on-requires
 on-requires c κs = (search window-small, search capped-small)
 
@@ -21,4 +12,4 @@ returns c = search room-is
 
 pub room-of-spec : {M : Type 1} → statement M
 room-of-spec =
-    tie.close (tie.spec busy-of-requires window-of-requires fewer-requires on-requires returns)
+    tie.close (tie.spec (λ c κs. search needs) (λ c κs. search needs) (λ c κs. search needs) on-requires returns)

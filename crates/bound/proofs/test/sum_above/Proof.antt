@@ -10,43 +10,19 @@ use Rattle.bound.proofs.test.sum_above.Statement.{statement}
 use Rattle.bound.proofs.test.sum_above.Tie as tie
 
 abbrev Inv-loop : tie.InvT-loop
-Inv-loop sheet bounds k length busy window sum₀ i₀ sum i = (i ≤ k) × (sum ≡ amounts (sheetIn sheet) (heldIn bounds) k length i)
+Inv-loop sheet results k length busy window sum₀ i₀ sum i = (i ≤ k) × (sum ≡ amounts (sheetIn sheet) (heldIn results) k length i)
 
 abbrev μ-loop : tie.MeasureT-loop
-μ-loop sheet bounds k length busy window sum₀ i₀ sum i = k - i
-
-busy-of-requires : tie.Need-busy-of-requires Inv-loop μ-loop
-busy-of-requires c κs = search needs
-
-window-of-requires : tie.Need-window-of-requires Inv-loop μ-loop
-window-of-requires c κs = search needs
-
-none-requires : tie.Need-none-requires Inv-loop μ-loop
-none-requires c κs = search needs
+μ-loop sheet results k length busy window sum₀ i₀ sum i = k - i
 
 loop-holds : tie.Need-loop-holds Inv-loop μ-loop
 loop-holds c = (search needs, search sum-none)
-
-row-at-requires : tie.Need-row-at-requires Inv-loop μ-loop
-row-at-requires c κs = search needs
-
-mul-t13 : tie.Need-mul-t13 Inv-loop μ-loop
-mul-t13 c = search needs
-
-shared-slice-read-t15 : tie.Need-shared-slice-read-t15 Inv-loop μ-loop
-shared-slice-read-t15 c = search needs
 
 amount-above-requires : tie.Need-amount-above-requires Inv-loop μ-loop
 amount-above-requires c κs = (search row-above, search window-small, search busy-small)
 
 plus-requires : tie.Need-plus-requires Inv-loop μ-loop
 plus-requires c κs = search sum-fits
-
-add-i : tie.Need-add-i Inv-loop μ-loop
-add-i c = search needs
-
-loop-less : tie.Need-loop-less Inv-loop μ-loop
-loop-less c = search needs
 
 loop-again : tie.Need-loop-again Inv-loop μ-loop
 loop-again c = (search needs, search sum-more)
@@ -60,16 +36,18 @@ sum-above-spec =
     (tie.spec
     Inv-loop
     μ-loop
-    busy-of-requires
-    window-of-requires
-    none-requires
+    (λ c κs. search needs)
+    (λ c κs. search needs)
+    (λ c κs. search needs)
     loop-holds
-    row-at-requires
-    mul-t13
-    shared-slice-read-t15
+    (λ c κs. search needs)
+    (λ c. search needs)
+    (λ c. search needs)
+    (λ c. search needs)
+    (λ c. search needs)
     amount-above-requires
     plus-requires
-    add-i
-    loop-less
+    (λ c. search needs)
+    (λ c. search needs)
     loop-again
     returns)

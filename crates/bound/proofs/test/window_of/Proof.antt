@@ -4,9 +4,6 @@ use Rattle.bound.proofs.Amounts.{window-low, window-fits, window-is}
 use Rattle.bound.proofs.test.window_of.Statement.{statement}
 use Rattle.bound.proofs.test.window_of.Tie as tie
 
-row-at-requires : tie.Need-row-at-requires
-row-at-requires c κs = search needs
-
 after-requires : tie.Need-after-requires
 after-requires c κs = search window-low
 
@@ -17,4 +14,4 @@ returns : tie.Need-returns
 returns c = search window-is
 
 pub window-of-spec : {M : Type 1} → statement M
-window-of-spec = tie.close (tie.spec row-at-requires after-requires plus-requires returns)
+window-of-spec = tie.close (tie.spec (λ c κs. search needs) after-requires plus-requires returns)

@@ -4,11 +4,8 @@ use Rattle.bound.proofs.Durations.{fills-within, fills-most}
 use Rattle.bound.proofs.quantity.Amount.fills.Statement.{statement}
 use Rattle.bound.proofs.quantity.Amount.fills.Tie as tie
 
-div-result : tie.Need-div-result
-div-result c = search needs
-
 returns : tie.Need-returns
 returns c = (search fills-within, search fills-most)
 
 pub fills-spec : {M : Type 1} → statement M
-fills-spec = tie.close (tie.spec div-result returns)
+fills-spec = tie.close (tie.spec (λ c. search needs) returns)

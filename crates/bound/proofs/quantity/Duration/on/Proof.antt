@@ -7,8 +7,5 @@ use Rattle.bound.proofs.quantity.Duration.on.Tie as tie
 mul-t3 : tie.Need-mul-t3
 mul-t3 c = search amount-fits
 
-returns : tie.Need-returns
-returns c = search needs
-
 pub on-spec : {M : Type 1} → statement M
-on-spec = tie.close (tie.spec mul-t3 returns)
+on-spec = tie.close (tie.spec mul-t3 (λ c. search needs))

@@ -1,10 +1,11 @@
 -- `judge_row` is the result of a row, by those above. Assumes nothing.
+use borrow.Author.Needs.{needs}
 use Rattle.bound.proofs.Rows.{ready, judged-reached, judged-unreached}
-use Rattle.bound.proofs.results.judge_row.Statement.{statement}
-use Rattle.bound.proofs.results.judge_row.Tie as tie
+use Rattle.bound.proofs.judge.judge_row.Statement.{statement}
+use Rattle.bound.proofs.judge.judge_row.Tie as tie
 
 bound-of-requires : tie.Need-bound-of-requires
-bound-of-requires c κs = search ready
+bound-of-requires c κs = (search needs, search ready)
 
 returns : tie.Need-returns
 returns c = search judged-reached
@@ -13,4 +14,9 @@ returns-2 : tie.Need-returns-2
 returns-2 c = search judged-unreached
 
 pub judge-row-spec : {M : Type 1} → statement M
-judge-row-spec = tie.close (tie.spec bound-of-requires returns returns-2)
+judge-row-spec =
+    tie.close
+    (tie.spec
+    bound-of-requires
+    returns
+    returns-2)

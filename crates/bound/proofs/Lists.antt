@@ -1,0 +1,171 @@
+-- A list of results: what stands at its places, how it is put together, cleared past the rows and read back, and what `bounds_on` makes of it at each way out.
+-- Assumes nothing.
+use Prim.Native.Nat.{ℕ, _+_, _*_, _/_, _%_, _≤_, _<_}
+use mathlib.Core.Path.{_≡_, refl, sym, _∙_}
+use mathlib.Core.Bool.{Bool, true, false}
+use mathlib.Core.List.{List}
+use mathlib.Core.Logic.{⊎-elim}
+use native.Mathlib.Omega.{arith}
+use native.Mathlib.Nat.{le-refl, mod-lt, div-add-mod'}
+use lib.ListN.{length, getD, set, replicate, length-set, length-replicate}
+use lib.Seq.{ext-getD}
+use lib.Dec.{eqb}
+use borrow.Author.Tests.{lt-ltb, le-ltb, le-leb, lt-leb, ne-eqb}
+use mir.Val.{Fits}
+use mir.Syntax.{w64}
+use Rattle.basis.specs.Limits.{mostRows}
+use Rattle.basis.specs.Words.{pick}
+use Rattle.basis.specs.Upto.{upto, pairCell}
+use Rattle.basis.specs.Refusals.{accepted, refused}
+use Rattle.basis.proofs.Words.{lt-or-le}
+use Rattle.basis.proofs.Upto.{upto-set, upto-below, upto-past, length-upto}
+use Rattle.basis.proofs.Pairs.{first-cell, second-cell}
+use Rattle.basis.proofs.Lists.{getD-all}
+use Rattle.sheet.specs.Legal.{legal, Legal}
+use Rattle.sheet.specs.declared.row.Sheet.{Sheet}
+use Rattle.sheet.specs.Lists.{numberAt, filled, sheetIn}
+use Rattle.sheet.proofs.Legality.{legal-is}
+use Rattle.sheet.proofs.Filling.{length-filled}
+use Rattle.bound.specs.Test.{passes}
+use Rattle.bound.specs.Bound.{Word, bound, none, unreached, resultOf, allUnreached, holds, judged, boundsBy}
+use Rattle.bound.specs.Lists.{wordNumber, boundNumber, resultsLong, resultCell, resultsOn, boundsOn, words, putResult, clearedCell, wordAt}
+
+-- ---- the words of a sheet
+
+pub word-there : (h : Sheet) (k : ℕ) → Legal h → k < h .count → getD (words h) k unreached ≡ resultOf passes h k
+word-there h k l b = upto-below (h .count) (resultOf passes h) allUnreached unreached k b (omega (arith, l .most-rows, length-replicate mostRows unreached))
+
+pub word-past : (h : Sheet) (k : ℕ) → h .count ≤ k → getD (words h) k unreached ≡ unreached
+word-past h k b = upto-past (h .count) (resultOf passes h) allUnreached unreached k b ∙ getD-all mostRows k unreached
+
+pub words-long : (h : Sheet) → length (words h) ≡ mostRows
+words-long h = length-upto (h .count) (resultOf passes h) allUnreached ∙ length-replicate mostRows unreached
+
+-- ---- the numbers of a list of results
+
+-- past the rows they are zero
+pub result-cell-past : (h : Sheet) (i : ℕ) → resultsLong (h .count) ≤ i → resultCell (words h) i ≡ 0
+unfolding resultCell pairCell
+result-cell-past h i b =
+    let e = word-past h (i / 2) (omega (arith, div-add-mod' i 2, mod-lt i {m = 2} (omega arith))) in
+    rw e (none-of (eqb (i % 2) 0))
+  where
+    none-of : (t : Bool) → _≡_ {A = ℕ} (pick t 0 0) 0
+    none-of true = refl
+    none-of false = refl
+
+-- `put_result`
+pub second-place-there : (l : List ℕ) (k v : ℕ) → resultsLong (k + 1) ≤ length l → k * 2 + 1 < length (set l (k * 2) v)
+second-place-there l k v r = simp length-set (omega arith)
+
+pub result-put : (l : List ℕ) (k a b : ℕ) (w : Word) → a ≡ wordNumber w → b ≡ boundNumber w → set (set l (k * 2) a) (k * 2 + 1) b ≡ putResult l k w
+unfolding putResult
+result-put l k a b w ea eb = rw (ea, eb)
+
+pub length-put : (l : List ℕ) (k : ℕ) (w : Word) → length (putResult l k w) ≡ length l
+unfolding putResult
+length-put l k w = simp length-set refl
+
+-- ---- all zero from a place on
+
+module _ (from : ℕ) (l₀ : List ℕ) where
+  pub clear-none : from ≤ length l₀ → l₀ ≡ upto from (clearedCell from l₀) l₀
+  unfolding clearedCell
+  clear-none b =
+      ext-getD 0 l₀ (upto from (clearedCell from l₀) l₀) (sym (length-upto from (clearedCell from l₀) l₀))
+      (λ i m. ⊎-elim (λ n. sym (upto-below from (clearedCell from l₀) l₀ 0 i n b ∙ rw (lt-ltb i from n))) (λ n. sym (upto-past from (clearedCell from l₀) l₀ 0 i n)) (lt-or-le i from))
+
+  pub clear-more : (l : List ℕ) (i : ℕ) → l ≡ upto i (clearedCell from l₀) l₀ → from ≤ i → set l i 0 ≡ upto (i + 1) (clearedCell from l₀) l₀
+  unfolding clearedCell
+  clear-more l i e b = upto-set i (clearedCell from l₀) l l₀ 0 e (rw (le-ltb i from b))
+
+-- the results of a sheet's rows, and zeros past them
+module _ (h : Sheet) (l : List ℕ) (room : resultsLong (h .count) ≤ length l) where
+  cleared-results : filled (clearedCell (resultsLong (h .count)) (upto (resultsLong (h .count)) (resultCell (words h)) l)) (upto (resultsLong (h .count)) (resultCell (words h)) l) ≡ filled (resultCell (words h)) l
+  unfolding filled clearedCell
+  cleared-results =
+      let n : ℕ = resultsLong (h .count) in
+      let m : List ℕ = upto n (resultCell (words h)) l in
+      let long : length m ≡ length l = length-upto n (resultCell (words h)) l in
+      ext-getD 0 (filled (clearedCell n m) m) (filled (resultCell (words h)) l)
+      (length-filled (clearedCell n m) m ∙ long ∙ sym (length-filled (resultCell (words h)) l))
+      (λ i b. let there : i < length l = omega (arith, length-filled (clearedCell n m) m) in
+      let same : clearedCell n m i ≡ resultCell (words h) i =
+      ⊎-elim (λ a. rw (lt-ltb i n a) (upto-below n (resultCell (words h)) l 0 i a room)) (λ a. rw (le-ltb i n a) (sym (result-cell-past h i a))) (lt-or-le i n) in
+      upto-below (length m) (clearedCell n m) m 0 i (omega arith) (le-refl (length m)) ∙ same ∙ sym (upto-below (length l) (resultCell (words h)) l 0 i there (le-refl (length l))))
+
+-- ---- read back
+
+back : (w : Word) (a b : ℕ) → a ≡ wordNumber w → b ≡ boundNumber w → pick (eqb a 0) unreached (pick (eqb a 1) (bound b) none) ≡ w
+back (bound r) a b ea eb = rw (ea, eb)
+back none a b ea eb = rw ea
+back unreached a b ea eb = rw ea
+
+-- the words that are put into a list with room for every row come back
+pub words-come-back : (ws : List Word) (l : List ℕ) → length ws ≡ mostRows → resultsLong mostRows ≤ length l → upto mostRows (wordAt (filled (resultCell ws) l)) allUnreached ≡ ws
+unfolding wordAt filled resultCell
+words-come-back ws l long room =
+    ext-getD unreached (upto mostRows (wordAt (filled (resultCell ws) l)) allUnreached) ws
+    (length-upto mostRows (wordAt (filled (resultCell ws) l)) allUnreached ∙ length-replicate mostRows unreached ∙ sym long)
+    (λ i b. let there : i < mostRows = omega (arith, length-upto mostRows (wordAt (filled (resultCell ws) l)) allUnreached, length-replicate mostRows unreached) in
+    upto-below mostRows (wordAt (filled (resultCell ws) l)) allUnreached unreached i there (le-refl mostRows)
+    ∙ back (getD ws i unreached) _ _
+    (upto-below (length l) (resultCell ws) l 0 (i * 2) (omega arith) (le-refl (length l)) ∙ first-cell (λ k. wordNumber (getD ws k unreached)) (λ k. boundNumber (getD ws k unreached)) i)
+    (upto-below (length l) (resultCell ws) l 0 (i * 2 + 1) (omega arith) (le-refl (length l)) ∙ second-cell (λ k. wordNumber (getD ws k unreached)) (λ k. boundNumber (getD ws k unreached)) i))
+
+-- and of zeros no row is reached
+pub zeros-are-unreached : upto mostRows (wordAt (replicate (resultsLong mostRows) 0)) allUnreached ≡ allUnreached
+unfolding upto wordAt
+zeros-are-unreached = refl
+
+-- ---- `judged_at`
+
+module _ (l : List ℕ) (k : ℕ) where
+  pub unreached-read : numberAt l (k * 2) ≡ 0 → unreached ≡ wordAt l k
+  unfolding wordAt
+  unreached-read e = rw e
+
+  pub bound-read : numberAt l (k * 2) ≡ 1 → bound (numberAt l (k * 2 + 1)) ≡ wordAt l k
+  unfolding wordAt
+  bound-read e = rw e
+
+  pub none-read : (numberAt l (k * 2) ≡ 0 → ⊥) → (numberAt l (k * 2) ≡ 1 → ⊥) → none ≡ wordAt l k
+  unfolding wordAt
+  none-read a b = rw (ne-eqb (numberAt l (k * 2)) 0 a, ne-eqb (numberAt l (k * 2)) 1 b)
+
+-- ---- `bounds_on`
+
+pub legal-is-known : (h : Sheet) (fine : Bool) → fine ≡ legal h → fine ≡ true → legal h ≡ true
+legal-is-known h fine e t = sym e ∙ t
+
+module _ (l b : List ℕ) where
+  -- the answer where the sheet is legal and there is room
+  pub legal-is-put : legal (sheetIn l) ≡ true → resultsLong (sheetIn l .count) ≤ length b → boundsOn l b ≡ (accepted, (holds passes (sheetIn l), filled (resultCell (words (sheetIn l))) b))
+  unfolding boundsOn resultsOn boundsBy judged
+  legal-is-put e r = rw (e, le-leb (resultsLong (sheetIn l .count)) (length b) r)
+
+  -- refused, it does not hold and the list is as it was
+  pub not-legal-is-kept : legal (sheetIn l) ≡ false → boundsOn l b ≡ (refused 10 0, (false, b))
+  unfolding boundsOn resultsOn boundsBy
+  not-legal-is-kept e = rw e
+
+  pub no-room-is-kept : legal (sheetIn l) ≡ true → length b < resultsLong (sheetIn l .count) → boundsOn l b ≡ (refused 15 0, (false, b))
+  unfolding boundsOn resultsOn boundsBy judged
+  no-room-is-kept e r = rw (e, lt-leb (resultsLong (sheetIn l .count)) (length b) r)
+
+  module _ (fine : Bool) (ef : fine ≡ legal (sheetIn l)) where
+    pub not-legal-told : fine ≡ false → (refused 10 0, (false, b)) ≡ boundsOn l b
+    not-legal-told t = sym (not-legal-is-kept (sym ef ∙ t))
+
+    module _ (n : ℕ) (en : n ≡ sheetIn l .count) (legal-so : fine ≡ true) where
+      pub results-fit : Fits w64 (n * 2)
+      results-fit = record { fits = omega (arith, legal-is (sheetIn l) (sym ef ∙ legal-so) .most-rows) }
+
+      pub no-room-told : length b < n * 2 → (refused 15 0, (false, b)) ≡ boundsOn l b
+      no-room-told r = sym (no-room-is-kept (sym ef ∙ legal-so) (rw en at r))
+
+      pub results-told : (t : Bool) (m d : List ℕ) → t ≡ holds passes (sheetIn l) → m ≡ upto (resultsLong n) (resultCell (words (sheetIn l))) b → d ≡ filled (clearedCell (n * 2) m) m → n * 2 ≤ length b
+          → (accepted, (t, d)) ≡ boundsOn l b
+      results-told t m d et em ed r =
+          let e : d ≡ filled (resultCell (words (sheetIn l))) b = rw (ed, em, en) (cleared-results (sheetIn l) b (rw en at r)) in
+          rw (et, e) (sym (legal-is-put (sym ef ∙ legal-so) (rw en at r)))

@@ -1,0 +1,30 @@
+-- `row_inside` is the row of the sheet. Assumes nothing.
+use borrow.Author.Needs.{needs}
+use Rattle.sheet.proofs.Places.{numbers-handed}
+use Rattle.bound.proofs.inside.row_inside.Statement.{statement}
+use Rattle.bound.proofs.inside.row_inside.Tie as tie
+
+returns : tie.Need-returns
+returns c = search numbers-handed
+
+pub row-inside-spec : {M : Type 1} → statement M
+row-inside-spec =
+    tie.close
+    (tie.spec
+    (λ c. search needs)
+    (λ c. search needs)
+    (λ c. search needs)
+    (λ c. search needs)
+    (λ c. search needs)
+    (λ c. search needs)
+    (λ c. search needs)
+    (λ c. search needs)
+    (λ c. search needs)
+    (λ c. search needs)
+    (λ c. search needs)
+    (λ c. search needs)
+    (λ c. search needs)
+    (λ c. search needs)
+    (λ c. search needs)
+    (λ c. search needs)
+    returns)

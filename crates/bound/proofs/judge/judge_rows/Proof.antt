@@ -1,0 +1,48 @@
+-- `judge_rows` judges every row: the loop has the results of the first i rows, and whether each is a bound. Assumes nothing.
+use borrow.Author.Needs.{needs}
+use Prim.Native.Nat.{_≤_, _-_}
+use mathlib.Core.Path.{_≡_}
+use Rattle.sheet.specs.Legal.{Legal}
+use Rattle.sheet.specs.Lists.{sheetIn}
+use Rattle.sheet.proofs.Legality.{legal-is}
+use Rattle.bound.specs.Ready.{Lent, SoFar}
+use Rattle.bound.proofs.Rows.{lists-are-lent, so-far-none, so-far-long, rows-above, so-far-more, still-lent, holds-told, results-put}
+use Rattle.bound.proofs.judge.judge_rows.Statement.{statement}
+use Rattle.bound.proofs.judge.judge_rows.Tie as tie
+
+abbrev Inv-loop : tie.InvT-loop
+Inv-loop sheet results₀ n reached₀ i₀ results reached i = (i ≤ n) × (n ≡ sheetIn sheet .count) × (Legal (sheetIn sheet)) × (Lent sheet results) × (SoFar (sheetIn sheet) results₀ results reached i)
+
+abbrev μ-loop : tie.MeasureT-loop
+μ-loop sheet results₀ n reached₀ i₀ results reached i = n - i
+
+loop-holds : tie.Need-loop-holds Inv-loop μ-loop
+loop-holds c = (search needs, search needs, search legal-is, search lists-are-lent, search so-far-none)
+
+judge-row-requires : tie.Need-judge-row-requires Inv-loop μ-loop
+judge-row-requires c κs = (search needs, search needs, search needs, search (rows-above, needs))
+
+loop-again : tie.Need-loop-again Inv-loop μ-loop
+loop-again c = (search needs, search needs, search needs, search still-lent, search so-far-more)
+
+same-length : tie.Need-same-length Inv-loop μ-loop
+same-length c = search so-far-long
+
+returns : tie.Need-returns Inv-loop μ-loop
+returns c = (search holds-told, search results-put)
+
+pub judge-rows-spec : {M : Type 1} → statement M
+judge-rows-spec =
+    tie.close
+    (tie.spec
+    Inv-loop
+    μ-loop
+    loop-holds
+    judge-row-requires
+    (λ c κs. search needs)
+    (λ c κs. search needs)
+    (λ c. search needs)
+    (λ c. search needs)
+    loop-again
+    same-length
+    returns)

@@ -1,0 +1,58 @@
+-- The results of a sheet as a list of plain numbers: of each row its word as a number, and its bound.
+use Prim.Native.Nat.{ℕ, _+_, _*_}
+use mathlib.Core.Bool.{Bool, false}
+use mathlib.Core.List.{List}
+use lib.ListN.{length, getD, set}
+use lib.Dec.{ltb, eqb}
+use Rattle.basis.specs.Words.{pick}
+use Rattle.basis.specs.Upto.{upto, pairCell}
+use Rattle.basis.specs.Refusals.{Outcome, orElse, roomFor, handed}
+use Rattle.sheet.specs.Lists.{numberAt, filled, sheetIn}
+use Rattle.sheet.specs.declared.row.Sheet.{Sheet}
+use Rattle.bound.specs.Test.{passes}
+use Rattle.bound.specs.Bound.{Word, bound, none, unreached, resultOf, allUnreached, Answer, boundsOf}
+
+-- A result's word as a number: 0 unreached, 1 bound, 2 none.
+abbrev pub wordNumber : Word → ℕ
+wordNumber unreached = 0
+wordNumber (bound r) = 1
+wordNumber none = 2
+
+-- A result's bound, and zero where there is none.
+abbrev pub boundNumber : Word → ℕ
+boundNumber unreached = 0
+boundNumber (bound r) = r
+boundNumber none = 0
+
+-- The places that a list needs for the results of so many rows.
+abbrev pub resultsLong : ℕ → ℕ
+resultsLong n = n * 2
+
+-- The number at place i of a list of results: past the rows it is zero.
+unfoldable pub resultCell : List Word → ℕ → ℕ
+resultCell ws = pairCell (λ k. wordNumber (getD ws k unreached)) (λ k. boundNumber (getD ws k unreached))
+
+-- What a lent list is made by an answer for n rows: the answer's refusal, then 15 where the list has no room; beside a refusal the sheet does not hold, and the list is as it was.
+unfoldable pub resultsOn : ℕ → Answer → List ℕ → Outcome × (Bool × List ℕ)
+resultsOn n (o, holds, ws) list =
+    handed (orElse o (roomFor (resultsLong n) (length list))) (holds, filled (resultCell ws) list) (false, list)
+
+-- The bounds of the sheet in a list, put into a list of results: the outcome, whether the sheet holds, and the list afterwards.
+unfoldable pub boundsOn : List ℕ → List ℕ → Outcome × (Bool × List ℕ)
+boundsOn sheet list = resultsOn (sheetIn sheet .count) (boundsOf (sheetIn sheet)) list
+
+-- What follows is how the code makes such a list and reads it, of which no promise of a public function speaks. The words of a legal sheet,
+abbrev pub words : Sheet → List Word
+words h = upto (h .count) (resultOf passes h) allUnreached
+
+-- the list with result k put into it,
+unfoldable pub putResult : List ℕ → ℕ → Word → List ℕ
+putResult l k w = set (set l (k * 2) (wordNumber w)) (k * 2 + 1) (boundNumber w)
+
+-- the number at place i where from a place on all is made zero,
+unfoldable pub clearedCell : ℕ → List ℕ → ℕ → ℕ
+clearedCell from l i = pick (ltb i from) (numberAt l i) 0
+
+-- and result k of a list.
+unfoldable pub wordAt : List ℕ → ℕ → Word
+wordAt l k = pick (eqb (numberAt l (k * 2)) 0) unreached (pick (eqb (numberAt l (k * 2)) 1) (bound (numberAt l (k * 2 + 1))) none)
