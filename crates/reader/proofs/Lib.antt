@@ -1,4 +1,5 @@
 pub mod Accepted
+pub mod After
 pub mod Answered
 pub mod Cases
 pub mod Entries

@@ -34,10 +34,10 @@ label-cell-past s n h i l =
     (λ k b. ap (λ (p : Part). p .start) (no-label s k (omega arith))) (λ k b. ap (λ (p : Part). p .long) (no-label s k (omega arith))) i l
 
 -- an outcome with two lists
-abbrev Lists : Type 0
+abbrev pub Lists : Type 0
 Lists = Outcome × (List ℕ × List ℕ)
 
-abbrev lists : Outcome → List ℕ → List ℕ → Lists
+abbrev pub lists : Outcome → List ℕ → List ℕ → Lists
 lists o l b = (o, (l, b))
 
 -- whatever the reader says, the lists are those of what it hands over
@@ -58,7 +58,7 @@ module _ (a b : ℕ) (ra : sheetLong mostRows ≤ a) (rb : labelsLong mostRows �
           (zeros-filled (labelCell s) b (labelsLong (length (h .entries))) (label-cell-past s (length (h .entries)) (rw e (omega arith))) (omega arith)))
 
 -- the rows of what the reader hands over
-rows-long : (s : List ℕ) → length (reading s .1 .rows) ≡ mostRows
+pub rows-long : (s : List ℕ) → length (reading s .1 .rows) ≡ mostRows
 rows-long s = go (sheet s 0) refl
   where
     go : (x : Step Held) → sheet s 0 ≡ x → length (handed x .1 .rows) ≡ mostRows

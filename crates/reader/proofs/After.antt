@@ -1,0 +1,84 @@
+-- What is known after a reading into lent lists.
+-- Assumes nothing.
+use Prim.Native.Nat.{ℕ, _≤_}
+use mathlib.Core.Path.{_≡_, sym, ap, _∙_}
+use mathlib.Core.Bool.{true}
+use mathlib.Core.List.{List}
+use native.Mathlib.Omega.{arith}
+use lib.ListN.{length, take}
+use Rattle.basis.specs.Upto.{upto}
+use Rattle.basis.specs.Refusals.{Outcome, accepted, refused, orElse, roomFor, handed}
+use Rattle.basis.proofs.First.{both-accepted}
+use Rattle.basis.proofs.Refusals.{room-holds, handed-found, handed-done}
+use Rattle.basis.proofs.Upto.{upto-below, length-upto}
+use Rattle.sheet.specs.Legal.{legal}
+use Rattle.sheet.specs.Lists.{numberAt, listCell, sheetIn, sheetCell, sheetLong}
+use Rattle.sheet.proofs.Back.{sheet-in-front}
+use Rattle.reader.specs.Answers.{reading}
+use Rattle.reader.specs.Lists.{labelsLong, labelCell, intoLists, readInto}
+use Rattle.reader.proofs.Accepted.{accepted-is-legal}
+use Rattle.reader.proofs.Owned.{Lists, lists, rows-long}
+
+module _ (s list labels : List ℕ) (o : Outcome) (l b : List ℕ) (e : lists o l b ≡ readInto s list labels) where
+  -- what the outcome is made of, and the lists where nothing is refused
+  outcome-of : Outcome
+  outcome-of = orElse (reading s .0) (orElse (roomFor (sheetLong (reading s .1 .count)) (length list)) (roomFor (labelsLong (reading s .1 .count)) (length labels)))
+
+  written : List ℕ × List ℕ
+  written = (upto (sheetLong (reading s .1 .count)) (sheetCell (reading s .1)) list, upto (labelsLong (reading s .1 .count)) (labelCell s) labels)
+
+  as-handed : lists o l b ≡ handed outcome-of written (list, labels)
+  unfolding readInto intoLists outcome-of written
+  as-handed = e
+
+  -- refused: both lists are as they were
+  module _ (k p : ℕ) (q : o ≡ refused k p) where
+    kept : _≡_ {A = List ℕ × List ℕ} (l, b) (list, labels)
+    kept = ap (λ (x : Lists). x .1) as-handed ∙ handed-found written (list, labels) outcome-of k p (sym (ap (λ (x : Lists). x .0) as-handed) ∙ q)
+
+    pub list-kept : l ≡ list
+    list-kept = ap (λ (x : List ℕ × List ℕ). x .0) kept
+
+    pub labels-kept : b ≡ labels
+    labels-kept = ap (λ (x : List ℕ × List ℕ). x .1) kept
+
+  -- accepted: the reader accepts, there is room, and both lists are written
+  module _ (q : o ≡ accepted) where
+    done : (outcome-of ≡ accepted) × (handed outcome-of written (list, labels) .1 ≡ written)
+    done = handed-done written (list, labels) outcome-of (sym (ap (λ (x : Lists). x .0) as-handed) ∙ q)
+
+    parts : (reading s .0 ≡ accepted) × (orElse (roomFor (sheetLong (reading s .1 .count)) (length list)) (roomFor (labelsLong (reading s .1 .count)) (length labels)) ≡ accepted)
+    unfolding outcome-of
+    parts = both-accepted (reading s .0) _ (done .0)
+
+    pub reader-accepts : reading s .0 ≡ accepted
+    reader-accepts = parts .0
+
+    pub list-has-room : sheetLong (reading s .1 .count) ≤ length list
+    list-has-room = room-holds (sheetLong (reading s .1 .count)) (length list) (both-accepted (roomFor (sheetLong (reading s .1 .count)) (length list)) _ (parts .1) .0)
+
+    pub labels-have-room : labelsLong (reading s .1 .count) ≤ length labels
+    labels-have-room = room-holds (labelsLong (reading s .1 .count)) (length labels) (both-accepted (roomFor (sheetLong (reading s .1 .count)) (length list)) _ (parts .1) .1)
+
+    pub list-written : l ≡ upto (sheetLong (reading s .1 .count)) (sheetCell (reading s .1)) list
+    unfolding written
+    list-written = ap (λ (x : Lists). x .1 .0) as-handed ∙ ap (λ (x : List ℕ × List ℕ). x .0) (done .1)
+
+    pub labels-written : b ≡ upto (labelsLong (reading s .1 .count)) (labelCell s) labels
+    unfolding written
+    labels-written = ap (λ (x : Lists). x .1 .1) as-handed ∙ ap (λ (x : List ℕ × List ℕ). x .1) (done .1)
+
+    -- the list's count is the sheet's
+    pub count-read : sheetIn l .count ≡ reading s .1 .count
+    unfolding sheetIn listCell
+    count-read = ap (λ (z : List ℕ). numberAt z 1) list-written ∙ upto-below (sheetLong (reading s .1 .count)) (sheetCell (reading s .1)) list 0 1 (omega arith) list-has-room
+
+    -- and its front hands the sheet over
+    pub front-hands-over : sheetIn (take (sheetLong (reading s .1 .count)) l) ≡ reading s .1
+    front-hands-over = sheet-in-front (reading s .1) (reading s .1 .count) list (rows-long s) (accepted-is-legal s reader-accepts .1) list-has-room l list-written
+
+    pub sheet-is-legal : legal (reading s .1) ≡ true
+    sheet-is-legal = accepted-is-legal s reader-accepts .0
+
+    pub list-as-long : length l ≡ length list
+    list-as-long = ap length list-written ∙ length-upto (sheetLong (reading s .1 .count)) (sheetCell (reading s .1)) list
