@@ -6,7 +6,7 @@ use lib.Dec.{leb}
 use borrow.Author.Tests.{leb-true}
 use Prim.Native.Nat.{ℕ, _≤_}
 use native.Mathlib.Omega.{arith}
-use Rattle.basis.specs.Refusals.{Outcome, accepted, refused, outcome, isAccepted, needed, roomFor, handed}
+use Rattle.basis.specs.Refusals.{Outcome, accepted, refused, outcome, isAccepted, orElse, needed, roomFor, handed}
 use Rattle.basis.specs.declared.refusal.Refusal.{Refusal}
 use Rattle.basis.specs.declared.refusal.Refusal.the-variants.{Accepted, Refused}
 
@@ -41,3 +41,12 @@ module _ {A : Type 0} (done found : A) where
   pub handed-done : (o : Outcome) → handed o done found .0 ≡ accepted → (o ≡ accepted) × (handed o done found .1 ≡ done)
   handed-done accepted e = (refl, refl)
   handed-done (refused j q) e = let z : _≡_ {A = ℕ} 0 1 = cc in absurd (omega arith)
+
+  pub handed-outcome : (o : Outcome) → handed o done found .0 ≡ o
+  handed-outcome accepted = refl
+  handed-outcome (refused j q) = refl
+
+-- nothing more is refused
+pub or-nothing : (o : Outcome) → orElse o accepted ≡ o
+or-nothing accepted = refl
+or-nothing (refused j q) = refl

@@ -1,7 +1,7 @@
 -- Bytes read and judged: what is known at each step, and each way out.
 -- Assumes nothing.
 use Prim.Native.Nat.{ℕ, _+_, _*_, _≤_, _<_}
-use mathlib.Core.Path.{_≡_, sym, ap, ap₂, _∙_}
+use mathlib.Core.Path.{_≡_, refl, sym, ap, ap₂, _∙_}
 use mathlib.Core.Bool.{Bool, true, false}
 use mathlib.Core.List.{List}
 use native.Mathlib.Omega.{arith}
@@ -12,31 +12,37 @@ use mir.Syntax.{w64}
 use mir.Val.{Fits}
 use Rattle.basis.specs.Limits.{mostRows}
 use Rattle.basis.specs.Upto.{upto}
-use Rattle.basis.specs.Refusals.{Outcome, accepted, refused, outcome}
+use Rattle.basis.specs.Refusals.{Outcome, accepted, refused, outcome, orElse, roomFor}
 use Rattle.basis.specs.declared.refusal.Refusal.{Refusal}
 use Rattle.basis.specs.declared.refusal.Refusal.the-variants.{Accepted, Refused}
+use Rattle.basis.proofs.First.{both-accepted}
+use Rattle.basis.proofs.Refusals.{outcome-one-to-one, room-holds, handed-found, handed-done, handed-outcome}
+use Rattle.basis.proofs.Upto.{length-upto}
 use Rattle.sheet.specs.Legal.{legal}
 use Rattle.sheet.specs.Lists.{sheetIn, sheetLong}
 use Rattle.sheet.specs.declared.row.Sheet.{Sheet}
 use Rattle.sheet.proofs.Legality.{legal-is}
-use Rattle.reader.specs.Answers.{reading}
-use Rattle.reader.specs.Lists.{readInto}
-use Rattle.reader.proofs.After.{list-kept, labels-kept, list-has-room, labels-have-room, list-as-long, count-read, front-hands-over, sheet-is-legal}
+use Rattle.reader.specs.Answers.{reading, labelIn}
+use Rattle.reader.specs.Lists.{labelsLong, readInto}
+use Rattle.reader.specs.Steps.{partIn}
+use Rattle.reader.proofs.After.{list-kept, labels-kept, list-has-room, labels-have-room, list-as-long, count-read, front-hands-over, sheet-is-legal, outcome-is-the-readers, parts-written, labels-as-long}
 use Rattle.reader.proofs.Owned.{lists}
+use Rattle.bound.specs.declared.results.Judgement.{Judgement}
 use Rattle.bound.specs.Test.{passes}
-use Rattle.bound.specs.Bound.{Answer, holds, judged, boundsBy, boundsOf}
-use Rattle.bound.specs.Lists.{resultsLong, resultCell, words, judgedBytes}
+use Rattle.bound.specs.Bound.{Answer, resultOf, holds, judged, boundsBy, boundsOf}
+use Rattle.bound.specs.Lists.{resultsLong, resultCell, words, wordAt, judgedBytes}
+use Rattle.bound.proofs.Lists.{word-there, word-comes-back}
 
 -- the answer to a legal sheet
-legal-answer : (h : Sheet) → legal h ≡ true → boundsOf h ≡ (accepted, holds passes h, words h)
+pub legal-answer : (h : Sheet) → legal h ≡ true → boundsOf h ≡ (accepted, holds passes h, words h)
 unfolding boundsBy judged
 legal-answer h e = rw e
 
 -- what `judge_bytes` answers
-abbrev Found : Type 0
+abbrev pub Found : Type 0
 Found = Outcome × (Bool × (List ℕ × (List ℕ × List ℕ)))
 
-abbrev found : Outcome → Bool → List ℕ → List ℕ → List ℕ → Found
+abbrev pub found : Outcome → Bool → List ℕ → List ℕ → List ℕ → Found
 found o h l b rs = (o, (h, (l, (b, rs))))
 
 module _ (s list labels results : List ℕ) where
@@ -100,3 +106,84 @@ module _ (s list labels results : List ℕ) where
           let results-are : rs ≡ upto (resultsLong (reading s .1 .count)) (resultCell (boundsOf (reading s .1) .2)) results =
           er ∙ ap₂ (λ (k : ℕ) (ws : List _). upto (resultsLong k) (resultCell ws) results) rows-are words-are in
           simp (le-leb (length labels) (length results) r, read) (ap₂ (λ (x : Bool) (y : List ℕ). found accepted x l b y) holds-is results-are)
+
+-- what is known after it
+module _ (s list labels results : List ℕ) (o : Outcome) (h : Bool) (l b rs : List ℕ) (e : found o h l b rs ≡ judgedBytes s list labels results) where
+  -- where there is room the outcome is the reader's
+  pub judged-outcome : sheetLong (reading s .1 .count) ≤ length list → labelsLong (reading s .1 .count) ≤ length labels → length labels ≤ length results → o ≡ reading s .0
+  unfolding judgedBytes
+  judged-outcome r q t =
+      ap (λ (x : Found). x .0) e ∙ handed-outcome _ _ (orElse (roomFor (length labels) (length results)) (readInto s list labels .0))
+      ∙ simp (le-leb (length labels) (length results) t) (outcome-is-the-readers s list labels r q)
+
+  -- and beside a refusal the sheet does not hold
+  pub judged-refused : (k p : ℕ) → o ≡ refused k p → h ≡ false
+  unfolding judgedBytes
+  judged-refused k p q =
+      ap (λ (x : Found). x .1 .0) e
+      ∙ ap (λ (x : Bool × (List ℕ × (List ℕ × List ℕ))). x .0)
+      (handed-found _ (false, (list, (labels, results))) (orElse (roomFor (length labels) (length results)) (readInto s list labels .0)) k p (sym (ap (λ (x : Found). x .0) e) ∙ q))
+
+  module _ (q : o ≡ accepted) where
+    accepting : (orElse (roomFor (length labels) (length results)) (readInto s list labels .0) ≡ accepted)
+        × (found o h l b rs
+        ≡ found o (boundsOf (reading s .1) .1) (readInto s list labels .1 .0) (readInto s list labels .1 .1) (upto (resultsLong (reading s .1 .count)) (resultCell (boundsOf (reading s .1) .2)) results))
+    unfolding judgedBytes
+    accepting =
+        let (a, d) = handed-done _ (false, (list, (labels, results))) (orElse (roomFor (length labels) (length results)) (readInto s list labels .0)) (sym (ap (λ (x : Found). x .0) e) ∙ q) in
+        (a, ap (λ (x : Bool × (List ℕ × (List ℕ × List ℕ))). (o, x)) (ap (λ (x : Found). x .1) e ∙ d))
+
+    read-so : lists accepted l b ≡ readInto s list labels
+    read-so =
+        let done = both-accepted (roomFor (length labels) (length results)) (readInto s list labels .0) (accepting .0) .1 in
+        ap₂ (λ (x y : List ℕ). lists accepted x y) (ap (λ (x : Found). x .1 .1 .0) (accepting .1)) (ap (λ (x : Found). x .1 .1 .1 .0) (accepting .1))
+        ∙ ap (λ (x : Outcome). (x, readInto s list labels .1)) (sym done)
+
+    answer-so : boundsOf (reading s .1) ≡ (accepted, holds passes (reading s .1), words (reading s .1))
+    answer-so = legal-answer (reading s .1) (sheet-is-legal s list labels accepted l b read-so refl)
+
+    room-for-results : resultsLong (reading s .1 .count) ≤ length results
+    room-for-results =
+        omega (arith, labels-have-room s list labels accepted l b read-so refl, room-holds (length labels) (length results) (both-accepted (roomFor (length labels) (length results)) (readInto s list labels .0) (accepting .0) .0))
+
+    pub judged-holds : h ≡ holds passes (reading s .1)
+    judged-holds = ap (λ (x : Found). x .1 .0) (accepting .1) ∙ ap (λ (x : Answer). x .1) answer-so
+
+    results-so : rs ≡ upto (resultsLong (reading s .1 .count)) (resultCell (words (reading s .1))) results
+    results-so =
+        ap (λ (x : Found). x .1 .1 .1 .1) (accepting .1)
+        ∙ ap (λ (x : Answer). upto (resultsLong (reading s .1 .count)) (resultCell (x .2)) results) answer-so
+
+    pub judged-word : (k : ℕ) → k < reading s .1 .count → wordAt rs k ≡ resultOf passes (reading s .1) k
+    judged-word k m =
+        word-comes-back (words (reading s .1)) rs results (reading s .1 .count) k results-so room-for-results m
+        ∙ word-there (reading s .1) k (legal-is (reading s .1) (sheet-is-legal s list labels accepted l b read-so refl)) m
+
+    pub judged-label : (k : ℕ) → k < reading s .1 .count → partIn b k ≡ labelIn s k
+    judged-label = parts-written s list labels accepted l b read-so refl
+
+    pub judged-count : sheetIn l .count ≡ reading s .1 .count
+    judged-count = count-read s list labels accepted l b read-so refl
+
+    pub judged-few : reading s .1 .count ≤ mostRows
+    judged-few = legal-is (reading s .1) (sheet-is-legal s list labels accepted l b read-so refl) .most-rows
+
+    pub judged-labels-long : labelsLong (reading s .1 .count) ≤ length b
+    judged-labels-long = omega (arith, labels-have-room s list labels accepted l b read-so refl, labels-as-long s list labels accepted l b read-so refl)
+
+    pub judged-results-long : resultsLong (reading s .1 .count) ≤ length rs
+    judged-results-long = omega (arith, room-for-results, ap length results-so ∙ length-upto (resultsLong (reading s .1 .count)) (resultCell (words (reading s .1))) results)
+
+-- two answers of `judge_bytes` are equal
+pub judge-bytes-same : (s list labels results : List ℕ) (r t : Judgement) (l b rs l′ b′ rs′ : List ℕ)
+    → found (outcome (r .refusal)) (r .holds) l b rs ≡ judgedBytes s list labels results → found (outcome (t .refusal)) (t .holds) l′ b′ rs′ ≡ judgedBytes s list labels results
+    → (r ≡ t) × (l ≡ l′) × (b ≡ b′) × (rs ≡ rs′)
+judge-bytes-same s list labels results r t l b rs l′ b′ rs′ e f =
+    let g = e ∙ sym f in
+    let refusal : r .refusal ≡ t .refusal = outcome-one-to-one (r .refusal) (t .refusal) (ap (λ (x : Found). x .0) g) in
+    let holds-same : r .holds ≡ t .holds = ap (λ (x : Found). x .1 .0) g in (
+      ap₂ (λ (x : Refusal) (y : Bool). record { refusal = x; holds = y }) refusal holds-same,
+      ap (λ (x : Found). x .1 .1 .0) g,
+      ap (λ (x : Found). x .1 .1 .1 .0) g,
+      ap (λ (x : Found). x .1 .1 .1 .1) g,
+    )

@@ -1,7 +1,7 @@
 -- A list of results: what stands at its places, how it is put together, cleared past the rows and read back, and what `bounds_on` makes of it at each way out.
 -- Assumes nothing.
 use Prim.Native.Nat.{ℕ, _+_, _*_, _/_, _%_, _≤_, _<_}
-use mathlib.Core.Path.{_≡_, refl, sym, _∙_}
+use mathlib.Core.Path.{_≡_, refl, sym, ap, _∙_}
 use mathlib.Core.Bool.{Bool, true, false}
 use mathlib.Core.List.{List}
 use mathlib.Core.Logic.{⊎-elim}
@@ -19,7 +19,7 @@ use Rattle.basis.specs.Upto.{upto, pairCell}
 use Rattle.basis.specs.Refusals.{accepted, refused}
 use Rattle.basis.proofs.Words.{lt-or-le}
 use Rattle.basis.proofs.Upto.{upto-set, upto-below, upto-past, length-upto}
-use Rattle.basis.proofs.Pairs.{first-cell, second-cell}
+use Rattle.basis.proofs.Pairs.{first-cell, second-cell, first-read, second-read}
 use Rattle.basis.proofs.Lists.{getD-all}
 use Rattle.sheet.specs.Legal.{legal, Legal}
 use Rattle.sheet.specs.declared.row.Sheet.{Sheet}
@@ -100,6 +100,14 @@ back : (w : Word) (a b : ℕ) → a ≡ wordNumber w → b ≡ boundNumber w →
 back (bound r) a b ea eb = rw (ea, eb)
 back none a b ea eb = rw ea
 back unreached a b ea eb = rw ea
+
+-- a word of n that are put into a list
+pub word-comes-back : (ws : List Word) (rs l : List ℕ) (n k : ℕ) → rs ≡ upto (resultsLong n) (resultCell ws) l → resultsLong n ≤ length l → k < n → wordAt rs k ≡ getD ws k unreached
+unfolding wordAt resultCell
+word-comes-back ws rs l n k e r h =
+    back (getD ws k unreached) (numberAt rs (k * 2)) (numberAt rs (k * 2 + 1))
+    (ap (λ (z : List ℕ). numberAt z (k * 2)) e ∙ first-read (λ j. wordNumber (getD ws j unreached)) (λ j. boundNumber (getD ws j unreached)) k n l h r)
+    (ap (λ (z : List ℕ). numberAt z (k * 2 + 1)) e ∙ second-read (λ j. wordNumber (getD ws j unreached)) (λ j. boundNumber (getD ws j unreached)) k n l h r)
 
 -- the words that are put into a list with room for every row come back
 pub words-come-back : (ws : List Word) (l : List ℕ) → length ws ≡ mostRows → resultsLong mostRows ≤ length l → upto mostRows (wordAt (filled (resultCell ws) l)) allUnreached ≡ ws

@@ -1,23 +1,33 @@
 -- What is known after a reading into lent lists.
 -- Assumes nothing.
-use Prim.Native.Nat.{ℕ, _≤_}
+use Prim.Native.Nat.{ℕ, _≤_, _<_}
 use mathlib.Core.Path.{_≡_, sym, ap, _∙_}
 use mathlib.Core.Bool.{true}
 use mathlib.Core.List.{List}
 use native.Mathlib.Omega.{arith}
 use lib.ListN.{length, take}
+use borrow.Author.Tests.{le-leb}
 use Rattle.basis.specs.Upto.{upto}
 use Rattle.basis.specs.Refusals.{Outcome, accepted, refused, orElse, roomFor, handed}
 use Rattle.basis.proofs.First.{both-accepted}
-use Rattle.basis.proofs.Refusals.{room-holds, handed-found, handed-done}
+use Rattle.basis.proofs.Refusals.{room-holds, handed-found, handed-done, handed-outcome, or-nothing}
 use Rattle.basis.proofs.Upto.{upto-below, length-upto}
 use Rattle.sheet.specs.Legal.{legal}
 use Rattle.sheet.specs.Lists.{numberAt, listCell, sheetIn, sheetCell, sheetLong}
 use Rattle.sheet.proofs.Back.{sheet-in-front}
-use Rattle.reader.specs.Answers.{reading}
+use Rattle.reader.specs.Answers.{reading, labelIn}
 use Rattle.reader.specs.Lists.{labelsLong, labelCell, intoLists, readInto}
 use Rattle.reader.proofs.Accepted.{accepted-is-legal}
+use Rattle.reader.specs.Steps.{partIn}
+use Rattle.reader.proofs.Lying.{part-there}
 use Rattle.reader.proofs.Owned.{Lists, lists, rows-long}
+
+-- where there is room the outcome is the reader's
+pub outcome-is-the-readers : (s list labels : List ℕ) → sheetLong (reading s .1 .count) ≤ length list → labelsLong (reading s .1 .count) ≤ length labels → readInto s list labels .0 ≡ reading s .0
+unfolding readInto intoLists
+outcome-is-the-readers s list labels r q =
+    simp (le-leb (sheetLong (reading s .1 .count)) (length list) r, le-leb (labelsLong (reading s .1 .count)) (length labels) q)
+    (handed-outcome _ _ (orElse (reading s .0) accepted) ∙ or-nothing (reading s .0))
 
 module _ (s list labels : List ℕ) (o : Outcome) (l b : List ℕ) (e : lists o l b ≡ readInto s list labels) where
   -- what the outcome is made of, and the lists where nothing is refused
@@ -82,3 +92,10 @@ module _ (s list labels : List ℕ) (o : Outcome) (l b : List ℕ) (e : lists o 
 
     pub list-as-long : length l ≡ length list
     list-as-long = ap length list-written ∙ length-upto (sheetLong (reading s .1 .count)) (sheetCell (reading s .1)) list
+
+    -- the parts that are labels
+    pub parts-written : (k : ℕ) → k < reading s .1 .count → partIn b k ≡ labelIn s k
+    parts-written k h = part-there s b labels (reading s .1 .count) k labels-written labels-have-room h
+
+    pub labels-as-long : length b ≡ length labels
+    labels-as-long = ap length labels-written ∙ length-upto (labelsLong (reading s .1 .count)) (labelCell s) labels
