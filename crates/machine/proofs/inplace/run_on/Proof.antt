@@ -1,4 +1,4 @@
-use Rattle.machine.proofs.Answered.{run-sheet, run-state, run-rows, run-list, run-buffer, run-is-refused, run-is-done}
+use Rattle.machine.proofs.Answered.{run-sheet, run-state, run-rows, run-list, run-buffer}
 use Rattle.machine.proofs.Moves.{run-in-refused, run-in-done}
 use borrow.Author.Needs.{needs}
 use Rattle.machine.proofs.inplace.run_on.Statement.{statement}
@@ -26,7 +26,7 @@ same-length : tie.Need-same-length
 same-length c = search needs
 
 returns : tie.Need-returns
-returns c = (search run-in-refused, search run-is-refused)
+returns c = search run-in-refused
 
 same-length-2 : tie.Need-same-length-2
 same-length-2 c = search needs
@@ -35,7 +35,7 @@ same-length-3 : tie.Need-same-length-3
 same-length-3 c = search needs
 
 returns-2 : tie.Need-returns-2
-returns-2 c = (search run-in-done, search run-is-done)
+returns-2 c = search run-in-done
 
 pub run-on-spec : {M : Type 1} → statement M
 run-on-spec =

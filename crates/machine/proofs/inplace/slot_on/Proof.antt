@@ -1,5 +1,4 @@
-use Rattle.machine.proofs.Moves.{slot-sheet, slot-state, slot-entries, slot-codes, slot-in-refused, slot-in-accepted, slot-in-state}
-use Rattle.machine.proofs.Answered.{slot-is-refused}
+use Rattle.machine.proofs.Moves.{slot-sheet, slot-state, slot-entries, slot-codes, slot-in-refused, slot-in-accepted}
 use borrow.Author.Needs.{needs}
 use Rattle.machine.proofs.inplace.slot_on.Statement.{statement}
 use Rattle.machine.proofs.inplace.slot_on.Tie as tie
@@ -23,7 +22,7 @@ same-length : tie.Need-same-length
 same-length c = search needs
 
 returns : tie.Need-returns
-returns c = (search slot-in-refused, search slot-is-refused)
+returns c = search slot-in-refused
 
 same-length-2 : tie.Need-same-length-2
 same-length-2 c = search needs
@@ -32,7 +31,7 @@ same-length-3 : tie.Need-same-length-3
 same-length-3 c = search needs
 
 returns-2 : tie.Need-returns-2
-returns-2 c = (search slot-in-accepted, search slot-in-state)
+returns-2 c = search slot-in-accepted
 
 pub slot-on-spec : {M : Type 1} → statement M
 slot-on-spec =

@@ -13,9 +13,8 @@ use Rattle.machine.specs.Slot.{free, next, code}
 use Rattle.machine.specs.Answers.{given}
 use Rattle.machine.specs.Lists.{stateLong, stateIn, putTo}
 use Rattle.machine.proofs.Held.{legal-in-fits, kept-long}
-use Rattle.machine.proofs.Whole.{all-free, next-codes}
 use Rattle.machine.proofs.Stored.{put-none}
-use Rattle.machine.proofs.Moves.{free-moves, list-moves, codes-move, moves-done}
+use Rattle.machine.proofs.Moves.{all-free, free-moves, list-moves, codes-move, moves-done, codes-done}
 use Rattle.machine.proofs.inplace.step_rows.Statement.{statement}
 use Rattle.machine.proofs.inplace.step_rows.Tie as tie
 
@@ -60,7 +59,7 @@ same-length-2 : tie.Need-same-length-2 Inv-loop μ-loop
 same-length-2 c = search needs
 
 returns : tie.Need-returns Inv-loop μ-loop
-returns c = (search moves-done, search next-codes)
+returns c = (search moves-done, search codes-done)
 
 pub step-rows-spec : {M : Type 1} → statement M
 step-rows-spec =

@@ -5,7 +5,7 @@ use lib.ListN.{length, replicate}
 use Rattle.basis.specs.Limits.{mostRows}
 use Rattle.machine.specs.States.{recordAt}
 use Rattle.machine.specs.Lists.{stateLong, putTo}
-use Rattle.machine.proofs.Checked.{unmapped}
+use Rattle.sheet.proofs.Cells.{unmapped}
 use Rattle.machine.proofs.Stored.{put-none}
 use Rattle.machine.proofs.Lists.{list-more, state-in-list}
 use Rattle.machine.proofs.places.state_list.Statement.{statement}

@@ -1,6 +1,6 @@
 -- `listed` meets its promise: the sheet comes back. Assumes nothing.
 use borrow.Author.Needs.{needs}
-use Rattle.machine.proofs.Checked.{unmapped}
+use Rattle.sheet.proofs.Cells.{unmapped}
 use Rattle.machine.proofs.Lists.{sheet-in-list}
 use Rattle.machine.proofs.sheets.listed.Statement.{statement}
 use Rattle.machine.proofs.sheets.listed.Tie as tie
