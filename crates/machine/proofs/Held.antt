@@ -143,6 +143,12 @@ module _ (h : Sheet) (l : List ℕ) (fine : legal h ≡ true) where
         all-true (length l) (zeroAt (stateLong (h .count)) l)
         (λ i b. ⊎-elim (λ a. rw (lt-ltb i (stateLong (h .count)) a)) (λ a. rw (le-ltb i (stateLong (h .count)) a, eq-eqb (numberAt l i) 0 (past-is-zero i b a))) (lt-or-le i (stateLong (h .count))))
 
+-- A state's list with a number other than zero past the records of the sheet's rows is refused.
+pub numbers-past-records-are-refused : (h : Sheet) (l : List ℕ) → legal h ≡ true → (i : ℕ) → stateLong (h .count) ≤ i → (numberAt l i ≡ 0 → ⊥) → legalState h (stateIn l) ≡ false
+numbers-past-records-are-refused h l fine i b d =
+    not-so (legalState h (stateIn l))
+    (λ kept. ⊎-elim (λ a. d (past-is-zero h l fine kept i a b)) (λ a. d (List·getD-eq-default l 0 {n = i} a)) (lt-or-le i (length l)))
+
 -- A list that holds a legal state is any other such list, as long, with that state put into it.
 pub list-of-kept : (h : Sheet) (l l₀ : List ℕ) → legal h ≡ true → legalState h (stateIn l) ≡ true → legalState h (stateIn l₀) ≡ true → length l ≡ length l₀ → putState (h .count) (stateIn l) l₀ ≡ l
 unfolding putState
