@@ -16,7 +16,7 @@ use Rattle.sheet.specs.Lists.{sheetIn}
 use Rattle.sheet.specs.declared.row.Sheet.{Sheet}
 use Rattle.machine.specs.declared.state.State.{State}
 use Rattle.machine.specs.Checks.{needed}
-use Rattle.machine.specs.Answers.{fresh, handed, slot, run}
+use Rattle.machine.specs.Answers.{fresh, handed, slot}
 use Rattle.machine.specs.Lists.{stateLong, stateIn, freshOn, slotIn, runIn}
 use Rattle.machine.proofs.Listed.{InTable, sheet-not-legal, list-not-whole, over-budget, too-soon, no-such-row, short-buffer, state-not-legal, Listed, slot-refusals}
 use Rattle.machine.proofs.Handed.{fresh-on-state, slot-in-state, run-in-state}

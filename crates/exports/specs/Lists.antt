@@ -1,5 +1,5 @@
 -- Results as lists of plain numbers; a sheet's list is that of crate sheet, and a state's that of crate machine.
-use Prim.Native.Nat.{ℕ, _+_, _*_, _/_, _%_}
+use Prim.Native.Nat.{ℕ, _*_, _/_, _%_}
 use mathlib.Core.Bool.{Bool}
 use mathlib.Core.List.{List}
 use lib.ListN.{getD}

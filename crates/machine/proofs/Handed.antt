@@ -20,13 +20,13 @@ use Rattle.sheet.proofs.Legality.{legal-is}
 use Rattle.sheet.proofs.Filling.{length-filled}
 use Rattle.machine.specs.declared.state.State.{State}
 use Rattle.machine.specs.declared.places.Done.{Done}
-use Rattle.machine.specs.States.{noState, stateOf, freshAt, freshState, legalState}
+use Rattle.machine.specs.States.{stateOf, freshAt, freshState}
 use Rattle.machine.specs.Checks.{needed, checkSlot, checkRun}
 use Rattle.machine.specs.Answers.{fresh, handed, nextState, nextCodes, slot, Course, notBegun, course, run}
-use Rattle.machine.specs.Lists.{stateLong, stateIn, putTo, putState, cleared, freshOn, slotListed, slotIn, runIn, ranIn, courseIn}
-use Rattle.machine.proofs.Checked.{needed-holds, Ready, ready}
+use Rattle.machine.specs.Lists.{stateLong, stateIn, putState, cleared, freshOn, slotListed, slotIn, runIn, ranIn, courseIn}
+use Rattle.machine.proofs.Checked.{needed-holds, Ready}
 use Rattle.machine.proofs.Answered.{handed-outcome, slot-shows, run-in-order-shows}
-use Rattle.machine.proofs.Laws.{slot-keeps-legal, run-keeps-legal, run-keeps-long}
+use Rattle.machine.proofs.Laws.{run-keeps-legal, run-keeps-long}
 use Rattle.machine.proofs.Held.{kept-spare, state-comes-back}
 use Rattle.machine.proofs.Stored.{state-rows-long, state-put, zeros-spare, zeros-state, cleared-none}
 use Rattle.machine.proofs.Begins.{fresh-put}

@@ -14,7 +14,7 @@ use borrow.Author.Tests.{lt-ltb, le-ltb, eq-eqb, ne-eqb, eqb-true}
 use mir.Syntax.{w64}
 use mir.Val.{Fits}
 use Rattle.basis.specs.Limits.{mostRows}
-use Rattle.basis.specs.Words.{pick, allOf}
+use Rattle.basis.specs.Words.{allOf}
 use Rattle.basis.specs.Upto.{upto}
 use Rattle.basis.proofs.Words.{lt-or-le, all-one-more, all-at, all-true, all-fails, both-left, both-right, both-true, true-not-false}
 use Rattle.basis.proofs.Upto.{upto-below, upto-past, length-upto}
@@ -28,7 +28,7 @@ use Rattle.machine.specs.declared.state.RowState.{RowState}
 use Rattle.machine.specs.declared.state.State.{State}
 use Rattle.machine.specs.States.{noRecord, stateOf, recordAt, isZero, legalRecord, legalState}
 use Rattle.machine.specs.Lists.{recordWide, recordIn, stateLong, zeroAt, zeroFrom, spareIsZero, stateIn, putTo, putState}
-use Rattle.machine.proofs.Legals.{LegalState, legal-record-is, legal-record-says, legal-state-is, legal-state-says}
+use Rattle.machine.proofs.Legals.{legal-record-is, legal-record-says, legal-state-is, legal-state-says}
 use Rattle.machine.proofs.Stored.{record-in-state, record-of-none, length-put-to, put-past, put-agree, put-own, state-rows-long, state-put}
 
 -- `is_zero_from`

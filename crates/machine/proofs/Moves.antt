@@ -11,7 +11,6 @@ use native.Mathlib.Nat.{le-refl}
 use native.Mathlib.Numerals.{add-one}
 use borrow.Author.Tests.{eqb-true}
 use borrow.Rule.Slice.PartMut.{putMid}
-use Rattle.basis.specs.Limits.{mostRows}
 use Rattle.basis.specs.Words.{pick}
 use Rattle.basis.specs.Refusals.{Outcome, accepted, refused, outcome, isAccepted, firstOf}
 use Rattle.basis.specs.declared.refusal.Refusal.{Refusal}
@@ -29,13 +28,13 @@ use Rattle.machine.specs.declared.places.Done.{Done}
 use Rattle.machine.specs.States.{stateOf, recordAt, legalState}
 use Rattle.machine.specs.Slot.{freeAt, free, next, code}
 use Rattle.machine.specs.Checks.{checkRow, checkAt, checkReleases, checkState, checkSlot, checkRun}
-use Rattle.machine.specs.Answers.{given, nextState, nextCodes, handed, slot, entriesOf, behind, slotAt, Course, followed, onward, course, notBegun, run}
+use Rattle.machine.specs.Answers.{given, nextState, nextCodes, slot, entriesOf, slotAt, Course, followed, onward, course, notBegun}
 use Rattle.machine.specs.Methods.{begunRow, steppedRow}
-use Rattle.machine.specs.Lists.{recordIn, stateLong, spareIsZero, stateIn, putRecord, putTo, putState, slotListed, slotIn, runListed, runIn, ranIn, courseIn}
+use Rattle.machine.specs.Lists.{recordIn, stateIn, putRecord, putTo, putState, slotListed, slotIn, runListed, runIn, ranIn, courseIn}
 use Rattle.machine.proofs.Turns.{check-more, check-found}
-use Rattle.machine.proofs.Checked.{Ready, ready}
+use Rattle.machine.proofs.Checked.{ready}
 use Rattle.machine.proofs.Answered.{Accepted-slot, slot-shows, slot-is-refused, slot-is-accepted, refused-leaves-all-as-found, run-sheet, run-state, run-is-refused, run-is-done}
-use Rattle.machine.proofs.Courses.{part-holds, rest-holds, slot-at-accepted, goes-on, stops}
+use Rattle.machine.proofs.Courses.{part-holds, rest-holds, slot-at-accepted}
 use Rattle.machine.proofs.Kept.{next-at, next-legal}
 use Rattle.machine.proofs.Legals.{legal-state-is, legal-state-says}
 use Rattle.machine.proofs.Held.{kept-spare, kept-long, kept-record, list-of-kept}
@@ -146,15 +145,6 @@ module _ (h : Sheet) (l rel cs : List ℕ) (j n : ℕ) (en : n ≡ h .count) (fi
 
     pub part-legal : legalState h (stateIn l′) ≡ true
     part-legal = moved-legal h l _ fine kept n en l′ moved (sym e ∙ ap outcome f)
-
--- `run_part`
-module _ (h : Sheet) (rel : List ℕ) (first : Course) (j : ℕ) (t : State) (cs : List ℕ)
-    (so-far : course h rel first j ≡ record { done = j; outcome = accepted; state = t; codes = cs }) (x : Refusal) (u : State) (ds : List ℕ) (e : (outcome x, (u, ds)) ≡ slotAt h t rel cs j) where
-  pub part-goes-on : x ≡ Accepted → course h rel first (j + 1) ≡ record { done = j + 1; outcome = accepted; state = u; codes = ds }
-  part-goes-on f = goes-on h rel first j t cs so-far (record { refusal = x; state = u }) ds e f
-
-  pub part-stops : (slots a b : ℕ) → j < slots → x ≡ Refused a b → _≡_ {A = Course} (record { done = j; outcome = refused a b; state = u; codes = ds }) (course h rel first slots)
-  part-stops slots a b l f = stops h rel first j t cs so-far (record { refusal = x; state = u }) ds e slots a b l f
 
 -- `check_state_in`
 module _ (h : Sheet) (t : State) (fine : Bool) (e : fine ≡ legal h) where

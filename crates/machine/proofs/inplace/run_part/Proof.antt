@@ -9,8 +9,7 @@ use Rattle.sheet.specs.Lists.{sheetIn}
 use Rattle.machine.specs.States.{legalState}
 use Rattle.machine.specs.Answers.{notBegun, course}
 use Rattle.machine.specs.Lists.{stateIn}
-use Rattle.machine.proofs.Courses.{room-for, ends}
-use Rattle.machine.proofs.Moves.{part-goes-on, part-stops}
+use Rattle.machine.proofs.Courses.{room-for, goes-on, stops, ends}
 use Rattle.machine.proofs.inplace.run_part.Statement.{statement}
 use Rattle.machine.proofs.inplace.run_part.Tie as tie
 
@@ -37,7 +36,7 @@ same-length-2 : tie.Need-same-length-2 Inv-loop μ-loop
 same-length-2 c = search needs
 
 returns : tie.Need-returns Inv-loop μ-loop
-returns c = (search part-stops, search needs)
+returns c = (search stops, search needs)
 
 enum-told : tie.Need-enum-told Inv-loop μ-loop
 enum-told c = search needs
@@ -49,7 +48,7 @@ loop-less : tie.Need-loop-less Inv-loop μ-loop
 loop-less c = search needs
 
 loop-again : tie.Need-loop-again Inv-loop μ-loop
-loop-again c = (search needs, search needs, search needs, search needs, search needs, search needs, search needs, search needs, search part-goes-on)
+loop-again c = (search needs, search needs, search needs, search needs, search needs, search needs, search needs, search needs, search goes-on)
 
 same-length-3 : tie.Need-same-length-3 Inv-loop μ-loop
 same-length-3 c = search needs
