@@ -68,10 +68,11 @@ freshIn sheet list = withTold (freshOn (sheetIn sheet) list)
 unfoldable pub slotOn : List ℕ → List ℕ → List ℕ → List ℕ → (ℕ × ℕ) × (List ℕ × List ℕ)
 slotOn sheet list releases codes = withTold (slotIn (sheetIn sheet) list releases codes)
 
--- A run: the slots done, the state's list after them, which is as it was where none is done, and the codes.
+-- What a run answers, with its outcome told.
 abbrev pub runTold : (ℕ × Outcome) × (List ℕ × List ℕ) → (ℕ × ℕ) × (ℕ × (List ℕ × List ℕ))
 runTold ((done, o), lent) = (told o, (done, lent))
 
+-- A run: the slots done, the state's list after them, which is as it was where none is done, and the codes.
 unfoldable pub runOn : List ℕ → List ℕ → List ℕ → List ℕ → (ℕ × ℕ) × (ℕ × (List ℕ × List ℕ))
 runOn sheet list releases codes = runTold (runIn (sheetIn sheet) list releases codes)
 

@@ -4,7 +4,8 @@ use Prim.Native.Nat.{ℕ, _/_, _≤_}
 use mathlib.Core.Path.{_≡_, refl, sym, ap, _∙_}
 use mathlib.Core.Bool.{Bool, true, false}
 use mathlib.Core.List.{List}
-use lib.ListN.{length, replicate}
+use mathlib.Core.Logic.{⊎-elim}
+use lib.ListN.{length, replicate, List·getD-eq-default}
 use lib.Dec.{leb, eqb}
 use native.Mathlib.Omega.{arith}
 use borrow.Author.Tests.{le-leb, leb-true, eqb-true}
@@ -14,21 +15,23 @@ use Rattle.basis.specs.Refusals.{Outcome, accepted, refused, outcome, orElse}
 use Rattle.basis.specs.Upto.{upto}
 use Rattle.basis.proofs.First.{both-accepted}
 use Rattle.basis.proofs.Lists.{getD-all}
+use Rattle.basis.proofs.Words.{lt-or-le}
 use Rattle.sheet.specs.Legal.{legal}
 use Rattle.sheet.specs.declared.row.Sheet.{Sheet}
 use Rattle.sheet.proofs.Legality.{legal-is}
+use Rattle.sheet.specs.Lists.{numberAt}
 use Rattle.sheet.proofs.Filling.{length-filled}
 use Rattle.machine.specs.declared.state.State.{State}
 use Rattle.machine.specs.declared.places.Done.{Done}
-use Rattle.machine.specs.States.{stateOf, freshAt, freshState}
+use Rattle.machine.specs.States.{stateOf, recordAt, freshAt, freshState, legalState}
 use Rattle.machine.specs.Checks.{needed, checkSlot, checkRun}
 use Rattle.machine.specs.Answers.{fresh, handed, nextState, nextCodes, slot, Course, notBegun, course, run}
 use Rattle.machine.specs.Lists.{stateLong, stateIn, putState, cleared, freshOn, slotListed, slotIn, runIn, ranIn, courseIn}
 use Rattle.machine.proofs.Checked.{needed-holds, Ready}
 use Rattle.machine.proofs.Answered.{handed-outcome, slot-shows, run-in-order-shows}
 use Rattle.machine.proofs.Laws.{run-keeps-legal, run-keeps-long}
-use Rattle.machine.proofs.Held.{kept-spare, state-comes-back}
-use Rattle.machine.proofs.Stored.{state-rows-long, state-put, zeros-spare, zeros-state, cleared-none}
+use Rattle.machine.proofs.Held.{kept-spare, past-is-zero, state-comes-back}
+use Rattle.machine.proofs.Stored.{put-past, state-rows-long, state-put, zeros-spare, zeros-state, cleared-none}
 use Rattle.machine.proofs.Begins.{fresh-put}
 use Rattle.machine.proofs.Moves.{moved-back, course-none}
 
@@ -106,3 +109,15 @@ run-listed-back h l rel cs r l′ ds e =
     let t : stateIn l′ ≡ run h (stateIn l) rel cs .state = ap (λ (x : (ℕ × Outcome) × (List ℕ × List ℕ)). stateIn (x .1 .0)) e ∙ run-in-state h l rel cs in
     let c : ds ≡ run h (stateIn l) rel cs .codes = ap (λ (x : (ℕ × Outcome) × (List ℕ × List ℕ)). x .1 .1) e in
     λ i. record { done = d i; outcome = o i; state = t i; codes = c i }
+
+-- Past the records of the rows every number is zero: after an accepted fresh, which has cleared the list,
+pub fresh-past-is-zero : (n : ℕ) (t : State) (l : List ℕ) (i : ℕ) → stateLong n ≤ i → numberAt (putState n t (cleared l)) i ≡ 0
+unfolding putState
+fresh-past-is-zero n t l i b = put-past (recordAt t) (cleared l) n i b ∙ cleared-none l i
+
+-- and after an accepted slot or run, whose checks have asked for zeros there.
+pub put-past-is-zero : (h : Sheet) (t : State) (l : List ℕ) (i : ℕ) → legal h ≡ true → legalState h (stateIn l) ≡ true → stateLong (h .count) ≤ i → numberAt (putState (h .count) t l) i ≡ 0
+unfolding putState
+put-past-is-zero h t l i fine kept b =
+    put-past (recordAt t) l (h .count) i b
+    ∙ ⊎-elim (λ a. past-is-zero h l fine kept i a b) (λ a. List·getD-eq-default l 0 {n = i} a) (lt-or-le i (length l))

@@ -62,24 +62,27 @@ putState n t l = putTo n (recordAt t) l
 abbrev pub cleared : List ℕ → List ℕ
 cleared l = filled (λ i. 0) l
 
--- Fresh, in a list: 10, then 15 where there is no room for a record for each row; past the records every number is zero, and beside a refusal the list is as it was.
+-- The answer of fresh put into a list: 15 comes after its refusals, where there is no room for a record for each row; past the records every number is zero, and beside a refusal the list is as it was.
 abbrev pub freshListed : ℕ → Outcome × State → List ℕ → Outcome × List ℕ
 freshListed n (o, t) list = handed (orElse o (needed (leb (stateLong n) (length list)) 15)) (putState n t (cleared list)) list
 
+-- Fresh, in a list: 10, then 15.
 unfoldable pub freshOn : Sheet → List ℕ → Outcome × List ℕ
 freshOn h list = freshListed (h .count) (fresh h) list
 
--- One slot, with the state in a list: the next state is put into the list, and beside a refusal the list is as it was.
+-- The answer of a slot put into a list: the next state, and beside a refusal the list is as it was.
 abbrev pub slotListed : ℕ → Outcome × (State × List ℕ) → List ℕ → Outcome × (List ℕ × List ℕ)
 slotListed n (o, (t, codes)) list = (o, (handed o (putState n t list) list .1, codes))
 
+-- One slot of the state in a list.
 unfoldable pub slotIn : Sheet → List ℕ → List ℕ → List ℕ → Outcome × (List ℕ × List ℕ)
 slotIn h list releases codes = slotListed (h .count) (slot h (stateIn list) releases codes) list
 
--- A run, with the state in a list: the slots done and the outcome, the list with the state after them, which is as it was where none is done, and the codes.
+-- The answer of a run put into a list: the slots done and the outcome, the list with the state after them, which is as it was where none is done, and the codes.
 abbrev pub runListed : ℕ → Course → List ℕ → (ℕ × Outcome) × (List ℕ × List ℕ)
 runListed n c list = ((c .done, c .outcome), (pick (eqb (c .done) 0) list (putState n (c .state) list), c .codes))
 
+-- A run of the state in a list.
 unfoldable pub runIn : Sheet → List ℕ → List ℕ → List ℕ → (ℕ × Outcome) × (List ℕ × List ℕ)
 runIn h list releases codes = runListed (h .count) (run h (stateIn list) releases codes) list
 
