@@ -1,4 +1,4 @@
--- The numbers at the places of a list of pairs, as the code finds them: of a state, and of results.
+-- The numbers at the places of a list of results, as the code finds them.
 -- Assumes nothing.
 use Prim.Native.Nat.{ℕ, _+_, _/_, _%_, _≤_, _<_}
 use mathlib.Core.Path.{_≡_, refl, sym, ap, ap₂, _∙_}
@@ -14,14 +14,11 @@ use Rattle.basis.specs.Limits.{mostRows}
 use Rattle.basis.specs.Words.{pick}
 use Rattle.basis.specs.Upto.{upto}
 use Rattle.basis.proofs.Words.{lt-or-le}
-use Rattle.machine.specs.States.{noRecord, recordAt}
-use Rattle.machine.specs.declared.state.State.{State}
 use Rattle.bound.specs.Bound.{unreached, wordIn}
 use Rattle.bound.specs.declared.results.Judged.{Judged}
 use Rattle.bound.specs.declared.results.Result.the-variants.{Unreached}
 use Rattle.sheet.proofs.Filling.{fill-more}
 use Rattle.exports.specs.Lists.{resultCell, pairsLong, wordNumber, boundNumber, pairOf, pairCell}
-use Rattle.machine.specs.Lists.{stateCell}
 
 -- the row of a place is one that there is room for
 pub pair-there : (i r : ℕ) → r ≡ pairOf i → r < mostRows
@@ -44,17 +41,6 @@ pair-found f g zf zg i r e =
     either : (b : Bool) → _≡_ {A = ℕ} (pick b 0 0) 0
     either true = refl
     either false = refl
-
--- a state's number is stored
-pub state-stored : (t : State) (l₀ l : List ℕ) (i r : ℕ) → l ≡ upto i (stateCell t) l₀ → length (t .rows) ≡ mostRows → r ≡ pairOf i
-    → (v : ℕ) → v ≡ pairCell (recordAt t r .remaining) (recordAt t r .since) i → set l i v ≡ upto (i + 1) (stateCell t) l₀
-unfolding stateCell
-state-stored t l₀ l i r so-far long e v f =
-    fill-more (stateCell t) l₀ l i so-far v
-    (f ∙ pair-found (λ k. recordAt t k .remaining) (λ k. recordAt t k .since) (λ k h. ap (λ s. s .remaining) (past k h)) (λ k h. ap (λ s. s .since) (past k h)) i r e)
-  where
-    past : (k : ℕ) → mostRows ≤ k → recordAt t k ≡ noRecord
-    past k h = List·getD-eq-default (t .rows) noRecord {n = k} (rw long h)
 
 -- a number of a result is stored
 pub result-stored : (rows : List Judged) (l₀ l : List ℕ) (i r : ℕ) → l ≡ upto i (resultCell (map wordIn rows)) l₀ → length rows ≡ mostRows → r ≡ pairOf i

@@ -17,8 +17,8 @@ use Rattle.machine.proofs.Done.{Ends, all-done, stopped-at, run-ends, run-not-b
 use Rattle.dashboard.specs.Texts.{verdictText}
 use Rattle.sheet.specs.Lists.{sheetIn, sheetLong}
 use Rattle.exports.specs.Lists.{pairsLong}
-use Rattle.machine.specs.Lists.{stateIn}
-use Rattle.exports.specs.Answers.{told, roomFor, verdictIn, fieldsIn, readIn, labelOutcome, labelAnswer, resultsIn, boundsIn, stateGiven, freshIn, slotGiven, slotOn, runGiven, runOn, marginGiven, marginIn}
+use Rattle.machine.specs.Lists.{stateLong, stateIn, freshOn, slotListed, slotIn, runIn}
+use Rattle.exports.specs.Answers.{told, roomFor, verdictIn, fieldsIn, readIn, labelOutcome, labelAnswer, resultsIn, boundsIn, withTold, freshIn, slotOn, runOn, marginGiven, marginIn}
 
 -- what is handed over where a number other than 0 is told
 kept : {A : Type 0} (o : Outcome) (done found : A) → (told o .0 ≡ 0 → ⊥) → handed o done found .1 ≡ found
@@ -40,20 +40,26 @@ pub refused-bounds-changes-nothing : (s : List ℕ) (lent : ℕ × List ℕ) →
 unfolding boundsIn resultsIn
 refused-bounds-changes-nothing s lent n = kept (orElse (boundsOf (sheetIn s) .0) (roomFor (pairsLong (sheetIn s .count)) (length (lent .1)))) _ lent n
 
+-- the same of a call of the machine
+left : {A : Type 0} (o : Outcome) (done found : A) → (told (handed o done found .0) .0 ≡ 0 → ⊥) → handed o done found .1 ≡ found
+left accepted done found n = absurd (n refl)
+left (refused number place) done found n = refl
+
 -- A refused `giachimu_fresh` leaves the list.
 pub refused-fresh-changes-nothing : (s list : List ℕ) → (freshIn s list .0 .0 ≡ 0 → ⊥) → freshIn s list .1 ≡ list
-unfolding freshIn stateGiven
-refused-fresh-changes-nothing s list n = kept (orElse (fresh (sheetIn s) .0) (roomFor (pairsLong (sheetIn s .count)) (length list))) _ list n
+unfolding freshIn freshOn
+refused-fresh-changes-nothing s list n = left (orElse (fresh (sheetIn s) .0) (roomFor (stateLong (sheetIn s .count)) (length list))) _ list n
 
 -- A refused `giachimu_slot` leaves the state's list and the codes.
 pub refused-slot-changes-nothing : (s list rel cs : List ℕ) → (slotOn s list rel cs .0 .0 ≡ 0 → ⊥) → slotOn s list rel cs .1 ≡ (list, cs)
-unfolding slotOn slotGiven slot
+unfolding slotOn slotIn slot
 refused-slot-changes-nothing s list rel cs n = go (checkSlot (sheetIn s) (stateIn list) rel (length cs)) n
   where
     next : State × List ℕ
     next = (nextState (sheetIn s) (stateIn list) rel, nextCodes (sheetIn s) (stateIn list) rel cs)
 
-    go : (o : Outcome) → (slotGiven (handed o next (stateIn list, cs)) list .0 .0 ≡ 0 → ⊥) → slotGiven (handed o next (stateIn list, cs)) list .1 ≡ (list, cs)
+    go : (o : Outcome) → (withTold (slotListed (sheetIn s .count) (handed o next (stateIn list, cs)) list) .0 .0 ≡ 0 → ⊥)
+        → withTold (slotListed (sheetIn s .count) (handed o next (stateIn list, cs)) list) .1 ≡ (list, cs)
     go accepted m = absurd (m refl)
     go (refused number place) m = refl
 
@@ -77,7 +83,7 @@ run-writes-nothing h t rel cs z = go (checkRun h t rel (length cs)) refl
 
 -- A `giachimu_run` that has done no slot leaves the state's list and the codes.
 pub run-of-none-changes-nothing : (s list rel cs : List ℕ) → runOn s list rel cs .1 .0 ≡ 0 → runOn s list rel cs .1 .1 ≡ (list, cs)
-unfolding runOn runGiven
+unfolding runOn runIn
 run-of-none-changes-nothing s list rel cs z =
     rw (eq-eqb (run (sheetIn s) (stateIn list) rel cs .done) 0 z, run-writes-nothing (sheetIn s) (stateIn list) rel cs z)
 

@@ -4,8 +4,8 @@ pub mod Calls
 pub mod Cells
 pub mod Copied
 pub mod Fields
+pub mod Following
 pub mod Kept
 pub mod Meaning
-pub mod Records
 pub mod Same
 pub mod Texts

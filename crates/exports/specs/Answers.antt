@@ -3,20 +3,18 @@ use Prim.Native.Nat.{ℕ}
 use mathlib.Core.List.{List}
 use lib.ListN.{length}
 use lib.IntN.{ℤ}
-use lib.Dec.{ltb, leb, eqb}
-use Rattle.basis.specs.Words.{pick}
+use lib.Dec.{ltb, leb}
 use Rattle.basis.specs.Refusals.{Outcome, accepted, refused, orElse}
 use Rattle.reader.specs.Answers.{reading, labelIn}
 use Rattle.sheet.specs.declared.row.Sheet.{Sheet}
 use Rattle.bound.specs.Bound.{Answer, boundsOf}
 use Rattle.machine.specs.Checks.{needed}
-use Rattle.machine.specs.Answers.{Course, Told, no-job, margin-is, refused-by, fresh, handed, slot, run, margin}
-use Rattle.machine.specs.declared.state.State.{State}
+use Rattle.machine.specs.Answers.{Told, no-job, margin-is, refused-by, handed, margin}
 use Rattle.dashboard.specs.Pages.{Page, written}
 use Rattle.dashboard.specs.Texts.{verdictText}
 use Rattle.sheet.specs.Lists.{filled, sheetIn, sheetCell, sheetLong}
 use Rattle.exports.specs.Lists.{pairsLong, resultCell, flag}
-use Rattle.machine.specs.Lists.{stateIn, stateCell}
+use Rattle.machine.specs.Lists.{stateIn, freshOn, slotIn, runIn}
 
 -- A refusal's number and place; zeros where nothing is refused.
 abbrev pub told : Outcome → ℕ × ℕ
@@ -58,27 +56,25 @@ resultsIn n (o, holds, ws) (found, list) =
 unfoldable pub boundsIn : List ℕ → ℕ × List ℕ → (ℕ × ℕ) × (ℕ × List ℕ)
 boundsIn sheet lent = resultsIn (sheetIn sheet .count) (boundsOf (sheetIn sheet)) lent
 
--- The fresh state of a sheet's list: 10, then the room for a record for each row.
-unfoldable pub stateGiven : ℕ → Outcome × State → List ℕ → (ℕ × ℕ) × List ℕ
-stateGiven n (o, t) list = answered (orElse o (roomFor (pairsLong n) (length list))) (filled (stateCell t) list) list
+-- What a call of the machine answers, with its outcome told.
+abbrev pub withTold : {A : Type 0} → Outcome × A → (ℕ × ℕ) × A
+withTold (o, lent) = (told o, lent)
 
+-- The fresh state of a sheet's list: 10, then 15; the list afterwards.
 unfoldable pub freshIn : List ℕ → List ℕ → (ℕ × ℕ) × List ℕ
-freshIn sheet list = stateGiven (sheetIn sheet .count) (fresh (sheetIn sheet)) list
+freshIn sheet list = withTold (freshOn (sheetIn sheet) list)
 
 -- One slot: the state's list and the codes after it.
-unfoldable pub slotGiven : Outcome × (State × List ℕ) → List ℕ → (ℕ × ℕ) × (List ℕ × List ℕ)
-slotGiven (o, (t, codes)) list = (told o, (handed o (filled (stateCell t) list) list .1, codes))
-
 unfoldable pub slotOn : List ℕ → List ℕ → List ℕ → List ℕ → (ℕ × ℕ) × (List ℕ × List ℕ)
-slotOn sheet list releases codes = slotGiven (slot (sheetIn sheet) (stateIn list) releases codes) list
+slotOn sheet list releases codes = withTold (slotIn (sheetIn sheet) list releases codes)
+
+-- What a run answers, with its outcome told.
+abbrev pub runTold : (ℕ × Outcome) × (List ℕ × List ℕ) → (ℕ × ℕ) × (ℕ × (List ℕ × List ℕ))
+runTold ((done, o), lent) = (told o, (done, lent))
 
 -- A run: the slots done, the state's list after them, which is as it was where none is done, and the codes.
-unfoldable pub runGiven : Course → List ℕ → (ℕ × ℕ) × (ℕ × (List ℕ × List ℕ))
-runGiven c list =
-    (told (c .outcome), (c .done, (pick (eqb (c .done) 0) list (filled (stateCell (c .state)) list), c .codes)))
-
 unfoldable pub runOn : List ℕ → List ℕ → List ℕ → List ℕ → (ℕ × ℕ) × (ℕ × (List ℕ × List ℕ))
-runOn sheet list releases codes = runGiven (run (sheetIn sheet) (stateIn list) releases codes) list
+runOn sheet list releases codes = runTold (runIn (sheetIn sheet) list releases codes)
 
 -- The margin of a row: 1 and the margin where it has a job, 0 and no margin where it has none.
 unfoldable pub marginGiven : Told → ℕ × ℤ → (ℕ × ℕ) × (ℕ × ℤ)

@@ -1,19 +1,14 @@
--- States and results as lists of plain numbers; a sheet's list is that of crate sheet.
-use Prim.Native.Nat.{ℕ, _+_, _*_, _/_, _%_}
+-- Results as lists of plain numbers; a sheet's list is that of crate sheet, and a state's that of crate machine.
+use Prim.Native.Nat.{ℕ, _*_, _/_, _%_}
 use mathlib.Core.Bool.{Bool}
 use mathlib.Core.List.{List}
-use lib.ListN.{length, getD}
+use lib.ListN.{getD}
 use lib.Dec.{ltb, leb, eqb}
 use Rattle.basis.specs.Limits.{mostRows}
 use Rattle.basis.specs.Words.{pick}
 use Rattle.bound.specs.Bound.{Word, bound, none, unreached}
-use Rattle.machine.specs.Lists.{stateLong, zeroAt}
 
--- The number at place i of a state's list does not stand past the last record there is room for, or it is zero.
-abbrev pub spareAt : List ℕ → ℕ → Bool
-spareAt l i = zeroAt (stateLong mostRows) l i
-
--- The places that a list needs for a state, or for results, of so many rows.
+-- The places that a list needs for the results of so many rows.
 abbrev pub pairsLong : ℕ → ℕ
 pairsLong n = n * 2
 

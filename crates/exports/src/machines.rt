@@ -1,31 +1,17 @@
 // The machine on a sheet and a state in lists: fresh, one slot, a run, the margin of a row.
 ghost use mathlib.Core.Path.{_≡_};
 ghost use Rattle.exports.specs.Answers.{freshIn, slotOn, runOn, marginIn};
-use crate::states::put_state;
 use crate::telling::tell;
 use basis::Refusal;
 use machine::Margin;
-use sheet::sheet_in;
 
 // Writes the fresh state of a sheet into a list.
 #[no_mangle]
 pub extern "C" fn giachimu_fresh(sheet: &[u64], list: &mut [u64], place: &mut usize) -> u64
     ensures { λ r. ⌜ ((r, now (place .exit)), now (list .exit)) ≡ freshIn (now (sheet .entry)) (now (list .entry)) ⌝ }
 {
-    let given = sheet_in(sheet);
-    let started = machine::fresh(given);
-    let refusal = started.refusal;
-    let state = started.state;
-    match refusal {
-        Refusal::Refused(number, at) => tell(Refusal::Refused(number, at), place),
-        Refusal::Accepted => {
-            if list.len() < given.count as usize * 2 {
-                return tell(Refusal::Refused(15, 0), place);
-            }
-            put_state(list, state);
-            tell(Refusal::Accepted, place)
-        }
-    }
+    let refusal = machine::fresh_on(sheet, list);
+    tell(refusal, place)
 }
 
 // One slot: the state in the list becomes the next one, and the codes are written.

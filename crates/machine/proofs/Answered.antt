@@ -2,7 +2,7 @@
 -- Assumes nothing.
 use Prim.Native.Nat.{ℕ, _*_, _/_, _%_, _≤_, _<_}
 use mathlib.Core.Path.{_≡_, refl, sym, ap, _∙_}
-use mathlib.Core.Bool.{Bool, true, false}
+use mathlib.Core.Bool.{true}
 use mathlib.Core.List.{List}
 use lib.ListN.{length}
 use lib.Dec.{leb, eqb}
@@ -16,11 +16,10 @@ use Rattle.basis.specs.declared.refusal.Refusal.the-variants.{Accepted, Refused
 use Rattle.basis.proofs.First.{both-accepted}
 use Rattle.sheet.specs.Legal.{legal}
 use Rattle.sheet.specs.declared.row.Sheet.{Sheet}
-use Rattle.sheet.proofs.Legality.{legal-told}
 use Rattle.machine.specs.declared.state.State.{State}
-use Rattle.machine.specs.States.{noState, freshState, legalState}
+use Rattle.machine.specs.States.{legalState}
 use Rattle.machine.specs.Checks.{needed, checkReleases, checkState, checkRoom, checkSlot, checkRun}
-use Rattle.machine.specs.Answers.{handed, fresh, nextState, nextCodes, slot, notBegun, course, run, Course}
+use Rattle.machine.specs.Answers.{handed, nextState, nextCodes, slot, notBegun, course, run, Course}
 use Rattle.machine.specs.Lent.{slottedIn}
 use Rattle.machine.proofs.Checked.{needed-holds, Ready, ready}
 
@@ -28,19 +27,6 @@ use Rattle.machine.proofs.Checked.{needed-holds, Ready, ready}
 pub handed-outcome : {A : Type 0} (o : Outcome) (x y : A) → handed o x y .0 ≡ o
 handed-outcome accepted x y = refl
 handed-outcome (refused a b) x y = refl
-
--- `fresh`
-module _ (h : Sheet) (fine : Bool) (e : fine ≡ legal h) where
-  pub fresh-fits : fine ≡ true → h .count ≤ mostRows
-  fresh-fits y = legal-told h fine e y .most-rows
-
-  pub fresh-accepted : (t : State) → fine ≡ true → t ≡ freshState h → (accepted, t) ≡ fresh h
-  unfolding fresh
-  fresh-accepted t y f = rw (sym e ∙ y, f)
-
-  pub fresh-refused : (t : State) → fine ≡ false → t ≡ noState → (refused 10 0, t) ≡ fresh h
-  unfolding fresh
-  fresh-refused t y f = rw (sym e ∙ y, f)
 
 -- what an accepted slot's checks have shown
 pub record Accepted-slot (h : Sheet) (t : State) (rel : List ℕ) (room : ℕ) : Type 0 where
@@ -95,6 +81,11 @@ unfolding slot
 refused-leaves-all-as-found h t rel cs a b u ds e =
     let as-found = handed-refused (checkSlot h t rel (length cs)) (nextState h t rel, nextCodes h t rel cs) (t, cs) a b (sym (ap (λ (x : Outcome × (State × List ℕ)). x .0) e)) in
     (ap (λ (x : Outcome × (State × List ℕ)). x .1 .0) e ∙ ap (λ (x : State × List ℕ). x .0) as-found, ap (λ (x : Outcome × (State × List ℕ)). x .1 .1) e ∙ ap (λ (x : State × List ℕ). x .1) as-found)
+
+-- what the checks of a run that were passed have shown
+pub run-in-order-shows : (h : Sheet) (t : State) (rel : List ℕ) (room : ℕ) → checkRun h t rel room ≡ accepted → Ready h t
+unfolding checkRun
+run-in-order-shows h t rel room e = ready h t (both-accepted (checkState h t) _ e .0)
 
 -- `run`: what its checks have shown, with so much room for codes
 module _ (h : Sheet) (t : State) (rel : List ℕ) (room : ℕ) (c : Refusal) (e : outcome c ≡ checkRun h t rel room) (f : c ≡ Accepted) where

@@ -120,7 +120,7 @@ module _ (h : Sheet) (rel cs₀ : List ℕ) (first : Course) (slots j : ℕ) (x 
             record {
               within = omega arith;
               long = m ∙ g .long;
-              so-far = goes-on h rel first j t cs here (record { refusal = y; state = u }) ds e f ∙ ap (λ (o : Outcome). record { done = j + 1; outcome = o; state = u; codes = ds }) (sym (ap outcome f));
+              so-far = goes-on h rel first j t cs here y u ds e f ∙ ap (λ (o : Outcome). record { done = j + 1; outcome = o; state = u; codes = ds }) (sym (ap outcome f));
               going = λ _. ap outcome f;
             }
         go (Refused k p) f a = let z : _≡_ {A = ℕ} 0 1 = cc in absurd (omega arith)
@@ -130,4 +130,4 @@ module _ (h : Sheet) (rel cs₀ : List ℕ) (first : Course) (slots j : ℕ) (x 
       where
         go : (z : Refusal) → y ≡ z → isAccepted (outcome z) ≡ false → _≡_ {A = Course} (record { done = j; outcome = outcome y; state = u; codes = ds }) (course h rel first slots)
         go Accepted f a = let z : _≡_ {A = ℕ} 0 1 = cc in absurd (omega arith)
-        go (Refused k p) f a = ap (λ (o : Refusal). record { done = j; outcome = outcome o; state = u; codes = ds }) f ∙ stops h rel first j t cs here (record { refusal = y; state = u }) ds e slots k p l f
+        go (Refused k p) f a = ap (λ (o : Refusal). record { done = j; outcome = outcome o; state = u; codes = ds }) f ∙ stops h rel first j t cs here y u ds e slots k p l f

@@ -1,7 +1,7 @@
 -- A run's course: slot j of a list on parts of the list and the buffer, one slot more, and a course that has stopped.
 -- Assumes nothing.
 use Prim.Native.Nat.{ℕ, zero, suc, _+_, _*_, _-_, _≤_, _<_}
-use mathlib.Core.Path.{_≡_, refl, sym, ap, ap₂, _∙_}
+use mathlib.Core.Path.{_≡_, sym, ap, ap₂, _∙_}
 use mathlib.Core.Bool.{true}
 use mathlib.Core.List.{List, _++_, append-nil}
 use lib.ListN.{length, take, drop, length-drop, take-append-drop, drop-of-length-le}
@@ -11,28 +11,19 @@ use native.Mathlib.Nat.{mul-le-mul-right, add-zero, add-suc}
 use native.Mathlib.Numerals.{add-one}
 use borrow.Author.Tests.{le-leb, eq-eqb}
 use borrow.Rule.Slice.PartMut.{putMid}
-use Rattle.basis.specs.Limits.{mostRows}
 use Rattle.basis.specs.Refusals.{Outcome, accepted, refused, outcome}
 use Rattle.basis.specs.declared.refusal.Refusal.{Refusal}
 use Rattle.basis.specs.declared.refusal.Refusal.the-variants.{Accepted, Refused}
 use Rattle.sheet.specs.Legal.{legal}
 use Rattle.sheet.specs.declared.row.Sheet.{Sheet}
-use Rattle.sheet.proofs.Legality.{legal-is}
 use Rattle.machine.specs.declared.state.State.{State}
-use Rattle.machine.specs.declared.slots.Slotted.{Slotted}
 use Rattle.machine.specs.States.{legalState}
 use Rattle.machine.specs.Checks.{checkReleases, checkState, checkRoom, checkSlot}
-use Rattle.machine.proofs.Answered.{slot-shows}
-use Rattle.machine.proofs.Kept.{next-legal}
-use Rattle.machine.proofs.Legals.{legal-state-is, legal-state-says}
-use Rattle.machine.specs.Answers.{nextState, nextCodes, handed, slot, slotted, entriesOf, behind, slotAt, Course, followed, onward, course}
+use Rattle.machine.specs.Answers.{nextState, nextCodes, slot, entriesOf, behind, slotAt, Course, followed, onward, course}
 
 -- slot j of a list
 module _ (h : Sheet) (t : State) (rel cs : List ℕ) (j n : ℕ) (en : n ≡ h .count) (fine : legal h ≡ true) (kept : legalState h t ≡ true)
     (list : j * n + n ≤ length rel) (buffer : j * n + n ≤ length cs) where
-  pub part-rows : h .count ≤ mostRows
-  part-rows = legal-is h fine .most-rows
-
   part-is : take (j * n + n - j * n) (drop (j * n) rel) ≡ entriesOf n j rel
   part-is = let e : j * n + n - j * n ≡ n = omega arith in ap (λ (m : ℕ). take m (drop (j * n) rel)) e
 
@@ -98,54 +89,19 @@ stays h rel c j (suc i) a b e =
 
 -- one slot more
 module _ (h : Sheet) (rel : List ℕ) (first : Course) (j : ℕ) (t : State) (cs : List ℕ)
-    (so-far : course h rel first j ≡ record { done = j; outcome = accepted; state = t; codes = cs }) (r : Slotted) (ds : List ℕ) (e : slotted r ds ≡ slotAt h t rel cs j) where
-  one-more : (x : Refusal) → r .refusal ≡ x → course h rel first (suc j) ≡ followed j (outcome x, (r .state, ds))
+    (so-far : course h rel first j ≡ record { done = j; outcome = accepted; state = t; codes = cs }) (x : Refusal) (u : State) (ds : List ℕ) (e : (outcome x, (u, ds)) ≡ slotAt h t rel cs j) where
+  one-more : (y : Refusal) → x ≡ y → course h rel first (suc j) ≡ followed j (outcome y, (u, ds))
   unfolding course onward
-  one-more x f = rw so-far (ap (followed j) (sym e ∙ ap (λ (y : Refusal). (outcome y, (r .state, ds))) f))
+  one-more y f = rw so-far (ap (followed j) (sym e ∙ ap (λ (z : Refusal). (outcome z, (u, ds))) f))
 
-  pub goes-on : r .refusal ≡ Accepted → course h rel first (j + 1) ≡ record { done = j + 1; outcome = accepted; state = r .state; codes = ds }
+  pub goes-on : x ≡ Accepted → course h rel first (j + 1) ≡ record { done = j + 1; outcome = accepted; state = u; codes = ds }
   goes-on f = ap (course h rel first) (add-one j) ∙ one-more Accepted f
 
-  pub stops : (slots a b : ℕ) → j < slots → r .refusal ≡ Refused a b → _≡_ {A = Course} (record { done = j; outcome = refused a b; state = r .state; codes = ds }) (course h rel first slots)
+  pub stops : (slots a b : ℕ) → j < slots → x ≡ Refused a b → _≡_ {A = Course} (record { done = j; outcome = refused a b; state = u; codes = ds }) (course h rel first slots)
   stops slots a b l f =
       let here = one-more (Refused a b) f in
       let far : suc j + (slots - suc j) ≡ slots = omega arith in
-      sym (ap (course h rel first) (sym far) ∙ stays h rel first (suc j) (slots - suc j) a b (ap (λ (x : Course). x .outcome) here) ∙ here)
-
--- what an accepted slot has done
-handed-over : {A : Type 0} (o : Outcome) (did came x : A) → handed o did came ≡ (accepted, x) → (o ≡ accepted) × (did ≡ x)
-handed-over accepted did came x e = (refl, ap (λ y. y .1) e)
-handed-over (refused a b) did came x e =
-    let f : refused a b ≡ accepted = ap (λ y. y .0) e in
-    let z : _≡_ {A = ℕ} 0 1 = cc in absurd (omega arith)
-
-pub slot-did : (h : Sheet) (t : State) (rel cs : List ℕ) (u : State) (ds : List ℕ) → slot h t rel cs ≡ (accepted, (u, ds))
-    → (checkSlot h t rel (length cs) ≡ accepted) × (nextState h t rel ≡ u) × (nextCodes h t rel cs ≡ ds)
-unfolding slot
-slot-did h t rel cs u ds e =
-    let (o, d) = handed-over (checkSlot h t rel (length cs)) (nextState h t rel, nextCodes h t rel cs) (t, cs) (u, ds) e in
-    (o, ap (λ y. y .0) d, ap (λ y. y .1) d)
-
--- what stands behind the codes before it
-behind-accepted : (front : List ℕ) (x : Outcome × (State × List ℕ)) (u : State) (ds : List ℕ) → behind front x ≡ (accepted, (u, ds)) → (x ≡ (accepted, (u, x .1 .1))) × (front ++ x .1 .1 ≡ ds)
-behind-accepted front (o, (t, cs)) u ds e =
-    (ap₂ (λ (p : Outcome) (q : State). (p, (q, cs))) (ap (λ y. y .0) e) (ap (λ y. y .1 .0) e), ap (λ y. y .1 .1) e)
-
-module _ (h : Sheet) (t : State) (rel cs : List ℕ) (j : ℕ) (r : Slotted) (ds : List ℕ) (e : slotted r ds ≡ slotAt h t rel cs j) (f : r .refusal ≡ Accepted) where
-  here : slotAt h t rel cs j ≡ (accepted, (r .state, ds))
-  here = sym e ∙ ap (λ (y : Refusal). (outcome y, (r .state, ds))) f
-
-  own : (slot h t (entriesOf (h .count) j rel) (drop (j * h .count) cs) ≡ (accepted, (r .state, slot h t (entriesOf (h .count) j rel) (drop (j * h .count) cs) .1 .1)))
-      × (take (j * h .count) cs ++ slot h t (entriesOf (h .count) j rel) (drop (j * h .count) cs) .1 .1 ≡ ds)
-  unfolding slotAt
-  own = behind-accepted (take (j * h .count) cs) (slot h t (entriesOf (h .count) j rel) (drop (j * h .count) cs)) (r .state) ds here
-
-  pub legal-on : legalState h (r .state) ≡ true
-  legal-on =
-      let did = slot-did h t (entriesOf (h .count) j rel) (drop (j * h .count) cs) _ _ (own .0) in
-      let shown = slot-shows h t (entriesOf (h .count) j rel) (length (drop (j * h .count) cs)) (did .0) in
-      let kept = next-legal h t (entriesOf (h .count) j rel) (legal-is h (shown .in-order .sheet-legal)) (legal-state-is h t (shown .in-order .most-rows) (shown .in-order .state-legal)) (shown .releases) in
-      ap (legalState h) (sym (did .1)) ∙ legal-state-says h (nextState h t (entriesOf (h .count) j rel)) (shown .in-order .most-rows) kept
+      sym (ap (course h rel first) (sym far) ∙ stays h rel first (suc j) (slots - suc j) a b (ap (λ (c : Course). c .outcome) here) ∙ here)
 
 -- the last slot is done
 pub ends : (h : Sheet) (rel : List ℕ) (first : Course) (j slots : ℕ) (t : State) (cs : List ℕ) → j ≤ slots → slots ≤ j

@@ -17,7 +17,7 @@ use Rattle.machine.specs.declared.state.RowState.{RowState}
 use Rattle.machine.specs.declared.state.State.{State}
 use Rattle.machine.specs.States.{recordAt}
 use Rattle.machine.specs.Slot.{worked, runs}
-use Rattle.machine.specs.Answers.{given, slot, marginOf, margin}
+use Rattle.machine.specs.Answers.{given, slot, marginOf}
 use Rattle.machine.proofs.Jobs.{JobSlot, job-slot, job-finished, job-missed, job-left, job-older}
 use Rattle.machine.proofs.Ranges.{negative-late, zero-just}
 use Rattle.machine.proofs.Records.{worked-least, worked-one, worked-none}

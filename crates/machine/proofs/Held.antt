@@ -6,6 +6,7 @@ use mathlib.Core.Bool.{Bool, true, false}
 use mathlib.Core.List.{List}
 use mathlib.Core.Logic.{⊎-elim}
 use lib.ListN.{length, List·getD-eq-default}
+use lib.Seq.{ext-getD}
 use lib.Dec.{eqb}
 use native.Mathlib.Omega.{arith}
 use native.Mathlib.Nat.{mod-lt, div-add-mod'}
@@ -13,8 +14,10 @@ use borrow.Author.Tests.{lt-ltb, le-ltb, eq-eqb, ne-eqb, eqb-true}
 use mir.Syntax.{w64}
 use mir.Val.{Fits}
 use Rattle.basis.specs.Limits.{mostRows}
-use Rattle.basis.specs.Words.{pick, allOf}
+use Rattle.basis.specs.Words.{allOf}
+use Rattle.basis.specs.Upto.{upto}
 use Rattle.basis.proofs.Words.{lt-or-le, all-one-more, all-at, all-true, all-fails, both-left, both-right, both-true, true-not-false}
+use Rattle.basis.proofs.Upto.{upto-below, upto-past, length-upto}
 use Rattle.sheet.specs.Legal.{rowAt, legal}
 use Rattle.sheet.specs.declared.row.Row.{Row}
 use Rattle.sheet.specs.declared.row.Sheet.{Sheet}
@@ -23,10 +26,10 @@ use Rattle.sheet.specs.Lists.{numberAt}
 use Rattle.sheet.proofs.Ranges.{not-so}
 use Rattle.machine.specs.declared.state.RowState.{RowState}
 use Rattle.machine.specs.declared.state.State.{State}
-use Rattle.machine.specs.States.{recordAt, isZero, legalRecord, legalState}
-use Rattle.machine.specs.Lists.{recordWide, recordIn, stateLong, zeroAt, zeroFrom, spareIsZero, stateIn}
-use Rattle.machine.proofs.Legals.{LegalState, legal-record-is, legal-record-says, legal-state-is, legal-state-says}
-use Rattle.machine.proofs.Stored.{record-in-state, record-of-none}
+use Rattle.machine.specs.States.{noRecord, stateOf, recordAt, isZero, legalRecord, legalState}
+use Rattle.machine.specs.Lists.{recordWide, recordIn, stateLong, zeroAt, zeroFrom, spareIsZero, stateIn, putTo, putState}
+use Rattle.machine.proofs.Legals.{legal-record-is, legal-record-says, legal-state-is, legal-state-says}
+use Rattle.machine.proofs.Stored.{record-in-state, record-of-none, length-put-to, put-past, put-agree, put-own, state-rows-long, state-put}
 
 -- `is_zero_from`
 pub zero-none : (from : ℕ) (l : List ℕ) → true ≡ allOf from (zeroAt from l)
@@ -112,25 +115,25 @@ module _ (h : Sheet) (l : List ℕ) (fine : legal h ≡ true) where
     kept-record k b = sym (record-in-state l k kept-spare (omega (arith, few)))
 
     -- past the records of the sheet's rows there are zeros
-    pair-zero : (i : ℕ) → isZero (recordIn l (i / 2)) ≡ true → numberAt l i ≡ 0
+    pair-zero : (i : ℕ) → isZero (recordIn l (i / recordWide)) ≡ true → numberAt l i ≡ 0
     unfolding isZero recordIn
     pair-zero i e =
-        ⊎-elim (λ a. ap (λ (j : ℕ). numberAt l j) (first a) ∙ eqb-true _ 0 (both-left (eqb (numberAt l (i / 2 * 2)) 0) _ e))
-        (λ a. ap (λ (j : ℕ). numberAt l j) (second a) ∙ eqb-true _ 0 (both-right (eqb (numberAt l (i / 2 * 2)) 0) _ e))
-        (lt-or-le (i % 2) 1)
+        ⊎-elim (λ a. ap (λ (j : ℕ). numberAt l j) (first a) ∙ eqb-true _ 0 (both-left (eqb (numberAt l (i / recordWide * recordWide)) 0) _ e))
+        (λ a. ap (λ (j : ℕ). numberAt l j) (second a) ∙ eqb-true _ 0 (both-right (eqb (numberAt l (i / recordWide * recordWide)) 0) _ e))
+        (lt-or-le (i % recordWide) 1)
       where
-        first : i % 2 < 1 → i ≡ i / 2 * 2
-        first a = omega (arith, div-add-mod' i 2)
+        first : i % recordWide < 1 → i ≡ i / recordWide * recordWide
+        first a = omega (arith, div-add-mod' i recordWide)
 
-        second : 1 ≤ i % 2 → i ≡ i / 2 * 2 + 1
-        second a = omega (arith, div-add-mod' i 2, mod-lt i {m = 2} (omega arith))
+        second : 1 ≤ i % recordWide → i ≡ i / recordWide * recordWide + 1
+        second a = omega (arith, div-add-mod' i recordWide, mod-lt i {m = recordWide} (omega arith))
 
-    past-is-zero : (i : ℕ) → i < length l → stateLong (h .count) ≤ i → numberAt l i ≡ 0
+    pub past-is-zero : (i : ℕ) → i < length l → stateLong (h .count) ≤ i → numberAt l i ≡ 0
     unfolding zeroFrom zeroAt
     past-is-zero i b m = ⊎-elim
-        (λ a. let there : i / 2 < mostRows = omega (arith, div-add-mod' i 2) in
-        pair-zero i (ap isZero (sym (record-in-state l (i / 2) kept-spare there))
-        ∙ legal-state-is h (stateIn l) few kept .past (i / 2) (omega (arith, div-add-mod' i 2, mod-lt i {m = 2} (omega arith))) there))
+        (λ a. let there : i / recordWide < mostRows = omega (arith, div-add-mod' i recordWide) in
+        pair-zero i (ap isZero (sym (record-in-state l (i / recordWide) kept-spare there))
+        ∙ legal-state-is h (stateIn l) few kept .past (i / recordWide) (omega (arith, div-add-mod' i recordWide, mod-lt i {m = recordWide} (omega arith))) there))
         (λ a. eqb-true (numberAt l i) 0 (rw (le-ltb i (stateLong mostRows) a) at (all-at (length l) (zeroAt (stateLong mostRows) l) kept-spare i b)))
         (lt-or-le i (stateLong mostRows))
 
@@ -139,6 +142,55 @@ module _ (h : Sheet) (l : List ℕ) (fine : legal h ≡ true) where
     kept-zeros =
         all-true (length l) (zeroAt (stateLong (h .count)) l)
         (λ i b. ⊎-elim (λ a. rw (lt-ltb i (stateLong (h .count)) a)) (λ a. rw (le-ltb i (stateLong (h .count)) a, eq-eqb (numberAt l i) 0 (past-is-zero i b a))) (lt-or-le i (stateLong (h .count))))
+
+-- A state's list with a number other than zero past the records of the sheet's rows is refused.
+pub numbers-past-records-are-refused : (h : Sheet) (l : List ℕ) → legal h ≡ true → (i : ℕ) → stateLong (h .count) ≤ i → (numberAt l i ≡ 0 → ⊥) → legalState h (stateIn l) ≡ false
+numbers-past-records-are-refused h l fine i b d =
+    not-so (legalState h (stateIn l))
+    (λ kept. ⊎-elim (λ a. d (past-is-zero h l fine kept i a b)) (λ a. d (List·getD-eq-default l 0 {n = i} a)) (lt-or-le i (length l)))
+
+-- A list that holds a legal state is any other such list, as long, with that state put into it.
+pub list-of-kept : (h : Sheet) (l l₀ : List ℕ) → legal h ≡ true → legalState h (stateIn l) ≡ true → legalState h (stateIn l₀) ≡ true → length l ≡ length l₀ → putState (h .count) (stateIn l) l₀ ≡ l
+unfolding putState
+list-of-kept h l l₀ fine kept kept₀ long =
+    put-agree (h .count) (recordAt (stateIn l)) (recordIn l) l₀ (λ k b. sym (kept-record h l fine kept k b))
+    ∙ ext-getD 0 (putTo (h .count) (recordIn l) l₀) l (length-put-to (recordIn l) l₀ (h .count) ∙ sym long)
+    (λ i b. ⊎-elim (λ a. put-own l l₀ (h .count) i a (kept-long h l₀ fine kept₀ (h .count) refl))
+    (λ a. put-past (recordIn l) l₀ (h .count) i a
+    ∙ past-is-zero h l₀ fine kept₀ i (omega (arith, length-put-to (recordIn l) l₀ (h .count))) a
+    ∙ sym (past-is-zero h l fine kept i (omega (arith, length-put-to (recordIn l) l₀ (h .count), long)) a))
+    (lt-or-le i (stateLong (h .count))))
+
+-- a record that is all zero, as a value
+zero-record : (s : RowState) → isZero s ≡ true → s ≡ noRecord
+unfolding isZero
+zero-record s e =
+    let a : s .remaining ≡ 0 = eqb-true _ 0 (both-left (eqb (s .remaining) 0) _ e) in
+    let b : s .since ≡ 0 = eqb-true _ 0 (both-right (eqb (s .remaining) 0) _ e) in
+    λ i. record { remaining = a i; since = b i }
+
+-- A legal state that is put into a list that holds a legal state is the state that the list hands over.
+pub state-comes-back : (h : Sheet) (l : List ℕ) (t : State) → legal h ≡ true → legalState h (stateIn l) ≡ true → legalState h t ≡ true → length (t .rows) ≡ mostRows
+    → stateIn (putState (h .count) t l) ≡ t
+unfolding putState
+state-comes-back h l t fine kept also long =
+    state-put (h .count) (recordAt t) l spare most (kept-long h l fine kept (h .count) refl)
+    ∙ ap stateOf
+    (ext-getD noRecord (upto (h .count) (recordAt t) (stateIn l .rows)) (t .rows) (whole ∙ sym long)
+    (λ k b. let there : k < mostRows = omega (arith, whole) in
+    ⊎-elim (λ a. upto-below (h .count) (recordAt t) (stateIn l .rows) noRecord k a (omega (arith, state-rows-long l spare, most)))
+    (λ a. upto-past (h .count) (recordAt t) (stateIn l .rows) noRecord k a
+    ∙ zero-record (recordAt (stateIn l) k) (legal-state-is h (stateIn l) most kept .past k a there)
+    ∙ sym (zero-record (recordAt t k) (legal-state-is h t most also .past k a there)))
+    (lt-or-le k (h .count)))) where
+      most : h .count ≤ mostRows
+      most = legal-is h fine .most-rows
+
+      spare : spareIsZero l ≡ true
+      spare = kept-spare h l fine kept
+
+      whole : length (upto (h .count) (recordAt t) (stateIn l .rows)) ≡ mostRows
+      whole = length-upto (h .count) (recordAt t) (stateIn l .rows) ∙ state-rows-long l spare
 
 -- the records of a list's rows so far are legal
 unfoldable pub legalIn : Sheet → List ℕ → ℕ → Bool

@@ -69,7 +69,7 @@ row-legal m row s ran w b =
 
 -- from a legal state an accepted slot gives a legal state
 module _ (h : Sheet) (t : State) (rel : List ℕ) (w : Legal h) (l : LegalState h t) where
-  next-at : (k : ℕ) → k < h .count → recordAt (nextState h t rel) k ≡ next (given h t rel) k
+  pub next-at : (k : ℕ) → k < h .count → recordAt (nextState h t rel) k ≡ next (given h t rel) k
   unfolding nextState
   next-at k b = upto-below (h .count) (next (given h t rel)) (t .rows) noRecord k b (legal-state-long h t l)
 

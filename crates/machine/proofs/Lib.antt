@@ -2,6 +2,7 @@ pub mod Agree
 pub mod Alike
 pub mod Answered
 pub mod Cases
+pub mod Begins
 pub mod Boxed
 pub mod Checked
 pub mod Codes
@@ -9,6 +10,7 @@ pub mod Courses
 pub mod Deadlines
 pub mod Differences
 pub mod Done
+pub mod Handed
 pub mod Held
 pub mod Jobs
 pub mod Kept

@@ -9,6 +9,7 @@ use native.Mathlib.Omega.{arith}
 use native.Mathlib.Nat.{le-refl}
 use Rattle.basis.specs.Limits.{mostRows}
 use Rattle.basis.specs.Refusals.{Outcome, outcome}
+use Rattle.basis.specs.declared.refusal.Refusal.{Refusal}
 use Rattle.basis.specs.Upto.{upto}
 use Rattle.basis.proofs.Upto.{upto-set, upto-below, length-upto}
 use Rattle.sheet.specs.declared.row.Sheet.{Sheet}
@@ -18,29 +19,40 @@ use Rattle.machine.specs.declared.state.RowState.{RowState}
 use Rattle.machine.specs.declared.state.State.{State}
 use Rattle.machine.specs.declared.places.Done.{Done}
 use Rattle.machine.specs.States.{noRecord, noState, stateOf, recordAt}
-use Rattle.machine.specs.Lists.{recordIn, stateLong, stateIn, putRecord, putTo, courseIn}
+use Rattle.machine.specs.Lists.{recordIn, stateLong, stateIn, putRecord, putTo, freshOn, runIn, ranIn, courseIn}
 use Rattle.machine.proofs.Stored.{put-more, state-put, spare-of-full, state-rows-long}
-use Rattle.machine.specs.Checks.{checkRun}
-use Rattle.machine.specs.Answers.{slot, Course, run, Told, margin}
+use Rattle.machine.specs.Checks.{checkSlot, checkRun}
+use Rattle.machine.specs.Answers.{fresh, Course, run, Told, margin}
+use Rattle.machine.proofs.Handed.{fresh-of-zeros, run-listed-back}
 
 -- `listed`
 pub sheet-in-list : (h : Sheet) (l l₀ : List ℕ) → l ≡ filled (sheetCell h) l₀ → length (h .rows) ≡ mostRows → sheetLong mostRows ≤ length l₀ → sheetIn l ≡ h
 sheet-in-list h l l₀ e long room = ap sheetIn e ∙ whole-sheet-comes-back h l₀ long room
 
--- each call by value, by its call on lists
-module _ (h : Sheet) (s l : List ℕ) (eh : sheetIn s ≡ h) (t : State) (et : stateIn l ≡ t) where
-  pub slot-by-list : (rel cs : List ℕ) (o : Outcome) (l′ ds : List ℕ) → (o, (stateIn l′, ds)) ≡ slot (sheetIn s) (stateIn l) rel cs → (u : State) → u ≡ stateIn l′ → (o, (u, ds)) ≡ slot h t rel cs
-  slot-by-list rel cs o l′ ds f u eu = ap (λ (x : State). (o, (x, ds))) eu ∙ f ∙ ap₂ (λ (g : Sheet) (x : State). slot g x rel cs) eh et
+-- each call by value, by its call on lists: `fresh`
+module _ (h : Sheet) (s : List ℕ) (eh : sheetIn s ≡ h) where
+  pub fresh-by-list : (r : Refusal) (l′ : List ℕ) → (outcome r, l′) ≡ freshOn (sheetIn s) (replicate (stateLong mostRows) 0) → (u : State) → u ≡ stateIn l′ → (outcome r, u) ≡ fresh h
+  fresh-by-list r l′ f u eu =
+      ap (λ (x : State). (outcome r, x)) eu
+      ∙ ap (λ (x : Outcome × List ℕ). (x .0, stateIn (x .1))) f
+      ∙ fresh-of-zeros (sheetIn s)
+      ∙ ap fresh eh
 
-  pub run-by-list : (rel cs : List ℕ) (r : Done) (l′ ds : List ℕ) → courseIn r (stateIn l′) ds ≡ run (sheetIn s) (stateIn l) rel cs → (u : State) → u ≡ stateIn l′
-      → _≡_ {A = Course} (record { done = r .done; outcome = outcome (r .refusal); state = u; codes = ds }) (run h t rel cs)
-  run-by-list rel cs r l′ ds f u eu = ap (λ (x : State). courseIn r x ds) eu ∙ f ∙ ap₂ (λ (g : Sheet) (x : State). run g x rel cs) eh et
+  -- a run, a margin, and the checks of a slot and of a run
+  module _ (l : List ℕ) (t : State) (et : stateIn l ≡ t) where
+    pub run-by-list : (rel cs : List ℕ) (r : Done) (l′ ds : List ℕ) → (ranIn r, (l′, ds)) ≡ runIn (sheetIn s) l rel cs → (u : State) → u ≡ stateIn l′
+        → _≡_ {A = Course} (record { done = r .done; outcome = outcome (r .refusal); state = u; codes = ds }) (run h t rel cs)
+    run-by-list rel cs r l′ ds f u eu =
+        ap (λ (x : State). courseIn r x ds) eu ∙ run-listed-back (sheetIn s) l rel cs r l′ ds f ∙ ap₂ (λ (g : Sheet) (x : State). run g x rel cs) eh et
 
-  pub margin-by-list : (k : ℕ) (x : Told) → x ≡ margin (sheetIn s) (stateIn l) k → x ≡ margin h t k
-  margin-by-list k x f = f ∙ ap₂ (λ (g : Sheet) (y : State). margin g y k) eh et
+    pub margin-by-list : (k : ℕ) (x : Told) → x ≡ margin (sheetIn s) (stateIn l) k → x ≡ margin h t k
+    margin-by-list k x f = f ∙ ap₂ (λ (g : Sheet) (y : State). margin g y k) eh et
 
-  pub check-by-list : (rel : List ℕ) (room : ℕ) (x : Outcome) → x ≡ checkRun (sheetIn s) (stateIn l) rel room → x ≡ checkRun h t rel room
-  check-by-list rel room x f = f ∙ ap₂ (λ (g : Sheet) (y : State). checkRun g y rel room) eh et
+    pub slot-check-by-list : (rel : List ℕ) (room : ℕ) (x : Outcome) → x ≡ checkSlot (sheetIn s) (stateIn l) rel room → x ≡ checkSlot h t rel room
+    slot-check-by-list rel room x f = f ∙ ap₂ (λ (g : Sheet) (y : State). checkSlot g y rel room) eh et
+
+    pub run-check-by-list : (rel : List ℕ) (room : ℕ) (x : Outcome) → x ≡ checkRun (sheetIn s) (stateIn l) rel room → x ≡ checkRun h t rel room
+    run-check-by-list rel room x f = f ∙ ap₂ (λ (g : Sheet) (y : State). checkRun g y rel room) eh et
 
 -- `state_list`
 pub state-in-list : (t : State) (l l₀ : List ℕ) (i : ℕ) → i ≤ mostRows → mostRows ≤ i → l ≡ putTo i (recordAt t) l₀ → l₀ ≡ replicate (stateLong mostRows) 0 → length (t .rows) ≡ mostRows → stateIn l ≡ t

@@ -11,7 +11,6 @@ use native.Mathlib.Nat.{le-refl}
 use native.Mathlib.Numerals.{add-one}
 use borrow.Author.Tests.{eqb-true}
 use borrow.Rule.Slice.PartMut.{putMid}
-use Rattle.basis.specs.Limits.{mostRows}
 use Rattle.basis.specs.Words.{pick}
 use Rattle.basis.specs.Refusals.{Outcome, accepted, refused, outcome, isAccepted, firstOf}
 use Rattle.basis.specs.declared.refusal.Refusal.{Refusal}
@@ -22,7 +21,6 @@ use Rattle.sheet.specs.Legal.{rowAt, legal}
 use Rattle.sheet.specs.declared.row.Row.{Row}
 use Rattle.sheet.specs.declared.row.Sheet.{Sheet}
 use Rattle.sheet.proofs.Legality.{legal-is}
-use Rattle.sheet.specs.Lists.{filled}
 use Rattle.machine.specs.declared.state.RowState.{RowState}
 use Rattle.machine.specs.declared.state.State.{State}
 use Rattle.machine.specs.declared.steps.Placed.{Placed}
@@ -30,17 +28,17 @@ use Rattle.machine.specs.declared.places.Done.{Done}
 use Rattle.machine.specs.States.{stateOf, recordAt, legalState}
 use Rattle.machine.specs.Slot.{freeAt, free, next, code}
 use Rattle.machine.specs.Checks.{checkRow, checkAt, checkReleases, checkState, checkSlot, checkRun}
-use Rattle.machine.specs.Answers.{given, nextState, nextCodes, handed, slot, entriesOf, behind, slotAt, Course, followed, onward, course, notBegun, run}
+use Rattle.machine.specs.Answers.{given, nextState, nextCodes, slot, entriesOf, slotAt, Course, followed, onward, course, notBegun}
 use Rattle.machine.specs.Methods.{begunRow, steppedRow}
-use Rattle.machine.specs.Lists.{recordIn, stateLong, spareIsZero, stateIn, stateCell, putRecord, putTo, slotListed, slotIn, runListed, runIn, ranIn, courseIn}
+use Rattle.machine.specs.Lists.{recordIn, stateIn, putRecord, putTo, putState, slotListed, slotIn, runListed, runIn, ranIn, courseIn}
 use Rattle.machine.proofs.Turns.{check-more, check-found}
-use Rattle.machine.proofs.Checked.{Ready, ready}
+use Rattle.machine.proofs.Checked.{ready}
 use Rattle.machine.proofs.Answered.{Accepted-slot, slot-shows, slot-is-refused, slot-is-accepted, refused-leaves-all-as-found, run-sheet, run-state, run-is-refused, run-is-done}
-use Rattle.machine.proofs.Courses.{part-holds, rest-holds, slot-at-accepted, goes-on, stops}
-use Rattle.machine.proofs.Kept.{next-legal}
+use Rattle.machine.proofs.Courses.{part-holds, rest-holds, slot-at-accepted}
+use Rattle.machine.proofs.Kept.{next-at, next-legal}
 use Rattle.machine.proofs.Legals.{legal-state-is, legal-state-says}
-use Rattle.machine.proofs.Held.{kept-spare, kept-long, kept-record}
-use Rattle.machine.proofs.Stored.{length-put-to, put-record-past, put-more, state-put, list-of-state}
+use Rattle.machine.proofs.Held.{kept-spare, kept-long, kept-record, list-of-kept}
+use Rattle.machine.proofs.Stored.{put-record-past, put-more, put-agree, state-put}
 
 -- `check_in`
 pub check-in-there : (h : Sheet) (l : List ℕ) (release k : ℕ) (row : Row) (s : RowState) → row ≡ rowAt h k → s ≡ recordIn l k → (o : Outcome) → o ≡ checkRow row s release k
@@ -64,7 +62,12 @@ pub row-stepped : (h : Sheet) (l : List ℕ) (k release f : ℕ) (row : Row) (s 
     → r ≡ steppedRow (rowAt h k) (recordIn l k) release f
 row-stepped h l k release f row s r er es e = e ∙ ap₂ (λ (x : Row) (y : RowState). steppedRow x y release f) er es
 
--- `step_rows`: a turn
+-- `step_rows`: every processor is free at the top
+pub all-free : (h : Sheet) (t : State) (rel : List ℕ) (f : ℕ) → f ≡ h .processors → f ≡ free (given h t rel) 0
+unfolding freeAt given
+all-free h t rel f e = e
+
+-- a turn
 module _ (h : Sheet) (l₀ l rel : List ℕ) (fine : legal h ≡ true) (kept : legalState h (stateIn l₀) ≡ true) (f i n : ℕ) (en : n ≡ h .count) (below : i < n)
     (ef : f ≡ free (given h (stateIn l₀) rel) i) (so-far : l ≡ putTo i (next (given h (stateIn l₀) rel)) l₀)
     (r : Placed) (er : r ≡ steppedRow (rowAt h i) (recordIn l i) (getD rel i 0) f) where
@@ -90,12 +93,13 @@ module _ (h : Sheet) (l₀ l rel : List ℕ) (fine : legal h ≡ true) (kept : l
 pub moves-done : (f : ℕ → RowState) (l l₀ : List ℕ) (i n : ℕ) → i ≤ n → n ≤ i → l ≡ putTo i f l₀ → l ≡ putTo n f l₀
 moves-done f l l₀ i n a b e = let s : i ≡ n = omega arith in rw s at e
 
+pub codes-done : (h : Sheet) (t : State) (rel : List ℕ) (i n : ℕ) → n ≡ h .count → i ≤ n → n ≤ i → (cs cs₀ : List ℕ) → cs ≡ upto i (code (given h t rel)) cs₀ → cs ≡ nextCodes h t rel cs₀
+unfolding nextCodes
+codes-done h t rel i n en a b cs cs₀ so-far = let e : i ≡ h .count = omega arith in rw e at so-far
+
 -- the list after a slot whose checks have passed
 module _ (h : Sheet) (l rel : List ℕ) (fine : legal h ≡ true) (kept : legalState h (stateIn l) ≡ true) (n : ℕ) (en : n ≡ h .count)
     (l′ : List ℕ) (moved : l′ ≡ putTo n (next (given h (stateIn l) rel)) l) where
-  moved-long : length l′ ≡ length l
-  moved-long = ap length moved ∙ length-put-to (next (given h (stateIn l) rel)) l n
-
   pub moved-state : stateIn l′ ≡ nextState h (stateIn l) rel
   unfolding nextState
   moved-state =
@@ -109,8 +113,19 @@ module _ (h : Sheet) (l rel : List ℕ) (fine : legal h ≡ true) (kept : legalS
       ap (legalState h) moved-state
       ∙ legal-state-says h (nextState h (stateIn l) rel) (w .most-rows) (next-legal h (stateIn l) rel w (legal-state-is h (stateIn l) (w .most-rows) kept) e)
 
-  pub moved-list : checkReleases h (stateIn l) rel ≡ accepted → filled (stateCell (nextState h (stateIn l) rel)) l ≡ l′
-  moved-list e = ap (λ (t : State). filled (stateCell t) l) (sym moved-state) ∙ list-of-state l′ (kept-spare h l′ fine (moved-legal e)) l moved-long
+  pub moved-list : l′ ≡ putState (h .count) (nextState h (stateIn l) rel) l
+  unfolding putState
+  moved-list =
+      let w = legal-is h fine in
+      moved ∙ ap (λ (m : ℕ). putTo m (next (given h (stateIn l) rel)) l) en
+      ∙ put-agree (h .count) (next (given h (stateIn l) rel)) (recordAt (nextState h (stateIn l) rel)) l
+      (λ k b. sym (next-at h (stateIn l) rel w (legal-state-is h (stateIn l) (w .most-rows) kept) k b))
+
+-- the state that a list hands over which the next state is put into
+pub moved-back : (h : Sheet) (l rel : List ℕ) → legal h ≡ true → legalState h (stateIn l) ≡ true → stateIn (putState (h .count) (nextState h (stateIn l) rel) l) ≡ nextState h (stateIn l) rel
+moved-back h l rel fine kept =
+    ap stateIn (sym (moved-list h l rel fine kept (h .count) refl (putTo (h .count) (next (given h (stateIn l) rel)) l) refl))
+    ∙ moved-state h l rel fine kept (h .count) refl (putTo (h .count) (next (given h (stateIn l) rel)) l) refl
 
 -- `slot_part`
 module _ (h : Sheet) (l rel cs : List ℕ) (j n : ℕ) (en : n ≡ h .count) (fine : legal h ≡ true) (kept : legalState h (stateIn l) ≡ true)
@@ -130,15 +145,6 @@ module _ (h : Sheet) (l rel cs : List ℕ) (j n : ℕ) (en : n ≡ h .count) (fi
 
     pub part-legal : legalState h (stateIn l′) ≡ true
     part-legal = moved-legal h l _ fine kept n en l′ moved (sym e ∙ ap outcome f)
-
--- `run_part`
-module _ (h : Sheet) (rel : List ℕ) (first : Course) (j : ℕ) (t : State) (cs : List ℕ)
-    (so-far : course h rel first j ≡ record { done = j; outcome = accepted; state = t; codes = cs }) (x : Refusal) (u : State) (ds : List ℕ) (e : (outcome x, (u, ds)) ≡ slotAt h t rel cs j) where
-  pub part-goes-on : x ≡ Accepted → course h rel first (j + 1) ≡ record { done = j + 1; outcome = accepted; state = u; codes = ds }
-  part-goes-on f = goes-on h rel first j t cs so-far (record { refusal = x; state = u }) ds e f
-
-  pub part-stops : (slots a b : ℕ) → j < slots → x ≡ Refused a b → _≡_ {A = Course} (record { done = j; outcome = refused a b; state = u; codes = ds }) (course h rel first slots)
-  part-stops slots a b l f = stops h rel first j t cs so-far (record { refusal = x; state = u }) ds e slots a b l f
 
 -- `check_state_in`
 module _ (h : Sheet) (t : State) (fine : Bool) (e : fine ≡ legal h) where
@@ -170,7 +176,7 @@ module _ (h : Sheet) (t : State) (c : Refusal) (e : outcome c ≡ checkState h t
 module _ (h : Sheet) (l rel cs : List ℕ) (c : Refusal) (e : outcome c ≡ checkSlot h (stateIn l) rel (length cs)) where
   pub slot-in-refused : (a b : ℕ) → c ≡ Refused a b → (refused a b, (l, cs)) ≡ slotIn h l rel cs
   unfolding slotIn
-  slot-in-refused a b f = ap (λ (x : Outcome × (State × List ℕ)). slotListed x l) (slot-is-refused h (stateIn l) rel cs c e a b f)
+  slot-in-refused a b f = ap (λ (x : Outcome × (State × List ℕ)). slotListed (h .count) x l) (slot-is-refused h (stateIn l) rel cs c e a b f)
 
   module _ (f : c ≡ Accepted) where
     did : Accepted-slot h (stateIn l) rel (length cs)
@@ -192,12 +198,8 @@ module _ (h : Sheet) (l rel cs : List ℕ) (c : Refusal) (e : outcome c ≡ chec
       pub slot-in-accepted : (l′ ds : List ℕ) → l′ ≡ putTo n (next (given h (stateIn l) rel)) l → ds ≡ nextCodes h (stateIn l) rel cs → (accepted, (l′, ds)) ≡ slotIn h l rel cs
       unfolding slotIn
       slot-in-accepted l′ ds moved ed =
-          ap (λ (x : List ℕ). (accepted, (x, ds))) (sym (moved-list h l rel slot-sheet slot-state n en l′ moved (did .releases)))
-          ∙ ap (λ (x : Outcome × (State × List ℕ)). slotListed x l) (slot-is-accepted h (stateIn l) rel cs c e f (nextState h (stateIn l) rel) ds refl ed)
-
-      pub slot-in-state : (l′ ds : List ℕ) → l′ ≡ putTo n (next (given h (stateIn l) rel)) l → ds ≡ nextCodes h (stateIn l) rel cs → (accepted, (stateIn l′, ds)) ≡ slot h (stateIn l) rel cs
-      slot-in-state l′ ds moved ed =
-          slot-is-accepted h (stateIn l) rel cs c e f (stateIn l′) ds (moved-state h l rel slot-sheet slot-state n en l′ moved) ed
+          ap (λ (x : List ℕ). (accepted, (x, ds))) (moved-list h l rel slot-sheet slot-state n en l′ moved)
+          ∙ ap (λ (x : Outcome × (State × List ℕ)). slotListed (h .count) x l) (slot-is-accepted h (stateIn l) rel cs c e f (nextState h (stateIn l) rel) ds refl ed)
 
 -- a run that has done no slot has changed nothing
 slot-kept : (h : Sheet) (t : State) (rel cs : List ℕ) (j a b : ℕ) (u : State) (ds : List ℕ) → slotAt h t rel cs j ≡ (refused a b, (u, ds)) → u ≡ t
@@ -206,7 +208,7 @@ slot-kept h t rel cs j a b u ds e =
     refused-leaves-all-as-found h t (entriesOf (h .count) j rel) (drop (j * h .count) cs) a b u (slot h t (entriesOf (h .count) j rel) (drop (j * h .count) cs) .1 .1)
     (λ i. (sym e i .0, (sym e i .1 .0, slot h t (entriesOf (h .count) j rel) (drop (j * h .count) cs) .1 .1))) .0
 
-course-none : (h : Sheet) (rel : List ℕ) (t : State) (cs : List ℕ) (j : ℕ) → course h rel (notBegun accepted t cs) j .done ≡ 0 → course h rel (notBegun accepted t cs) j .state ≡ t
+pub course-none : (h : Sheet) (rel : List ℕ) (t : State) (cs : List ℕ) (j : ℕ) → course h rel (notBegun accepted t cs) j .done ≡ 0 → course h rel (notBegun accepted t cs) j .state ≡ t
 unfolding course onward
 course-none h rel t cs zero e = refl
 course-none h rel t cs (suc j) e = go (course h rel (notBegun accepted t cs) j) (course-none h rel t cs j) e
@@ -226,7 +228,7 @@ course-none h rel t cs (suc j) e = go (course h rel (notBegun accepted t cs) j) 
 module _ (h : Sheet) (l rel cs : List ℕ) (c : Refusal) (e : outcome c ≡ checkRun h (stateIn l) rel (length cs)) where
   pub run-in-refused : (a b : ℕ) → c ≡ Refused a b → _≡_ {A = (ℕ × Outcome) × (List ℕ × List ℕ)} ((0, refused a b), (l, cs)) (runIn h l rel cs)
   unfolding runIn
-  run-in-refused a b f = ap (λ (x : Course). runListed x l) (run-is-refused h (stateIn l) rel cs c e a b f)
+  run-in-refused a b f = ap (λ (x : Course). runListed (h .count) x l) (run-is-refused h (stateIn l) rel cs c e a b f)
 
   module _ (f : c ≡ Accepted) (n : ℕ) (en : n ≡ h .count) (r : Done) (l′ ds : List ℕ)
       (er : courseIn r (stateIn l′) ds ≡ course h rel (notBegun accepted (stateIn l) cs) (length rel / n)) (kept′ : legalState h (stateIn l′) ≡ true) (long : length l′ ≡ length l) where
@@ -236,16 +238,16 @@ module _ (h : Sheet) (l rel cs : List ℕ) (c : Refusal) (e : outcome c ≡ chec
     kept : legalState h (stateIn l) ≡ true
     kept = run-state h (stateIn l) rel (length cs) c e f
 
-    same-list : filled (stateCell (stateIn l′)) l ≡ l′
-    same-list = list-of-state l′ (kept-spare h l′ fine kept′) l long
+    same-list : putState (h .count) (stateIn l′) l ≡ l′
+    same-list = list-of-kept h l′ l fine kept′ kept long
 
     none-done : r .done ≡ 0 → l′ ≡ l
     none-done z =
         let u : stateIn l′ ≡ stateIn l =
         ap (λ (x : Course). x .state) er ∙ course-none h rel (stateIn l) cs (length rel / n) (sym (ap (λ (x : Course). x .done) er) ∙ z) in
-        sym same-list ∙ ap (λ (t : State). filled (stateCell t) l) u ∙ list-of-state l (kept-spare h l fine kept) l refl
+        sym same-list ∙ ap (λ (t : State). putState (h .count) t l) u ∙ list-of-kept h l l fine kept kept refl
 
-    picked : (b : Bool) → eqb (r .done) 0 ≡ b → l′ ≡ pick b l (filled (stateCell (stateIn l′)) l)
+    picked : (b : Bool) → eqb (r .done) 0 ≡ b → l′ ≡ pick b l (putState (h .count) (stateIn l′) l)
     picked true g = none-done (eqb-true (r .done) 0 g)
     picked false g = sym same-list
 
@@ -253,4 +255,4 @@ module _ (h : Sheet) (l rel cs : List ℕ) (c : Refusal) (e : outcome c ≡ chec
     unfolding runIn
     run-in-done =
         ap (λ (x : List ℕ). (ranIn r, (x, ds))) (picked (eqb (r .done) 0) refl)
-        ∙ ap (λ (x : Course). runListed x l) (run-is-done h (stateIn l) rel cs c e f n en (courseIn r (stateIn l′) ds) er)
+        ∙ ap (λ (x : Course). runListed (h .count) x l) (run-is-done h (stateIn l) rel cs c e f n en (courseIn r (stateIn l′) ds) er)

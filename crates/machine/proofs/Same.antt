@@ -4,7 +4,7 @@ use Prim.Native.Nat.{ℕ}
 use mathlib.Core.Path.{_≡_, refl, sym, ap, ap₂, _∙_}
 use mathlib.Core.List.{List}
 use native.Mathlib.Omega.{arith}
-use Rattle.basis.specs.Refusals.{Outcome}
+use Rattle.basis.specs.Refusals.{Outcome, outcome}
 use Rattle.basis.specs.declared.refusal.Refusal.{Refusal}
 use Rattle.basis.proofs.Refusals.{outcome-one-to-one}
 use Rattle.sheet.specs.declared.row.Sheet.{Sheet}
@@ -13,9 +13,11 @@ use Rattle.machine.specs.declared.state.State.{State}
 use Rattle.machine.specs.declared.start.Started.{Started}
 use Rattle.machine.specs.declared.slots.Slotted.{Slotted}
 use Rattle.machine.specs.declared.runs.Ran.{Ran}
+use Rattle.machine.specs.declared.places.Done.{Done}
 use Rattle.machine.specs.declared.margins.Margin.{Margin}
 use Rattle.machine.specs.declared.margins.Margin.the-variants.{NoJob, Is, Refused}
 use Rattle.machine.specs.Lent.{slottedIn}
+use Rattle.machine.specs.Lists.{stateIn, freshOn, slotIn, runIn, ranIn}
 use Rattle.machine.specs.Answers.{started, fresh, slotted, slot, Course, ran, run, told, margin}
 
 -- `fresh`
@@ -27,6 +29,12 @@ started-one-to-one a b e =
 
 pub fresh-same : (h : Sheet) (a b : Started) → started a ≡ fresh h → started b ≡ fresh h → a ≡ b
 fresh-same h a b e f = started-one-to-one a b (e ∙ sym f)
+
+-- `fresh_on`: the refusal, and the list after it
+pub fresh-on-same : (sheet list : List ℕ) (a b : Refusal) (l m : List ℕ) → (outcome a, l) ≡ freshOn (sheetIn sheet) list → (outcome b, m) ≡ freshOn (sheetIn sheet) list → (a ≡ b) × (l ≡ m)
+fresh-on-same sheet list a b l m e f =
+    let same : _≡_ {A = Outcome × List ℕ} (outcome a, l) (outcome b, m) = e ∙ sym f in
+    (outcome-one-to-one a b (ap (λ (x : Outcome × List ℕ). x .0) same), ap (λ (x : Outcome × List ℕ). x .1) same)
 
 -- `slot`: the answer, and the code buffer after it
 pub slotted-one-to-one : (a b : Slotted) (cs ds : List ℕ) → slotted a cs ≡ slotted b ds → (a ≡ b) × (cs ≡ ds)
@@ -41,10 +49,17 @@ pub slot-same : (h : Sheet) (t : State) (rel before : List ℕ) (a b : Slotted) 
     → slotted a cs ≡ slot h t rel before → slotted b ds ≡ slot h t rel before → (a ≡ b) × (cs ≡ ds)
 slot-same h t rel before a b cs ds e f = slotted-one-to-one a b cs ds (e ∙ sym f)
 
--- `slot_on`: the same of the sheet in a list
-pub slot-on-same : (sheet : List ℕ) (t : State) (rel before : List ℕ) (a b : Slotted) (cs ds : List ℕ)
-    → slotted a cs ≡ slot (sheetIn sheet) t rel before → slotted b ds ≡ slot (sheetIn sheet) t rel before → (a ≡ b) × (cs ≡ ds)
-slot-on-same sheet t rel before a b cs ds e f = slot-same (sheetIn sheet) t rel before a b cs ds e f
+-- `slot_on`: the refusal, the list and the code buffer after it
+pub listed-one-to-one : (a b : Refusal) (l m cs ds : List ℕ) → _≡_ {A = Outcome × (List ℕ × List ℕ)} (outcome a, (l, cs)) (outcome b, (m, ds)) → (a ≡ b) × (l ≡ m) × (cs ≡ ds)
+listed-one-to-one a b l m cs ds e = (
+  outcome-one-to-one a b (ap (λ (x : Outcome × (List ℕ × List ℕ)). x .0) e),
+  ap (λ (x : Outcome × (List ℕ × List ℕ)). x .1 .0) e,
+  ap (λ (x : Outcome × (List ℕ × List ℕ)). x .1 .1) e,
+)
+
+pub slot-on-same : (sheet list rel before : List ℕ) (a b : Refusal) (l m cs ds : List ℕ)
+    → (outcome a, (l, cs)) ≡ slotIn (sheetIn sheet) list rel before → (outcome b, (m, ds)) ≡ slotIn (sheetIn sheet) list rel before → (a ≡ b) × (l ≡ m) × (cs ≡ ds)
+slot-on-same sheet list rel before a b l m cs ds e f = listed-one-to-one a b l m cs ds (e ∙ sym f)
 
 -- `slot_in`: the refusal, the lent state and the code buffer after it
 pub slotted-in-one-to-one : (a b : Refusal) (t u : State) (cs ds : List ℕ) → slottedIn a t cs ≡ slottedIn b u ds → (a ≡ b) × (t ≡ u) × (cs ≡ ds)
@@ -70,10 +85,21 @@ pub run-same : (h : Sheet) (t : State) (rel before : List ℕ) (a b : Ran) (cs d
     → ran a cs ≡ run h t rel before → ran b ds ≡ run h t rel before → (a ≡ b) × (cs ≡ ds)
 run-same h t rel before a b cs ds e f = ran-one-to-one a b cs ds (e ∙ sym f)
 
--- `run_on`: the same of the sheet in a list
-pub run-on-same : (sheet : List ℕ) (t : State) (rel before : List ℕ) (a b : Ran) (cs ds : List ℕ)
-    → ran a cs ≡ run (sheetIn sheet) t rel before → ran b ds ≡ run (sheetIn sheet) t rel before → (a ≡ b) × (cs ≡ ds)
-run-on-same sheet t rel before a b cs ds e f = run-same (sheetIn sheet) t rel before a b cs ds e f
+-- `run_on`: the answer, the list and the code buffer after it
+pub done-one-to-one : (a b : Done) → ranIn a ≡ ranIn b → a ≡ b
+done-one-to-one a b e =
+    let d : a .done ≡ b .done = ap (λ (x : ℕ × Outcome). x .0) e in
+    let r = outcome-one-to-one (a .refusal) (b .refusal) (ap (λ (x : ℕ × Outcome). x .1) e) in
+    λ i. record { done = d i; refusal = r i }
+
+pub run-on-same : (sheet list rel before : List ℕ) (a b : Done) (l m cs ds : List ℕ)
+    → (ranIn a, (l, cs)) ≡ runIn (sheetIn sheet) list rel before → (ranIn b, (m, ds)) ≡ runIn (sheetIn sheet) list rel before → (a ≡ b) × (l ≡ m) × (cs ≡ ds)
+run-on-same sheet list rel before a b l m cs ds e f =
+    let same : _≡_ {A = (ℕ × Outcome) × (List ℕ × List ℕ)} (ranIn a, (l, cs)) (ranIn b, (m, ds)) = e ∙ sym f in (
+      done-one-to-one a b (ap (λ (x : (ℕ × Outcome) × (List ℕ × List ℕ)). x .0) same),
+      ap (λ (x : (ℕ × Outcome) × (List ℕ × List ℕ)). x .1 .0) same,
+      ap (λ (x : (ℕ × Outcome) × (List ℕ × List ℕ)). x .1 .1) same,
+    )
 
 -- `box_run`: the answer, and the code buffer after it
 pub box-run-same : (h : Sheet) (rel before : List ℕ) (a b : Ran) (cs ds : List ℕ)
@@ -97,3 +123,7 @@ told-one-to-one (Refused k p) (Refused j q) e =
 
 pub margin-same : (h : Sheet) (t : State) (k : ℕ) (a b : Margin) → told a ≡ margin h t k → told b ≡ margin h t k → a ≡ b
 margin-same h t k a b e f = told-one-to-one a b (e ∙ sym f)
+
+-- `margin_on`
+pub margin-on-same : (sheet list : List ℕ) (k : ℕ) (a b : Margin) → told a ≡ margin (sheetIn sheet) (stateIn list) k → told b ≡ margin (sheetIn sheet) (stateIn list) k → a ≡ b
+margin-on-same sheet list k a b e f = margin-same (sheetIn sheet) (stateIn list) k a b e f

@@ -1,29 +1,26 @@
 -- Records of a state's list, as they are read and written in place.
 -- Assumes nothing.
-use Prim.Native.Nat.{ℕ, zero, suc, _+_, _*_, _/_, _%_, _≤_, _<_}
-use mathlib.Core.Path.{_≡_, refl, sym, ap, _∙_}
-use mathlib.Core.Bool.{Bool, true, false}
+use Prim.Native.Nat.{ℕ, zero, suc, _+_, _*_, _≤_, _<_}
+use mathlib.Core.Path.{_≡_, refl, sym, ap, ap₂, _∙_}
+use mathlib.Core.Bool.{true, false}
 use mathlib.Core.List.{List}
 use mathlib.Core.Logic.{⊎-elim}
-use lib.ListN.{length, set, length-set, List·getD-eq-default}
+use lib.ListN.{length, set, length-set}
 use lib.Seq.{getD-set-same, getD-set-other, ext-getD}
-use lib.Dec.{eqb}
 use native.Mathlib.Omega.{arith}
-use native.Mathlib.Nat.{le-refl, eq-or-lt-of-le, mod-lt, div-add-mod'}
+use native.Mathlib.Nat.{le-refl, eq-or-lt-of-le}
 use native.Mathlib.Numerals.{add-one}
-use borrow.Author.Tests.{lt-ltb, le-ltb, eq-eqb, ne-eqb, eqb-true}
+use borrow.Author.Tests.{lt-ltb, le-ltb, eq-eqb}
 use Rattle.basis.specs.Limits.{mostRows}
-use Rattle.basis.specs.Words.{pick, allOf}
 use Rattle.basis.specs.Upto.{upto}
-use Rattle.basis.proofs.Words.{lt-or-le, all-at, all-same, all-true}
+use Rattle.basis.proofs.Words.{lt-or-le, all-same, all-true}
 use Rattle.basis.proofs.Upto.{upto-below, upto-past, length-upto}
 use Rattle.basis.proofs.Lists.{getD-all}
-use Rattle.sheet.specs.Lists.{numberAt, filled}
-use Rattle.sheet.proofs.Filling.{length-filled}
+use Rattle.sheet.specs.Lists.{numberAt}
+use Rattle.sheet.proofs.Filling.{filled-read}
 use Rattle.machine.specs.declared.state.RowState.{RowState}
-use Rattle.machine.specs.declared.state.State.{State}
 use Rattle.machine.specs.States.{noRecord, noState, stateOf, recordAt}
-use Rattle.machine.specs.Lists.{recordWide, recordIn, stateLong, zeroAt, zeroFrom, spareIsZero, stateIn, stateCell, putRecord, putTo}
+use Rattle.machine.specs.Lists.{recordWide, recordIn, stateLong, zeroAt, zeroFrom, spareIsZero, stateIn, putRecord, putTo, cleared}
 
 -- `record_in`
 pub record-read : (l : List ℕ) (k : ℕ) → _≡_ {A = RowState} (record { remaining = numberAt l (k * recordWide); since = numberAt l (k * recordWide + 1) }) (recordIn l k)
@@ -145,32 +142,50 @@ module _ (n : ℕ) (f : ℕ → RowState) (l : List ℕ) (spare : spareIsZero l 
       (λ a. put-record-past f l n i a ∙ sym (upto-past n f (upto mostRows (recordIn l) (noState .rows)) noRecord i a ∙ upto-below mostRows (recordIn l) (noState .rows) noRecord i there (le-refl mostRows)))
       (lt-or-le i n))))
 
--- a list that hands its state over whole is the list of that state
-module _ (l : List ℕ) (spare : spareIsZero l ≡ true) where
-  near : (i : ℕ) → i / 2 < mostRows → stateCell (stateIn l) i ≡ numberAt l i
-  unfolding stateCell recordIn
-  near i m =
-      ⊎-elim
-      (λ a. rw (eq-eqb (i % 2) 0 (omega arith), record-in-state l (i / 2) spare m) (ap (λ (j : ℕ). numberAt l j) (omega (arith, div-add-mod' i 2))))
-      (λ a. rw (ne-eqb (i % 2) 0 (λ z. omega arith), record-in-state l (i / 2) spare m) (ap (λ (j : ℕ). numberAt l j) (omega (arith, div-add-mod' i 2, mod-lt i {m = 2} (omega arith)))))
-      (lt-or-le (i % 2) 1)
+-- the same records make the same list
+pub put-agree : (n : ℕ) (f g : ℕ → RowState) (l : List ℕ) → ((k : ℕ) → k < n → f k ≡ g k) → putTo n f l ≡ putTo n g l
+unfolding putTo
+put-agree zero f g l e = refl
+put-agree (suc n) f g l e = ap₂ (λ (x : List ℕ) (s : RowState). putRecord x n s) (put-agree n f g l (λ k b. e k (omega arith))) (e n (omega arith))
 
-  far : (i : ℕ) → i < length l → mostRows ≤ i / 2 → stateCell (stateIn l) i ≡ numberAt l i
-  unfolding stateCell zeroFrom zeroAt stateIn
-  far i b m =
-      let z : numberAt l i ≡ 0 = eqb-true (numberAt l i) 0 (rw (le-ltb i (stateLong mostRows) (omega (arith, div-add-mod' i 2))) at (all-at (length l) (zeroAt (stateLong mostRows) l) spare i b)) in
-      let e : recordAt (stateIn l) (i / 2) ≡ noRecord =
-      List·getD-eq-default (stateIn l .rows) noRecord {n = i / 2} (rw spare (rw (length-upto mostRows (recordIn l) (noState .rows)) m)) in
-      rw (e, z) (none (eqb (i % 2) 0))
-    where
-      none : (b : Bool) → _≡_ {A = ℕ} (pick b 0 0) 0
-      none true = refl
-      none false = refl
+-- a list's own records, put into another list, are its own numbers
+pub put-own : (l l₀ : List ℕ) (n i : ℕ) → i < stateLong n → stateLong n ≤ length l₀ → numberAt (putTo n (recordIn l) l₀) i ≡ numberAt l i
+unfolding putTo recordIn
+put-own l l₀ zero i b r = absurd (omega arith)
+put-own l l₀ (suc n) i b r = ⊎-elim (λ a. below a (put-own l l₀ n i a (omega arith))) here (lt-or-le i (stateLong n))
+  where
+    below : i < stateLong n → numberAt (putTo n (recordIn l) l₀) i ≡ numberAt l i → numberAt (putTo (suc n) (recordIn l) l₀) i ≡ numberAt l i
+    below a so = put-other (putTo n (recordIn l) l₀) n (recordIn l n) i (λ e. omega arith) (λ e. omega arith) ∙ so
 
-  pub list-of-state : (l₀ : List ℕ) → length l ≡ length l₀ → filled (stateCell (stateIn l)) l₀ ≡ l
-  unfolding filled
-  list-of-state l₀ long =
-      ext-getD 0 (filled (stateCell (stateIn l)) l₀) l (length-filled (stateCell (stateIn l)) l₀ ∙ sym long)
-      (λ i b. let there : i < length l = omega (arith, length-filled (stateCell (stateIn l)) l₀, long) in
-      upto-below (length l₀) (stateCell (stateIn l)) l₀ 0 i (omega (arith, long)) (le-refl (length l₀))
-      ∙ ⊎-elim (λ m. near i m) (λ m. far i there m) (lt-or-le (i / 2) mostRows))
+    same : recordIn (putTo (suc n) (recordIn l) l₀) n ≡ recordIn l n
+    same = put-record-below (recordIn l) l₀ (suc n) n (omega arith) r
+
+    here : stateLong n ≤ i → numberAt (putTo (suc n) (recordIn l) l₀) i ≡ numberAt l i
+    here a = ⊎-elim
+        (λ m. let e : i ≡ n * recordWide = omega arith in rw e (ap (λ (s : RowState). s .remaining) same))
+        (λ m. let e : i ≡ n * recordWide + 1 = omega arith in rw e (ap (λ (s : RowState). s .since) same))
+        (lt-or-le i (n * recordWide + 1))
+
+-- a list of zeros hands over the state of zeros
+module _ (l : List ℕ) (none : (i : ℕ) → numberAt l i ≡ 0) where
+  pub zeros-spare : spareIsZero l ≡ true
+  unfolding zeroFrom zeroAt
+  zeros-spare =
+      all-true (length l) (zeroAt (stateLong mostRows) l)
+      (λ i b. ⊎-elim (λ a. rw (lt-ltb i (stateLong mostRows) a)) (λ a. rw (le-ltb i (stateLong mostRows) a, eq-eqb (numberAt l i) 0 (none i))) (lt-or-le i (stateLong mostRows)))
+
+  zeros-record : (k : ℕ) → recordIn l k ≡ noRecord
+  unfolding recordIn
+  zeros-record k = λ i. record { remaining = none (k * recordWide) i; since = none (k * recordWide + 1) i }
+
+  pub zeros-state : stateIn l ≡ noState
+  unfolding stateIn
+  zeros-state =
+      rw zeros-spare
+      (ap stateOf
+      (ext-getD noRecord (upto mostRows (recordIn l) (noState .rows)) (noState .rows) (length-upto mostRows (recordIn l) (noState .rows))
+      (λ k b. let there : k < mostRows = rw (length-upto mostRows (recordIn l) (noState .rows)) at b in
+      upto-below mostRows (recordIn l) (noState .rows) noRecord k there (le-refl mostRows) ∙ zeros-record k ∙ sym (getD-all mostRows k noRecord))))
+
+pub cleared-none : (l : List ℕ) (i : ℕ) → numberAt (cleared l) i ≡ 0
+cleared-none l i = filled-read (λ i. 0) l i (λ b. refl)

@@ -1,16 +1,15 @@
 -- What is told of a margin, from the answers of what `margin` calls.
 -- Assumes nothing.
-use Prim.Native.Nat.{ℕ, _+_, _*_, _≤_, _<_}
+use Prim.Native.Nat.{ℕ, _+_, _≤_, _<_}
 use mathlib.Core.Path.{_≡_, refl, sym, ap, _∙_}
 use mathlib.Core.Bool.{true}
 use mathlib.Core.List.{List}
 use lib.ListN.{length}
 use lib.IntN.{_-ℤ_}
 use native.Mathlib.Omega.{arith}
-use native.Mathlib.Nat.{mul-le-mul}
 use borrow.Author.Tests.{lt-ltb, le-ltb, ltb-true}
 use mir.Syntax.{w64}
-use mir.Val.{Fits, SFits, toZ, ofZ}
+use mir.Val.{SFits, toZ, ofZ}
 use mir.ValLaws.{toZ-ofZ}
 use Rattle.basis.specs.Limits.{mostRows, mostSeparation}
 use Rattle.basis.specs.Refusals.{accepted, outcome}
@@ -71,9 +70,6 @@ module _ (h : Sheet) (t : State) (k : ℕ) (c : Refusal) (e : outcome c ≡ chec
 
     pub row-in-array : k < mostRows
     row-in-array = omega (arith, both-checked .1, ready h t (both-checked .0) .most-rows)
-
-    pub row-scaled : (size : ℕ) → size ≤ 4096 → Fits w64 (k * size)
-    row-scaled size l = record { fits = omega (arith, mul-le-mul {n₁ = k} {m₁ = size} {n₂ = mostRows} {m₂ = 4096} (omega (arith, row-in-array)) l) }
 
     pub small-deadline : (row : Row) → row ≡ rowAt h k → row .deadline ≤ mostSeparation
     small-deadline row er = rw er (omega (arith, row-is .most-deadline, row-is .most-separation))

@@ -1,16 +1,15 @@
--- Releases, placement and ageing of each row, one row after another, are the slot.
+-- Releases, placement and ageing are the slot: of one row, and of all rows one step after another.
 -- Assumes nothing.
-use Prim.Native.Nat.{ℕ, _+_, _≤_}
-use mathlib.Core.Path.{_≡_, refl, ap, _∙_}
+use Prim.Native.Nat.{ℕ, _≤_, _<_}
+use mathlib.Core.Path.{_≡_, refl, ap, ap₂, _∙_}
 use mathlib.Core.Bool.{Bool, true, false}
 use mathlib.Core.List.{List}
-use lib.ListN.{getD, set}
+use lib.ListN.{length, getD}
 use lib.Dec.{eqb}
 use native.Mathlib.Omega.{arith}
-use native.Mathlib.Numerals.{add-one}
+use Rattle.basis.specs.Limits.{mostRows}
 use Rattle.basis.specs.Words.{pick, both}
-use Rattle.basis.specs.Upto.{upto}
-use Rattle.basis.proofs.Upto.{upto-read, upto-set}
+use Rattle.basis.proofs.Upto.{length-upto, upto-below, upto-agree, upto-over}
 use Rattle.sheet.specs.Legal.{rowAt}
 use Rattle.sheet.specs.declared.row.Row.{Row}
 use Rattle.sheet.specs.declared.row.Sheet.{Sheet}
@@ -19,9 +18,10 @@ use Rattle.machine.specs.declared.state.State.{State}
 use Rattle.machine.specs.declared.steps.Placed.{Placed}
 use Rattle.machine.specs.declared.steps.Aged.{Aged}
 use Rattle.machine.specs.States.{noRecord, stateOf, recordAt, hasJob}
-use Rattle.machine.specs.Slot.{released, fits, freeAt, worked, older, aged, missed, codeOf, begun, free, next, code}
+use Rattle.machine.specs.Slot.{released, fits, worked, older, aged, missed, codeOf, begun, free, runs, next, code}
 use Rattle.machine.specs.Answers.{given, nextState, nextCodes}
-use Rattle.machine.specs.Methods.{placedRow, judged, agedRow, begunRow, steppedRow}
+use Rattle.machine.specs.Methods.{releasedAt, releasedState, placedRow, placedAt, placedRecord, placedCode, placedState, placedCodes, judged, agedRow, agedAt, agedRecord, agedCode, agedState, agedCodes, begunRow, steppedRow}
+use Rattle.machine.proofs.Placement.{free-agrees}
 
 -- the code that placing and then ageing give, by the tests that they make: j a job, r it ran, w something is left, d at the deadline
 code-by-tests : (j r w d : Bool)
@@ -52,35 +52,58 @@ module _ (row : Row) (s b : RowState) (release f : ℕ) (eb : b ≡ released rel
       let so : record { free = p .free; after = a .after; code = a .code } ≡ begunRow row b f = λ i. record { free = ef i; after = er i; code = ec i } in
       so ∙ ap (λ (x : RowState). begunRow row x f) eb
 
--- `next`: every processor is free at the top
-pub all-free : (h : Sheet) (t : State) (rel : List ℕ) (f : ℕ) → f ≡ h .processors → f ≡ free (given h t rel) 0
-unfolding freeAt given
-all-free h t rel f e = e
+-- after releases, after placement, and the codes so far
+abbrev begunState : Sheet → State → List ℕ → State
+begunState h t rel = releasedState h t rel
 
--- a turn
-module _ (h : Sheet) (t₀ t : State) (rel : List ℕ) (f i : ℕ) (ef : f ≡ free (given h t₀ rel) i) (so-far : t .rows ≡ upto i (next (given h t₀ rel)) (t₀ .rows))
-    (row : Row) (ew : row ≡ rowAt h i) (r : Placed) (er : r ≡ steppedRow row (recordAt t i) (getD rel i 0) f) where
-  is-stepped : r ≡ steppedRow (rowAt h i) (recordAt t₀ i) (getD rel i 0) (free (given h t₀ rel) i)
-  is-stepped = let e = upto-read i (next (given h t₀ rel)) (t .rows) (t₀ .rows) noRecord so-far in cc
+abbrev workedState : Sheet → State → List ℕ → State
+workedState h t rel = placedState h (begunState h t rel)
 
-  pub free-more : r .free ≡ free (given h t₀ rel) (i + 1)
-  unfolding freeAt steppedRow begunRow given
-  free-more = rw add-one (ap (λ (x : Placed). x .free) is-stepped)
+abbrev codesSoFar : Sheet → State → List ℕ → List ℕ → List ℕ
+codesSoFar h t rel cs = placedCodes h (begunState h t rel) cs
 
-  pub rows-more : set (t .rows) i (r .after) ≡ upto (i + 1) (next (given h t₀ rel)) (t₀ .rows)
-  unfolding steppedRow begunRow given
-  rows-more = upto-set i (next (given h t₀ rel)) (t .rows) (t₀ .rows) (r .after) so-far (ap (λ (x : Placed). x .after) is-stepped)
+module _ (h : Sheet) (t : State) (rel cs : List ℕ) (held : h .count ≤ length (t .rows)) (room : h .count ≤ length cs) where
+  u-at : (k : ℕ) → k < h .count → recordAt (begunState h t rel) k ≡ begun (given h t rel) k
+  unfolding releasedState given
+  u-at k l = upto-below (h .count) (releasedAt t rel) (t .rows) noRecord k l held
 
-  pub codes-more : (cs cs₀ : List ℕ) → cs ≡ upto i (code (given h t₀ rel)) cs₀ → set cs i (r .code) ≡ upto (i + 1) (code (given h t₀ rel)) cs₀
-  unfolding steppedRow begunRow given
-  codes-more cs cs₀ e = upto-set i (code (given h t₀ rel)) cs cs₀ (r .code) e (ap (λ (x : Placed). x .code) is-stepped)
+  placed-at : (k : ℕ) → k < h .count → placedAt h (begunState h t rel) k ≡ placedRow (rowAt h k) (begun (given h t rel) k) (free (given h t rel) k)
+  unfolding given
+  placed-at k l = ap₂ (placedRow (rowAt h k)) (u-at k l) (free-agrees (h .processors) (rowAt h) (rowAt h) (recordAt (begunState h t rel)) (begun (given h t rel)) k (λ i b. refl) (λ i b. u-at i (omega arith)))
 
--- and the end
-module _ (h : Sheet) (t₀ : State) (rel : List ℕ) (i n : ℕ) (en : n ≡ h .count) (a : i ≤ n) (b : n ≤ i) where
-  pub next-state : (t : State) → t .rows ≡ upto i (next (given h t₀ rel)) (t₀ .rows) → t ≡ nextState h t₀ rel
-  unfolding nextState
-  next-state t so-far = let e : i ≡ h .count = omega arith in ap stateOf (rw e at so-far)
+  v-at : (k : ℕ) → k < h .count → recordAt (workedState h t rel) k ≡ worked (runs (given h t rel) k) (begun (given h t rel) k)
+  unfolding placedState releasedState given placedRow
+  v-at k l =
+      upto-below (h .count) (placedRecord h (begunState h t rel)) (begunState h t rel .rows) noRecord k l (rw length-upto held)
+      ∙ ap (λ (x : Placed). x .after) (placed-at k l)
 
-  pub next-codes : (cs cs₀ : List ℕ) → cs ≡ upto i (code (given h t₀ rel)) cs₀ → cs ≡ nextCodes h t₀ rel cs₀
-  unfolding nextCodes
-  next-codes cs cs₀ so-far = let e : i ≡ h .count = omega arith in rw e at so-far
+  ds-at : (k : ℕ) → k < h .count → getD (codesSoFar h t rel cs) k 0 ≡ placedRow (rowAt h k) (begun (given h t rel) k) (free (given h t rel) k) .code
+  unfolding placedCodes
+  ds-at k l = upto-below (h .count) (placedCode h (begunState h t rel)) cs 0 k l room ∙ ap (λ (x : Placed). x .code) (placed-at k l)
+
+  aged-at : (k : ℕ) → k < h .count → agedAt h (workedState h t rel) (codesSoFar h t rel cs) k ≡ agedRow (rowAt h k) (worked (runs (given h t rel) k) (begun (given h t rel) k)) (placedRow (rowAt h k) (begun (given h t rel) k) (free (given h t rel) k) .code)
+  aged-at k l = ap₂ (agedRow (rowAt h k)) (v-at k l) (ds-at k l)
+
+  state-is : agedState h (workedState h t rel) (codesSoFar h t rel cs) ≡ nextState h t rel
+  unfolding agedState placedState releasedState nextState given agedRow
+  state-is =
+      ap stateOf
+      (upto-agree (h .count) (agedRecord h (workedState h t rel) (codesSoFar h t rel cs)) (next (given h t rel)) (workedState h t rel .rows) (λ k l. ap (λ (x : Aged). x .after) (aged-at k l))
+      ∙ upto-over (h .count) (next (given h t rel)) (placedRecord h (begunState h t rel)) (begunState h t rel .rows) noRecord (rw length-upto held)
+      ∙ upto-over (h .count) (next (given h t rel)) (releasedAt t rel) (t .rows) noRecord held)
+
+  codes-are : agedCodes h (workedState h t rel) (codesSoFar h t rel cs) ≡ nextCodes h t rel cs
+  unfolding agedCodes placedCodes nextCodes given
+  codes-are =
+      upto-agree (h .count) (agedCode h (workedState h t rel) (codesSoFar h t rel cs)) (code (given h t rel)) (codesSoFar h t rel cs)
+      (λ k l. ap (λ (x : Aged). x .code) (aged-at k l) ∙ row-code (free (given h t rel) k) (rowAt h k) (begun (given h t rel) k))
+      ∙ upto-over (h .count) (code (given h t rel)) (placedCode h (begunState h t rel)) cs 0 room
+
+-- what the three methods give, one after another
+module _ (h : Sheet) (t : State) (rel cs : List ℕ) (u v : State) (ds : List ℕ) (held : length (t .rows) ≡ mostRows) (some : h .count ≤ mostRows) (room : h .count ≤ length cs)
+    (eu : u ≡ releasedState h t rel) (ev : v ≡ placedState h u) (ed : ds ≡ placedCodes h u cs) where
+  pub next-state : (w : State) → w ≡ agedState h v ds → w ≡ nextState h t rel
+  next-state w ew = let same : agedState h v ds ≡ agedState h (workedState h t rel) (codesSoFar h t rel cs) = cc in ew ∙ same ∙ state-is h t rel cs (omega arith) room
+
+  pub next-codes : (es : List ℕ) → es ≡ agedCodes h v ds → es ≡ nextCodes h t rel cs
+  next-codes es ee = let same : agedCodes h v ds ≡ agedCodes h (workedState h t rel) (codesSoFar h t rel cs) = cc in ee ∙ same ∙ codes-are h t rel cs (omega arith) room

@@ -1,12 +1,12 @@
 -- States as lists of plain numbers, of each row remaining and since; a sheet's list is that of crate sheet.
-use Prim.Native.Nat.{ℕ, zero, suc, _+_, _*_, _/_, _%_}
+use Prim.Native.Nat.{ℕ, zero, suc, _+_, _*_}
 use mathlib.Core.Bool.{Bool, true}
 use mathlib.Core.List.{List}
 use lib.ListN.{length, set}
-use lib.Dec.{ltb, eqb}
+use lib.Dec.{ltb, leb, eqb}
 use Rattle.basis.specs.Limits.{mostRows}
 use Rattle.basis.specs.Words.{pick, allOf}
-use Rattle.basis.specs.Refusals.{Outcome, outcome}
+use Rattle.basis.specs.Refusals.{Outcome, outcome, orElse}
 use Rattle.basis.specs.Upto.{upto}
 use Rattle.sheet.specs.Lists.{numberAt, filled}
 use Rattle.sheet.specs.declared.row.Sheet.{Sheet}
@@ -14,7 +14,8 @@ use Rattle.machine.specs.declared.state.RowState.{RowState}
 use Rattle.machine.specs.declared.state.State.{State}
 use Rattle.machine.specs.declared.places.Done.{Done}
 use Rattle.machine.specs.States.{noState, stateOf, recordAt}
-use Rattle.machine.specs.Answers.{Course, handed, slot, run}
+use Rattle.machine.specs.Checks.{needed}
+use Rattle.machine.specs.Answers.{Course, handed, fresh, slot, run}
 
 -- The numbers of a record.
 abbrev pub recordWide : ℕ
@@ -44,10 +45,6 @@ spareIsZero l = zeroFrom (stateLong mostRows) l
 unfoldable pub stateIn : List ℕ → State
 stateIn l = pick (spareIsZero l) (stateOf (upto mostRows (recordIn l) (noState .rows))) noState
 
--- The number at place i of a state's list: past the records it is zero.
-unfoldable pub stateCell : State → ℕ → ℕ
-stateCell t i = pick (eqb (i % recordWide) 0) (recordAt t (i / recordWide) .remaining) (recordAt t (i / recordWide) .since)
-
 -- The list with record k made s,
 unfoldable pub putRecord : List ℕ → ℕ → RowState → List ℕ
 putRecord l k s = set (set l (k * recordWide) (s .remaining)) (k * recordWide + 1) (s .since)
@@ -57,24 +54,42 @@ unfoldable pub putTo : ℕ → (ℕ → RowState) → List ℕ → List ℕ
 putTo zero f l = l
 putTo (suc n) f l = putRecord (putTo n f l) n (f n)
 
--- One slot, with the state in a list: the list becomes the next state's, and beside a refusal it is as it was.
-abbrev pub slotListed : Outcome × (State × List ℕ) → List ℕ → Outcome × (List ℕ × List ℕ)
-slotListed (o, (t, codes)) list = (o, (handed o (filled (stateCell t) list) list .1, codes))
+-- A state of n rows put into a list: its records, and the numbers past them as they were.
+unfoldable pub putState : ℕ → State → List ℕ → List ℕ
+putState n t l = putTo n (recordAt t) l
 
+-- A list whose every number is zero, as long as this one.
+abbrev pub cleared : List ℕ → List ℕ
+cleared l = filled (λ i. 0) l
+
+-- The answer of fresh put into a list: 15 comes after its refusals, where there is no room for a record for each row; past the records every number is zero, and beside a refusal the list is as it was.
+abbrev pub freshListed : ℕ → Outcome × State → List ℕ → Outcome × List ℕ
+freshListed n (o, t) list = handed (orElse o (needed (leb (stateLong n) (length list)) 15)) (putState n t (cleared list)) list
+
+-- Fresh, in a list: 10, then 15.
+unfoldable pub freshOn : Sheet → List ℕ → Outcome × List ℕ
+freshOn h list = freshListed (h .count) (fresh h) list
+
+-- The answer of a slot put into a list: the next state, and beside a refusal the list is as it was.
+abbrev pub slotListed : ℕ → Outcome × (State × List ℕ) → List ℕ → Outcome × (List ℕ × List ℕ)
+slotListed n (o, (t, codes)) list = (o, (handed o (putState n t list) list .1, codes))
+
+-- One slot of the state in a list.
 unfoldable pub slotIn : Sheet → List ℕ → List ℕ → List ℕ → Outcome × (List ℕ × List ℕ)
-slotIn h list releases codes = slotListed (slot h (stateIn list) releases codes) list
+slotIn h list releases codes = slotListed (h .count) (slot h (stateIn list) releases codes) list
 
--- A run, with the state in a list: the slots done and the outcome, the list after them, which is as it was where none is done, and the codes.
-abbrev pub runListed : Course → List ℕ → (ℕ × Outcome) × (List ℕ × List ℕ)
-runListed c list = ((c .done, c .outcome), (pick (eqb (c .done) 0) list (filled (stateCell (c .state)) list), c .codes))
+-- The answer of a run put into a list: the slots done and the outcome, the list with the state after them, which is as it was where none is done, and the codes.
+abbrev pub runListed : ℕ → Course → List ℕ → (ℕ × Outcome) × (List ℕ × List ℕ)
+runListed n c list = ((c .done, c .outcome), (pick (eqb (c .done) 0) list (putState n (c .state) list), c .codes))
 
+-- A run of the state in a list.
 unfoldable pub runIn : Sheet → List ℕ → List ℕ → List ℕ → (ℕ × Outcome) × (List ℕ × List ℕ)
-runIn h list releases codes = runListed (run h (stateIn list) releases codes) list
+runIn h list releases codes = runListed (h .count) (run h (stateIn list) releases codes) list
 
 -- What the code of a run in place answers.
 abbrev pub ranIn : Done → ℕ × Outcome
 ranIn r = (r .done, outcome (r .refusal))
 
--- A course, by that answer, the state in the list and the codes.
+-- How the code follows a run, of which no promise of a public function speaks: a course, by that answer, the state in the list and the codes.
 abbrev pub courseIn : Done → State → List ℕ → Course
 courseIn r t codes = record { done = r .done; outcome = outcome (r .refusal); state = t; codes = codes }

@@ -10,7 +10,7 @@ ghost use Rattle.sheet.specs.Lists.{sheetIn, sheetLong};
 ghost use Rattle.machine.specs.States.{legalState};
 ghost use Rattle.machine.specs.Slot.{next};
 ghost use Rattle.machine.specs.Checks.{checkRow, checkReleases, checkState, checkSlot, checkRun};
-ghost use Rattle.machine.specs.Answers.{given, nextCodes, slot, slotAt, notBegun, course, run};
+ghost use Rattle.machine.specs.Answers.{given, nextCodes, slotAt, notBegun, course};
 ghost use Rattle.machine.specs.Methods.{steppedRow};
 ghost use Rattle.machine.specs.Lists.{stateLong, recordIn, stateIn, putRecord, putTo, slotIn, runIn, ranIn, courseIn};
 use crate::checks::check_row;
@@ -19,6 +19,7 @@ use crate::places::is_legal_in;
 use crate::places::put_record;
 use crate::places::record_in;
 use crate::sheets::processors_in;
+use crate::sheets::row_inside;
 use crate::sheets::rows_in;
 use crate::steps::Placed;
 use basis::Refusal;
@@ -31,7 +32,7 @@ fn check_in(sheet: &[u64], list: &[u64], release: u64, place: usize) -> Refusal
     if release == 0 {
         return Refusal::Accepted;
     }
-    let row = sheet::row_inside(sheet, place);
+    let row = row_inside(sheet, place);
     let s = record_in(list, place);
     check_row(row, s, release, place)
 }
@@ -59,7 +60,7 @@ fn step_row(sheet: &[u64], list: &mut [u64], k: usize, release: u64, free: u64) 
     ensures { λ r. ⌜ (r ≡ steppedRow (rowAt (sheetIn (now (sheet .entry))) k) (recordIn (now (list .entry)) k) release free)
         × (now (list .exit) ≡ putRecord (now (list .entry)) k (r .after)) ⌝ }
 {
-    let row = sheet::row_inside(sheet, k);
+    let row = row_inside(sheet, k);
     let s = record_in(list, k);
     let stepped = s.stepped(row, release, free);
     let after = stepped.after;
@@ -158,7 +159,7 @@ pub(crate) fn check_state_in(sheet: &[u64], list: &[u64]) -> Refusal
 }
 
 // 10, 16, 11, 15, then the releases.
-fn check_slot_in(sheet: &[u64], list: &[u64], releases: &[u64], room: usize) -> Refusal
+pub(crate) fn check_slot_in(sheet: &[u64], list: &[u64], releases: &[u64], room: usize) -> Refusal
     ensures { λ r. ⌜ outcome r ≡ checkSlot (sheetIn (now (sheet .entry))) (stateIn (now (list .entry))) (now (releases .entry)) room ⌝ }
 {
     let first = check_state_in(sheet, list);
@@ -196,8 +197,7 @@ pub(crate) fn check_run_in(sheet: &[u64], list: &[u64], releases: &[u64], room: 
 
 // One slot of the state in a list: a refused slot leaves all as found.
 pub fn slot_on(sheet: &[u64], list: &mut [u64], releases: &[u64], codes: &mut [u8]) -> Refusal
-    ensures { λ r. ⌜ ((outcome r, (now (list .exit), now (codes .exit))) ≡ slotIn (sheetIn (now (sheet .entry))) (now (list .entry)) (now (releases .entry)) (now (codes .entry)))
-        × ((outcome r, (stateIn (now (list .exit)), now (codes .exit))) ≡ slot (sheetIn (now (sheet .entry))) (stateIn (now (list .entry))) (now (releases .entry)) (now (codes .entry))) ⌝ }
+    ensures { λ r. ⌜ (outcome r, (now (list .exit), now (codes .exit))) ≡ slotIn (sheetIn (now (sheet .entry))) (now (list .entry)) (now (releases .entry)) (now (codes .entry)) ⌝ }
 {
     let refusal = check_slot_in(sheet, list, releases, codes.len());
     match refusal {
@@ -212,8 +212,7 @@ pub fn slot_on(sheet: &[u64], list: &mut [u64], releases: &[u64], codes: &mut [u
 
 // A run of slots on the state in a list.
 pub fn run_on(sheet: &[u64], list: &mut [u64], releases: &[u64], codes: &mut [u8]) -> Done
-    ensures { λ r. ⌜ ((ranIn r, (now (list .exit), now (codes .exit))) ≡ runIn (sheetIn (now (sheet .entry))) (now (list .entry)) (now (releases .entry)) (now (codes .entry)))
-        × (courseIn r (stateIn (now (list .exit))) (now (codes .exit)) ≡ run (sheetIn (now (sheet .entry))) (stateIn (now (list .entry))) (now (releases .entry)) (now (codes .entry))) ⌝ }
+    ensures { λ r. ⌜ (ranIn r, (now (list .exit), now (codes .exit))) ≡ runIn (sheetIn (now (sheet .entry))) (now (list .entry)) (now (releases .entry)) (now (codes .entry)) ⌝ }
 {
     let refusal = check_run_in(sheet, list, releases, codes.len());
     match refusal {

@@ -22,5 +22,6 @@ pub use runs::Ran;
 pub use slots::Slotted;
 pub use start::Started;
 pub use start::fresh;
+pub use start::fresh_on;
 pub use state::RowState;
 pub use state::State;

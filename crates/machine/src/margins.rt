@@ -11,6 +11,7 @@ use crate::inplace::check_state_in;
 use crate::places::record_in;
 use crate::places::state_list;
 use crate::sheets::listed;
+use crate::sheets::row_inside;
 use crate::sheets::rows_in;
 use crate::state::RowState;
 use crate::state::State;
@@ -67,7 +68,7 @@ pub fn margin_on(sheet: &[u64], list: &[u64], row: usize) -> Margin
     match refusal {
         Refusal::Refused(number, place) => Margin::Refused(number, place),
         Refusal::Accepted => {
-            let numbers = sheet::row_inside(sheet, row);
+            let numbers = row_inside(sheet, row);
             let s = record_in(list, row);
             margin_of(numbers, s)
         }

@@ -6,9 +6,9 @@ ghost use lib.ListN.{length};
 ghost use Rattle.basis.specs.Limits.{mostRows};
 ghost use Rattle.sheet.specs.Legal.{legal};
 ghost use Rattle.sheet.specs.Lists.{sheetIn};
-ghost use Rattle.machine.specs.States.{legalState};
+ghost use Rattle.machine.specs.States.{noState, legalState};
 ghost use Rattle.machine.specs.Lists.{recordWide, recordIn, putRecord, stateLong, zeroFrom, stateIn};
-use crate::start::zeros;
+use crate::sheets::row_inside;
 use crate::state::RowState;
 use crate::state::State;
 use crate::state::is_legal_record;
@@ -83,7 +83,7 @@ pub(crate) fn is_legal_in(sheet: &[u64], list: &[u64], n: usize) -> bool
     }
     let mut i: usize = 0;
     while i < n {
-        let row = sheet::row_inside(sheet, i);
+        let row = row_inside(sheet, i);
         let s = record_in(list, i);
         let fine = is_legal_record(row, s);
         if fine {
@@ -107,6 +107,18 @@ pub(crate) fn state_list(state: State) -> [u64; STATE_LONG]
         i += 1;
     }
     list
+}
+
+// The state of which every record is zero.
+fn zeros() -> State
+    ensures { λ r. ⌜ r ≡ noState ⌝ }
+{
+    let none = RowState {
+        remaining: 0,
+        since: 0,
+    };
+    let rows = [none; MOST_ROWS];
+    State { rows }
 }
 
 // The state in a list with room for every record and no more.

@@ -1,12 +1,23 @@
-// The fresh state of a sheet.
+// The fresh state of a sheet, in a list and by value.
 ghost use mathlib.Core.Path.{_≡_};
+ghost use mathlib.Core.Bool.{true};
 ghost use Prim.Native.Nat.{_≤_};
-ghost use Rattle.basis.specs.Limits.{mostRows};
-ghost use Rattle.machine.specs.States.{noState, freshState};
+ghost use lib.ListN.{length};
+ghost use Rattle.basis.specs.Refusals.{outcome};
+ghost use Rattle.sheet.specs.Legal.{legal};
+ghost use Rattle.sheet.specs.Lists.{sheetIn};
+ghost use Rattle.machine.specs.States.{freshAt};
 ghost use Rattle.machine.specs.Answers.{started, fresh};
+ghost use Rattle.machine.specs.Lists.{stateLong, putTo, cleared, freshOn};
+use crate::places::RECORD_WIDE;
+use crate::places::STATE_LONG;
+use crate::places::put_record;
+use crate::places::state_of;
+use crate::sheets::listed;
+use crate::sheets::row_inside;
+use crate::sheets::rows_in;
 use crate::state::RowState;
 use crate::state::State;
-use basis::MOST_ROWS;
 use basis::Refusal;
 use sheet::Sheet;
 
@@ -16,53 +27,58 @@ pub struct Started {
     pub state: State,
 }
 
-// The state of which every record is zero.
-pub(crate) fn zeros() -> State
-    ensures { λ r. ⌜ r ≡ noState ⌝ }
+// Makes every number of a list zero.
+fn clear(list: &mut [u64])
+    ensures { λ _. ⌜ now (list .exit) ≡ cleared (now (list .entry)) ⌝ }
 {
-    let none = RowState {
-        remaining: 0,
-        since: 0,
-    };
-    let rows = [none; MOST_ROWS];
-    State { rows }
+    let mut i: usize = 0;
+    while i < list.len() {
+        list[i] = 0;
+        i += 1;
+    }
 }
 
-// Each row without a job, T slots since release.
-fn fresh_state(sheet: Sheet) -> State
-    requires { ⌜ sheet .count ≤ mostRows ⌝ }
-    ensures { λ r. ⌜ r ≡ freshState sheet ⌝ }
+// Makes the records of n rows fresh: each without a job, T slots since release.
+fn put_fresh(sheet: &[u64], list: &mut [u64], n: usize)
+    requires { ⌜ (n ≡ sheetIn (now sheet) .count) × (legal (sheetIn (now sheet)) ≡ true) × (stateLong n ≤ length (now list)) ⌝ }
+    ensures { λ _. ⌜ now (list .exit) ≡ putTo n (freshAt (sheetIn (now (sheet .entry)))) (now (list .entry)) ⌝ }
 {
-    let mut state = zeros();
-    let n = sheet.count as usize;
     let mut i: usize = 0;
     while i < n {
-        let row = sheet.rows[i];
+        let row = row_inside(sheet, i);
         let s = RowState {
             remaining: 0,
             since: row.separation,
         };
-        state.rows[i] = s;
+        put_record(list, i, s);
         i += 1;
     }
-    state
+}
+
+// The fresh state of a sheet in a list: 10, then 15 where there is no room for it; a refusal leaves the list as found.
+pub fn fresh_on(sheet: &[u64], list: &mut [u64]) -> Refusal
+    ensures { λ r. ⌜ (outcome r, now (list .exit)) ≡ freshOn (sheetIn (now (sheet .entry))) (now (list .entry)) ⌝ }
+{
+    let fine = sheet::is_legal_in(sheet);
+    if fine {
+        let n = rows_in(sheet);
+        if list.len() < n * RECORD_WIDE {
+            return Refusal::Refused(15, 0);
+        }
+        clear(list);
+        put_fresh(sheet, list, n);
+        return Refusal::Accepted;
+    }
+    Refusal::Refused(10, 0)
 }
 
 // The fresh state of a sheet.
 pub fn fresh(sheet: Sheet) -> Started
     ensures { λ r. ⌜ started r ≡ fresh sheet ⌝ }
 {
-    let fine = sheet::is_legal(sheet);
-    if fine {
-        let state = fresh_state(sheet);
-        return Started {
-            refusal: Refusal::Accepted,
-            state,
-        };
-    }
-    let state = zeros();
-    Started {
-        refusal: Refusal::Refused(10, 0),
-        state,
-    }
+    let rows = listed(sheet);
+    let mut list = [0u64; STATE_LONG];
+    let refusal = fresh_on(&rows, &mut list);
+    let state = state_of(&list);
+    Started { refusal, state }
 }

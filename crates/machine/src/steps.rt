@@ -1,9 +1,14 @@
-// The steps of a row's slot: releases, placement and ageing.
+// The steps of a slot: releases, placement and ageing, of a row and of every row.
 ghost use mathlib.Core.Path.{_≡_};
+ghost use Prim.Native.Nat.{_≤_};
+ghost use lib.ListN.{length};
+ghost use Rattle.basis.specs.Limits.{mostRows};
 ghost use Rattle.machine.specs.Slot.{released, older};
-ghost use Rattle.machine.specs.Methods.{placedRow, judged, agedRow, steppedRow};
+ghost use Rattle.machine.specs.Methods.{releasedState, placedRow, placedState, placedCodes, judged, agedRow, agedState, agedCodes, steppedRow};
 use crate::state::RowState;
+use crate::state::State;
 use sheet::Row;
+use sheet::Sheet;
 
 // What placing a row makes, and what its whole slot makes: the processors that it leaves free, its record, and its code.
 pub struct Placed {
@@ -130,5 +135,66 @@ impl RowState {
             after,
             code: aged.code,
         }
+    }
+}
+
+impl State {
+    // Releases, of every row.
+    pub(crate) fn released(self, sheet: Sheet, releases: &[u64]) -> State
+        requires { ⌜ (sheet .count ≤ mostRows) × (sheet .count ≤ length (now releases)) ⌝ }
+        ensures { λ r. ⌜ r ≡ releasedState sheet self (now (releases .entry)) ⌝ }
+    {
+        let mut state = self;
+        let n = sheet.count as usize;
+        let mut i: usize = 0;
+        while i < n {
+            let s = state.rows[i];
+            let after = s.released(releases[i]);
+            state.rows[i] = after;
+            i += 1;
+        }
+        state
+    }
+
+    // Placement: rows from the top, with every processor free.
+    pub(crate) fn placed(self, sheet: Sheet, codes: &mut [u8]) -> State
+        requires { ⌜ (sheet .count ≤ mostRows) × (sheet .count ≤ length (now codes)) ⌝ }
+        ensures { λ r. ⌜ (r ≡ placedState sheet self) × (now (codes .exit) ≡ placedCodes sheet self (now (codes .entry))) ⌝ }
+    {
+        let mut state = self;
+        let mut free = sheet.processors;
+        let n = sheet.count as usize;
+        let mut i: usize = 0;
+        while i < n {
+            let row = sheet.rows[i];
+            let s = state.rows[i];
+            let placed = s.placed(row, free);
+            let after = placed.after;
+            state.rows[i] = after;
+            codes[i] = placed.code;
+            free = placed.free;
+            i += 1;
+        }
+        state
+    }
+
+    // Ageing: each row's since, and what of its job is finished or missed.
+    pub(crate) fn aged(self, sheet: Sheet, codes: &mut [u8]) -> State
+        requires { ⌜ (sheet .count ≤ mostRows) × (sheet .count ≤ length (now codes)) ⌝ }
+        ensures { λ r. ⌜ (r ≡ agedState sheet self (now (codes .entry))) × (now (codes .exit) ≡ agedCodes sheet self (now (codes .entry))) ⌝ }
+    {
+        let mut state = self;
+        let n = sheet.count as usize;
+        let mut i: usize = 0;
+        while i < n {
+            let row = sheet.rows[i];
+            let s = state.rows[i];
+            let aged = s.aged(row, codes[i]);
+            let after = aged.after;
+            state.rows[i] = after;
+            codes[i] = aged.code;
+            i += 1;
+        }
+        state
     }
 }

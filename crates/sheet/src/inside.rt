@@ -23,7 +23,7 @@ pub fn count(list: &[u64]) -> u64
 }
 
 // Its row k, where the list has room for it, read without a look at its end.
-pub fn row_inside(list: &[u64], k: usize) -> Row
+pub(crate) fn row_inside(list: &[u64], k: usize) -> Row
     requires { ⌜ (k < mostRows) × (sheetLong (k + 1) ≤ length (now list)) ⌝ }
     ensures { λ r. ⌜ r ≡ rowAt (sheetIn (now (list .entry))) k ⌝ }
 {

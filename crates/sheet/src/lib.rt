@@ -7,7 +7,6 @@ mod writing;
 
 pub use inside::count;
 pub use inside::processors;
-pub use inside::row_inside;
 pub use legal::is_legal;
 pub use legal::is_legal_in;
 pub use legal::is_legal_row;

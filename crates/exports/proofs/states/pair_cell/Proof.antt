@@ -5,9 +5,6 @@ use Rattle.exports.specs.Lists.{pairCell}
 use Rattle.exports.proofs.states.pair_cell.Statement.{statement}
 use Rattle.exports.proofs.states.pair_cell.Tie as tie
 
-mul-if1 : tie.Need-mul-if1
-mul-if1 c = search needs
-
 returns : tie.Need-returns
 unfolding pairCell
 returns c = search tests
@@ -21,4 +18,4 @@ unfolding pairCell
 returns-3 c = search tests
 
 pub pair-cell-spec : {M : Type 1} → statement M
-pair-cell-spec = tie.close (tie.spec mul-if1 returns returns-2 returns-3)
+pair-cell-spec = tie.close (tie.spec (λ c. search needs) returns returns-2 returns-3)

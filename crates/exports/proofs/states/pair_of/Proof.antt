@@ -5,9 +5,6 @@ use Rattle.exports.specs.Lists.{pairOf}
 use Rattle.exports.proofs.states.pair_of.Statement.{statement}
 use Rattle.exports.proofs.states.pair_of.Tie as tie
 
-mul-if1 : tie.Need-mul-if1
-mul-if1 c = search needs
-
 returns : tie.Need-returns
 unfolding pairOf
 returns c = search tests
@@ -17,4 +14,4 @@ unfolding pairOf
 returns-2 c = search tests
 
 pub pair-of-spec : {M : Type 1} → statement M
-pair-of-spec = tie.close (tie.spec mul-if1 returns returns-2)
+pair-of-spec = tie.close (tie.spec (λ c. search needs) returns returns-2)

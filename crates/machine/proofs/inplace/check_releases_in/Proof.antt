@@ -1,3 +1,4 @@
+-- `check_releases_in` meets its promise. Assumes nothing.
 use borrow.Author.Needs.{needs}
 use Prim.Native.Nat.{_≤_, _-_}
 use mathlib.Core.Path.{_≡_, refl}
@@ -18,7 +19,16 @@ use Rattle.machine.proofs.inplace.check_releases_in.Statement.{statemen
 use Rattle.machine.proofs.inplace.check_releases_in.Tie as tie
 
 abbrev Inv-loop : tie.InvT-loop
-Inv-loop sheet list n releases i₀ i = (n ≡ sheetIn sheet .count) × (i ≤ n) × (n ≤ mostRows) × (sheetLong n ≤ length sheet) × (stateLong n ≤ length list) × (legal (sheetIn sheet) ≡ true) × (legalState (sheetIn sheet) (stateIn list) ≡ true) × (n ≤ length releases) × (firstOf i (checkAt (sheetIn sheet) (stateIn list) releases) ≡ accepted)
+Inv-loop sheet list n releases i₀ i =
+    (n ≡ sheetIn sheet .count)
+    × (i ≤ n)
+    × (n ≤ mostRows)
+    × (sheetLong n ≤ length sheet)
+    × (stateLong n ≤ length list)
+    × (legal (sheetIn sheet) ≡ true)
+    × (legalState (sheetIn sheet) (stateIn list) ≡ true)
+    × (n ≤ length releases)
+    × (firstOf i (checkAt (sheetIn sheet) (stateIn list) releases) ≡ accepted)
 
 abbrev μ-loop : tie.MeasureT-loop
 μ-loop sheet list n releases i₀ i = n - i
@@ -27,29 +37,11 @@ loop-holds : tie.Need-loop-holds Inv-loop μ-loop
 unfolding firstOf
 loop-holds c = (search needs, search needs, search legal-in-fits, search legal-sheet-long, search kept-long, search needs, search needs, search needs, refl)
 
-mul-check-in : tie.Need-mul-check-in Inv-loop μ-loop
-mul-check-in c = search needs
-
-shared-slice-read-check-in : tie.Need-shared-slice-read-check-in Inv-loop μ-loop
-shared-slice-read-check-in c = search needs
-
 check-in-requires : tie.Need-check-in-requires Inv-loop μ-loop
 check-in-requires c κs = (search needs, search needs, search needs)
 
-enum-known-refusal : tie.Need-enum-known-refusal Inv-loop μ-loop
-enum-known-refusal c = search needs
-
 returns : tie.Need-returns Inv-loop μ-loop
 returns c = search check-in-found
-
-enum-told : tie.Need-enum-told Inv-loop μ-loop
-enum-told c = search needs
-
-add-i : tie.Need-add-i Inv-loop μ-loop
-add-i c = search needs
-
-loop-less : tie.Need-loop-less Inv-loop μ-loop
-loop-less c = search needs
 
 loop-again : tie.Need-loop-again Inv-loop μ-loop
 loop-again c = (search needs, search needs, search needs, search needs, search needs, search needs, search needs, search needs, search check-in-more)
@@ -64,13 +56,13 @@ check-releases-in-spec =
     Inv-loop
     μ-loop
     loop-holds
-    mul-check-in
-    shared-slice-read-check-in
+    (λ c. search needs)
+    (λ c. search needs)
     check-in-requires
-    enum-known-refusal
+    (λ c. search needs)
     returns
-    enum-told
-    add-i
-    loop-less
+    (λ c. search needs)
+    (λ c. search needs)
+    (λ c. search needs)
     loop-again
     returns-2)

@@ -1,22 +1,11 @@
-use Rattle.machine.proofs.Checked.{some-row, run-refused, run-11, run-15, run-in-order}
+-- `check_run_in` meets its promise. Assumes nothing.
 use borrow.Author.Needs.{needs}
+use Rattle.machine.proofs.Checked.{some-row, run-refused, run-11, run-15, run-in-order}
 use Rattle.machine.proofs.inplace.check_run_in.Statement.{statement}
 use Rattle.machine.proofs.inplace.check_run_in.Tie as tie
 
-check-state-in-requires : tie.Need-check-state-in-requires
-check-state-in-requires c κs = search needs
-
-enum-known-refusal : tie.Need-enum-known-refusal
-enum-known-refusal c = search needs
-
 returns : tie.Need-returns
 returns c = search run-refused
-
-enum-told : tie.Need-enum-told
-enum-told c = search needs
-
-rows-in-requires : tie.Need-rows-in-requires
-rows-in-requires c κs = search needs
 
 rem-if1 : tie.Need-rem-if1
 rem-if1 c = search some-row
@@ -34,11 +23,11 @@ pub check-run-in-spec : {M : Type 1} → statement M
 check-run-in-spec =
     tie.close
     (tie.spec
-    check-state-in-requires
-    enum-known-refusal
+    (λ c κs. search needs)
+    (λ c. search needs)
     returns
-    enum-told
-    rows-in-requires
+    (λ c. search needs)
+    (λ c κs. search needs)
     rem-if1
     returns-2
     returns-3

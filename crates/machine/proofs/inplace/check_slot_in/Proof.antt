@@ -1,23 +1,12 @@
+-- `check_slot_in` meets its promise. Assumes nothing.
+use borrow.Author.Needs.{needs}
 use Rattle.machine.proofs.Checked.{slot-refused, slot-11, slot-15, slot-rows}
 use Rattle.machine.proofs.Moves.{checked-sheet, checked-state}
-use borrow.Author.Needs.{needs}
 use Rattle.machine.proofs.inplace.check_slot_in.Statement.{statement}
 use Rattle.machine.proofs.inplace.check_slot_in.Tie as tie
 
-check-state-in-requires : tie.Need-check-state-in-requires
-check-state-in-requires c κs = search needs
-
-enum-known-first : tie.Need-enum-known-first
-enum-known-first c = search needs
-
 returns : tie.Need-returns
 returns c = search slot-refused
-
-enum-told : tie.Need-enum-told
-enum-told c = search needs
-
-rows-in-requires : tie.Need-rows-in-requires
-rows-in-requires c κs = search needs
 
 returns-2 : tie.Need-returns-2
 returns-2 c = search slot-11
@@ -35,11 +24,11 @@ pub check-slot-in-spec : {M : Type 1} → statement M
 check-slot-in-spec =
     tie.close
     (tie.spec
-    check-state-in-requires
-    enum-known-first
+    (λ c κs. search needs)
+    (λ c. search needs)
     returns
-    enum-told
-    rows-in-requires
+    (λ c. search needs)
+    (λ c κs. search needs)
     returns-2
     returns-3
     check-releases-in-requires

@@ -1,3 +1,4 @@
+-- `run_part` meets its promise. Assumes nothing.
 use borrow.Author.Needs.{needs}
 use Prim.Native.Nat.{_*_, _-_, _≤_}
 use mathlib.Core.Path.{_≡_, refl}
@@ -9,13 +10,21 @@ use Rattle.sheet.specs.Lists.{sheetIn}
 use Rattle.machine.specs.States.{legalState}
 use Rattle.machine.specs.Answers.{notBegun, course}
 use Rattle.machine.specs.Lists.{stateIn}
-use Rattle.machine.proofs.Courses.{room-for, ends}
-use Rattle.machine.proofs.Moves.{part-goes-on, part-stops}
+use Rattle.machine.proofs.Courses.{room-for, goes-on, stops, ends}
 use Rattle.machine.proofs.inplace.run_part.Statement.{statement}
 use Rattle.machine.proofs.inplace.run_part.Tie as tie
 
 abbrev Inv-loop : tie.InvT-loop
-Inv-loop sheet list₀ n releases codes₀ slots done₀ list codes done = (done ≤ slots) × (n ≡ sheetIn sheet .count) × (legal (sheetIn sheet) ≡ true) × (legalState (sheetIn sheet) (stateIn list) ≡ true) × (slots * n ≤ length releases) × (slots * n ≤ length codes) × (length list ≡ length list₀) × (length codes ≡ length codes₀) × (course (sheetIn sheet) releases (notBegun accepted (stateIn list₀) codes₀) done ≡ record { done = done; outcome = accepted; state = stateIn list; codes = codes })
+Inv-loop sheet list₀ n releases codes₀ slots done₀ list codes done =
+    (done ≤ slots)
+    × (n ≡ sheetIn sheet .count)
+    × (legal (sheetIn sheet) ≡ true)
+    × (legalState (sheetIn sheet) (stateIn list) ≡ true)
+    × (slots * n ≤ length releases)
+    × (slots * n ≤ length codes)
+    × (length list ≡ length list₀)
+    × (length codes ≡ length codes₀)
+    × (course (sheetIn sheet) releases (notBegun accepted (stateIn list₀) codes₀) done ≡ record { done = done; outcome = accepted; state = stateIn list; codes = codes })
 
 abbrev μ-loop : tie.MeasureT-loop
 μ-loop sheet list₀ n releases codes₀ slots done₀ list codes done = slots - done
@@ -27,35 +36,11 @@ loop-holds c = (search needs, search needs, search needs, search needs, search n
 slot-part-requires : tie.Need-slot-part-requires Inv-loop μ-loop
 slot-part-requires c κs = (search needs, search needs, search needs, search room-for, search room-for)
 
-enum-known-refusal : tie.Need-enum-known-refusal Inv-loop μ-loop
-enum-known-refusal c = search needs
-
-same-length : tie.Need-same-length Inv-loop μ-loop
-same-length c = search needs
-
-same-length-2 : tie.Need-same-length-2 Inv-loop μ-loop
-same-length-2 c = search needs
-
 returns : tie.Need-returns Inv-loop μ-loop
-returns c = (search part-stops, search needs)
-
-enum-told : tie.Need-enum-told Inv-loop μ-loop
-enum-told c = search needs
-
-add-done : tie.Need-add-done Inv-loop μ-loop
-add-done c = search needs
-
-loop-less : tie.Need-loop-less Inv-loop μ-loop
-loop-less c = search needs
+returns c = (search stops, search needs)
 
 loop-again : tie.Need-loop-again Inv-loop μ-loop
-loop-again c = (search needs, search needs, search needs, search needs, search needs, search needs, search needs, search needs, search part-goes-on)
-
-same-length-3 : tie.Need-same-length-3 Inv-loop μ-loop
-same-length-3 c = search needs
-
-same-length-4 : tie.Need-same-length-4 Inv-loop μ-loop
-same-length-4 c = search needs
+loop-again c = (search needs, search needs, search needs, search needs, search needs, search needs, search needs, search needs, search goes-on)
 
 returns-2 : tie.Need-returns-2 Inv-loop μ-loop
 returns-2 c = (search ends, search needs)
@@ -68,14 +53,14 @@ run-part-spec =
     μ-loop
     loop-holds
     slot-part-requires
-    enum-known-refusal
-    same-length
-    same-length-2
+    (λ c. search needs)
+    (λ c. search needs)
+    (λ c. search needs)
     returns
-    enum-told
-    add-done
-    loop-less
+    (λ c. search needs)
+    (λ c. search needs)
+    (λ c. search needs)
     loop-again
-    same-length-3
-    same-length-4
+    (λ c. search needs)
+    (λ c. search needs)
     returns-2)

@@ -1,3 +1,4 @@
+-- `step_rows` meets its promise. Assumes nothing.
 use borrow.Author.Needs.{needs}
 use Prim.Native.Nat.{_≤_, _-_}
 use mathlib.Core.Path.{_≡_, refl}
@@ -13,54 +14,43 @@ use Rattle.machine.specs.Slot.{free, next, code}
 use Rattle.machine.specs.Answers.{given}
 use Rattle.machine.specs.Lists.{stateLong, stateIn, putTo}
 use Rattle.machine.proofs.Held.{legal-in-fits, kept-long}
-use Rattle.machine.proofs.Whole.{all-free, next-codes}
 use Rattle.machine.proofs.Stored.{put-none}
-use Rattle.machine.proofs.Moves.{free-moves, list-moves, codes-move, moves-done}
+use Rattle.machine.proofs.Moves.{all-free, free-moves, list-moves, codes-move, moves-done, codes-done}
 use Rattle.machine.proofs.inplace.step_rows.Statement.{statement}
 use Rattle.machine.proofs.inplace.step_rows.Tie as tie
 
 abbrev Inv-loop : tie.InvT-loop
-Inv-loop sheet list₀ n releases codes₀ f₀ i₀ list codes f i = (n ≡ sheetIn sheet .count) × (i ≤ n) × (n ≤ mostRows) × (sheetLong n ≤ length sheet) × (stateLong n ≤ length list₀) × (legal (sheetIn sheet) ≡ true) × (legalState (sheetIn sheet) (stateIn list₀) ≡ true) × (n ≤ length releases) × (n ≤ length codes₀) × (length list ≡ length list₀) × (length codes ≡ length codes₀) × (f ≡ free (given (sheetIn sheet) (stateIn list₀) releases) i) × (list ≡ putTo i (next (given (sheetIn sheet) (stateIn list₀) releases)) list₀) × (codes ≡ upto i (code (given (sheetIn sheet) (stateIn list₀) releases)) codes₀)
+Inv-loop sheet list₀ n releases codes₀ f₀ i₀ list codes f i =
+    (n ≡ sheetIn sheet .count)
+    × (i ≤ n)
+    × (n ≤ mostRows)
+    × (sheetLong n ≤ length sheet)
+    × (stateLong n ≤ length list₀)
+    × (legal (sheetIn sheet) ≡ true)
+    × (legalState (sheetIn sheet) (stateIn list₀) ≡ true)
+    × (n ≤ length releases)
+    × (n ≤ length codes₀)
+    × (length list ≡ length list₀)
+    × (length codes ≡ length codes₀)
+    × (f ≡ free (given (sheetIn sheet) (stateIn list₀) releases) i)
+    × (list ≡ putTo i (next (given (sheetIn sheet) (stateIn list₀) releases)) list₀)
+    × (codes ≡ upto i (code (given (sheetIn sheet) (stateIn list₀) releases)) codes₀)
 
 abbrev μ-loop : tie.MeasureT-loop
 μ-loop sheet list₀ n releases codes₀ f₀ i₀ list codes f i = n - i
-
-processors-in-requires : tie.Need-processors-in-requires Inv-loop μ-loop
-processors-in-requires c κs = search needs
 
 loop-holds : tie.Need-loop-holds Inv-loop μ-loop
 unfolding upto
 loop-holds c = (search needs, search needs, search legal-in-fits, search legal-sheet-long, search kept-long, search needs, search needs, search needs, search needs, refl, refl, search all-free, search put-none, refl)
 
-mul-step-row : tie.Need-mul-step-row Inv-loop μ-loop
-mul-step-row c = search needs
-
-shared-slice-read-step-row : tie.Need-shared-slice-read-step-row Inv-loop μ-loop
-shared-slice-read-step-row c = search needs
-
 step-row-requires : tie.Need-step-row-requires Inv-loop μ-loop
 step-row-requires c κs = (search needs, search needs, search needs)
-
-slice-write-codes : tie.Need-slice-write-codes Inv-loop μ-loop
-slice-write-codes c = search needs
-
-add-i : tie.Need-add-i Inv-loop μ-loop
-add-i c = search needs
-
-loop-less : tie.Need-loop-less Inv-loop μ-loop
-loop-less c = search needs
 
 loop-again : tie.Need-loop-again Inv-loop μ-loop
 loop-again c = (search needs, search needs, search needs, search needs, search needs, search needs, search needs, search needs, search needs, search needs, search needs, search free-moves, search list-moves, search codes-move)
 
-same-length : tie.Need-same-length Inv-loop μ-loop
-same-length c = search needs
-
-same-length-2 : tie.Need-same-length-2 Inv-loop μ-loop
-same-length-2 c = search needs
-
 returns : tie.Need-returns Inv-loop μ-loop
-returns c = (search moves-done, search next-codes)
+returns c = (search moves-done, search codes-done)
 
 pub step-rows-spec : {M : Type 1} → statement M
 step-rows-spec =
@@ -68,15 +58,15 @@ step-rows-spec =
     (tie.spec
     Inv-loop
     μ-loop
-    processors-in-requires
+    (λ c κs. search needs)
     loop-holds
-    mul-step-row
-    shared-slice-read-step-row
+    (λ c. search needs)
+    (λ c. search needs)
     step-row-requires
-    slice-write-codes
-    add-i
-    loop-less
+    (λ c. search needs)
+    (λ c. search needs)
+    (λ c. search needs)
     loop-again
-    same-length
-    same-length-2
+    (λ c. search needs)
+    (λ c. search needs)
     returns)

@@ -5,18 +5,6 @@ use Rattle.machine.proofs.Boxed.{begin-refused, begin-accepted}
 use Rattle.machine.proofs.lent.begin.Statement.{statement}
 use Rattle.machine.proofs.lent.begin.Tie as tie
 
-fresh-requires : tie.Need-fresh-requires
-fresh-requires c κs = search needs
-
-check-whole-requires : tie.Need-check-whole-requires
-check-whole-requires c κs = search needs
-
-enum-known-refusal : tie.Need-enum-known-refusal
-enum-known-refusal c = search needs
-
-enum-told : tie.Need-enum-told
-enum-told c = search needs
-
 div-slots : tie.Need-div-slots
 div-slots c = search run-rows
 
@@ -30,10 +18,10 @@ pub begin-spec : {M : Type 1} → statement M
 begin-spec =
     tie.close
     (tie.spec
-    fresh-requires
-    check-whole-requires
-    enum-known-refusal
-    enum-told
+    (λ c κs. search needs)
+    (λ c κs. search needs)
+    (λ c. search needs)
+    (λ c. search needs)
     div-slots
     returns
     returns-2)

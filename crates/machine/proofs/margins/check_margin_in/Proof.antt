@@ -1,22 +1,11 @@
-use Rattle.machine.proofs.Checked.{margin-refused, margin-14, margin-in-order}
+-- `check_margin_in` meets its promise. Assumes nothing.
 use borrow.Author.Needs.{needs}
+use Rattle.machine.proofs.Checked.{margin-refused, margin-14, margin-in-order}
 use Rattle.machine.proofs.margins.check_margin_in.Statement.{statement}
 use Rattle.machine.proofs.margins.check_margin_in.Tie as tie
 
-check-state-in-requires : tie.Need-check-state-in-requires
-check-state-in-requires c κs = search needs
-
-enum-known-refusal : tie.Need-enum-known-refusal
-enum-known-refusal c = search needs
-
 returns : tie.Need-returns
 returns c = search margin-refused
-
-enum-told : tie.Need-enum-told
-enum-told c = search needs
-
-rows-in-requires : tie.Need-rows-in-requires
-rows-in-requires c κs = search needs
 
 returns-2 : tie.Need-returns-2
 returns-2 c = search margin-14
@@ -28,10 +17,10 @@ pub check-margin-in-spec : {M : Type 1} → statement M
 check-margin-in-spec =
     tie.close
     (tie.spec
-    check-state-in-requires
-    enum-known-refusal
+    (λ c κs. search needs)
+    (λ c. search needs)
     returns
-    enum-told
-    rows-in-requires
+    (λ c. search needs)
+    (λ c κs. search needs)
     returns-2
     returns-3)

@@ -7,15 +7,6 @@ use Rattle.machine.proofs.margins.margin_of.Tie as tie
 returns : tie.Need-returns
 returns c = search margin-none
 
-add-spent : tie.Need-add-spent
-add-spent c = search needs
-
-cast-margin : tie.Need-cast-margin
-cast-margin c = search needs
-
-cast-margin-2 : tie.Need-cast-margin-2
-cast-margin-2 c = search needs
-
 sub-margin : tie.Need-sub-margin
 sub-margin c = search margin-fits
 
@@ -24,4 +15,4 @@ returns-2 c = search margin-some
 
 pub margin-of-spec : {M : Type 1} → statement M
 margin-of-spec =
-    tie.close (tie.spec returns add-spent cast-margin cast-margin-2 sub-margin returns-2)
+    tie.close (tie.spec returns (λ c. search needs) (λ c. search needs) (λ c. search needs) sub-margin returns-2)

@@ -1,16 +1,8 @@
-use Rattle.machine.proofs.Told.{row-in-array, margin-row-there, margin-record-there, small-deadline, listed-since, listed-remaining, margin-is-refused, listed-margin}
+-- `margin_on` meets its promise. Assumes nothing.
 use borrow.Author.Needs.{needs}
+use Rattle.machine.proofs.Told.{row-in-array, margin-row-there, margin-record-there, small-deadline, listed-since, listed-remaining, margin-is-refused, listed-margin}
 use Rattle.machine.proofs.margins.margin_on.Statement.{statement}
 use Rattle.machine.proofs.margins.margin_on.Tie as tie
-
-check-margin-in-requires : tie.Need-check-margin-in-requires
-check-margin-in-requires c κs = search needs
-
-enum-known-refusal : tie.Need-enum-known-refusal
-enum-known-refusal c = search needs
-
-enum-told : tie.Need-enum-told
-enum-told c = search needs
 
 row-inside-requires : tie.Need-row-inside-requires
 row-inside-requires c κs = (search row-in-array, search margin-row-there)
@@ -31,9 +23,9 @@ pub margin-on-spec : {M : Type 1} → statement M
 margin-on-spec =
     tie.close
     (tie.spec
-    check-margin-in-requires
-    enum-known-refusal
-    enum-told
+    (λ c κs. search needs)
+    (λ c. search needs)
+    (λ c. search needs)
     row-inside-requires
     record-in-requires
     margin-of-requires

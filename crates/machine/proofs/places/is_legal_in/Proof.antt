@@ -1,3 +1,4 @@
+-- `is_legal_in` meets its promise. Assumes nothing.
 use borrow.Author.Needs.{needs}
 use Prim.Native.Nat.{_≤_, _-_}
 use mathlib.Core.Path.{_≡_, refl}
@@ -8,13 +9,21 @@ use Rattle.basis.specs.Words.{allOf}
 use Rattle.sheet.specs.Legal.{legal}
 use Rattle.sheet.specs.Lists.{sheetIn, sheetLong}
 use Rattle.sheet.proofs.Ranges.{legal-sheet-long}
-use Rattle.machine.specs.Lists.{stateLong, stateIn}
+use Rattle.machine.specs.Lists.{stateLong}
 use Rattle.machine.proofs.Held.{legalIn, record-scaled, legal-in-short, legal-in-fits, legal-in-more, legal-in-fails, legal-in-done}
 use Rattle.machine.proofs.places.is_legal_in.Statement.{statement}
 use Rattle.machine.proofs.places.is_legal_in.Tie as tie
 
 abbrev Inv-loop : tie.InvT-loop
-Inv-loop sheet list n long i₀ i = (n ≡ sheetIn sheet .count) × (i ≤ n) × (n ≤ mostRows) × (sheetLong n ≤ length sheet) × (long ≡ stateLong n) × (long ≤ length list) × (legal (sheetIn sheet) ≡ true) × (true ≡ allOf i (legalIn (sheetIn sheet) list))
+Inv-loop sheet list n long i₀ i =
+    (n ≡ sheetIn sheet .count)
+    × (i ≤ n)
+    × (n ≤ mostRows)
+    × (sheetLong n ≤ length sheet)
+    × (long ≡ stateLong n)
+    × (long ≤ length list)
+    × (legal (sheetIn sheet) ≡ true)
+    × (true ≡ allOf i (legalIn (sheetIn sheet) list))
 
 abbrev μ-loop : tie.MeasureT-loop
 μ-loop sheet list n long i₀ i = n - i
@@ -35,23 +44,11 @@ row-inside-requires c κs = (search needs, search needs)
 record-in-requires : tie.Need-record-in-requires Inv-loop μ-loop
 record-in-requires c κs = (search needs, search needs)
 
-is-legal-record-requires : tie.Need-is-legal-record-requires Inv-loop μ-loop
-is-legal-record-requires c κs = search needs
-
-add-i : tie.Need-add-i Inv-loop μ-loop
-add-i c = search needs
-
-loop-less : tie.Need-loop-less Inv-loop μ-loop
-loop-less c = search needs
-
 loop-again : tie.Need-loop-again Inv-loop μ-loop
 loop-again c = (search needs, search needs, search needs, search needs, search needs, search needs, search needs, search legal-in-more)
 
 returns-2 : tie.Need-returns-2 Inv-loop μ-loop
 returns-2 c = search legal-in-fails
-
-is-zero-from-requires : tie.Need-is-zero-from-requires Inv-loop μ-loop
-is-zero-from-requires c κs = search needs
 
 returns-3 : tie.Need-returns-3 Inv-loop μ-loop
 returns-3 c = search legal-in-done
@@ -67,10 +64,10 @@ is-legal-in-spec =
     loop-holds
     row-inside-requires
     record-in-requires
-    is-legal-record-requires
-    add-i
-    loop-less
+    (λ c κs. search needs)
+    (λ c. search needs)
+    (λ c. search needs)
     loop-again
     returns-2
-    is-zero-from-requires
+    (λ c κs. search needs)
     returns-3)

@@ -1,3 +1,4 @@
+-- `state_list` meets its promise. Assumes nothing.
 use borrow.Author.Needs.{needs}
 use Prim.Native.Nat.{_≤_, _-_}
 use mathlib.Core.Path.{_≡_, refl}
@@ -5,14 +6,18 @@ use lib.ListN.{length, replicate}
 use Rattle.basis.specs.Limits.{mostRows}
 use Rattle.machine.specs.States.{recordAt}
 use Rattle.machine.specs.Lists.{stateLong, putTo}
-use Rattle.machine.proofs.Checked.{unmapped}
+use Rattle.sheet.proofs.Cells.{unmapped}
 use Rattle.machine.proofs.Stored.{put-none}
 use Rattle.machine.proofs.Lists.{list-more, state-in-list}
 use Rattle.machine.proofs.places.state_list.Statement.{statement}
 use Rattle.machine.proofs.places.state_list.Tie as tie
 
 abbrev Inv-loop : tie.InvT-loop
-Inv-loop state list₀ i₀ list i = (i ≤ mostRows) × (length list ≡ stateLong mostRows) × (list ≡ putTo i (recordAt state) list₀) × (list₀ ≡ replicate (stateLong mostRows) 0)
+Inv-loop state list₀ i₀ list i =
+    (i ≤ mostRows)
+    × (length list ≡ stateLong mostRows)
+    × (list ≡ putTo i (recordAt state) list₀)
+    × (list₀ ≡ replicate (stateLong mostRows) 0)
 
 abbrev μ-loop : tie.MeasureT-loop
 μ-loop state list₀ i₀ list i = mostRows - i
@@ -20,23 +25,8 @@ abbrev μ-loop : tie.MeasureT-loop
 loop-holds : tie.Need-loop-holds Inv-loop μ-loop
 loop-holds c = (search needs, search needs, search put-none, refl)
 
-mul-s : tie.Need-mul-s Inv-loop μ-loop
-mul-s c = search needs
-
-element-copy-out-s : tie.Need-element-copy-out-s Inv-loop μ-loop
-element-copy-out-s c = search needs
-
-slice-aggregate-put-record : tie.Need-slice-aggregate-put-record Inv-loop μ-loop
-slice-aggregate-put-record c = search needs
-
 put-record-requires : tie.Need-put-record-requires Inv-loop μ-loop
 put-record-requires c κs = (search needs, search needs)
-
-add-i : tie.Need-add-i Inv-loop μ-loop
-add-i c = search needs
-
-loop-less : tie.Need-loop-less Inv-loop μ-loop
-loop-less c = search needs
 
 loop-again : tie.Need-loop-again Inv-loop μ-loop
 loop-again c = (search needs, search needs, search list-more, search needs)
@@ -51,11 +41,11 @@ state-list-spec =
     Inv-loop
     μ-loop
     loop-holds
-    mul-s
-    element-copy-out-s
-    slice-aggregate-put-record
+    (λ c. search needs)
+    (λ c. search needs)
+    (λ c. search needs)
     put-record-requires
-    add-i
-    loop-less
+    (λ c. search needs)
+    (λ c. search needs)
     loop-again
     returns)

@@ -1,3 +1,4 @@
+-- `state_of` meets its promise. Assumes nothing.
 use borrow.Author.Needs.{needs}
 use Prim.Native.Nat.{_≤_, _-_}
 use mathlib.Core.Path.{_≡_, refl}
@@ -15,27 +16,12 @@ Inv-loop list state₀ i₀ state i = (i ≤ mostRows) × (length list ≡ state
 abbrev μ-loop : tie.MeasureT-loop
 μ-loop list state₀ i₀ state i = mostRows - i
 
-zeros-requires : tie.Need-zeros-requires Inv-loop μ-loop
-zeros-requires c κs = search needs
-
 loop-holds : tie.Need-loop-holds Inv-loop μ-loop
 unfolding upto
 loop-holds c = (search needs, search needs, refl)
 
 record-in-requires : tie.Need-record-in-requires Inv-loop μ-loop
 record-in-requires c κs = (search needs, search needs)
-
-mul-s : tie.Need-mul-s Inv-loop μ-loop
-mul-s c = search needs
-
-element-set-from-s : tie.Need-element-set-from-s Inv-loop μ-loop
-element-set-from-s c = search needs
-
-add-i : tie.Need-add-i Inv-loop μ-loop
-add-i c = search needs
-
-loop-less : tie.Need-loop-less Inv-loop μ-loop
-loop-less c = search needs
 
 loop-again : tie.Need-loop-again Inv-loop μ-loop
 loop-again c = (search needs, search needs, search records-more)
@@ -49,12 +35,12 @@ state-of-spec =
     (tie.spec
     Inv-loop
     μ-loop
-    zeros-requires
+    (λ c κs. search needs)
     loop-holds
     record-in-requires
-    mul-s
-    element-set-from-s
-    add-i
-    loop-less
+    (λ c. search needs)
+    (λ c. search needs)
+    (λ c. search needs)
+    (λ c. search needs)
     loop-again
     returns)

@@ -4,12 +4,6 @@ use Rattle.machine.proofs.Records.{age-at, age-else}
 use Rattle.machine.proofs.state.RowState.aged.Statement.{statement}
 use Rattle.machine.proofs.state.RowState.aged.Tie as tie
 
-older-requires : tie.Need-older-requires
-older-requires c κs = search needs
-
-judge-requires : tie.Need-judge-requires
-judge-requires c κs = search needs
-
 returns : tie.Need-returns
 returns c = search age-at
 
@@ -17,4 +11,4 @@ returns-2 : tie.Need-returns-2
 returns-2 c = search age-else
 
 pub aged-spec : {M : Type 1} → statement M
-aged-spec = tie.close (tie.spec older-requires judge-requires returns returns-2)
+aged-spec = tie.close (tie.spec (λ c κs. search needs) (λ c κs. search needs) returns returns-2)

@@ -14,12 +14,9 @@ returns-2 : tie.Need-returns-2
 unfolding placedRow fits freeBelow worked
 returns-2 c = search tests
 
-sub-t11 : tie.Need-sub-t11
-sub-t11 c = search needs
-
 returns-3 : tie.Need-returns-3
 unfolding placedRow fits freeBelow worked
 returns-3 c = search tests
 
 pub placed-spec : {M : Type 1} → statement M
-placed-spec = tie.close (tie.spec returns returns-2 sub-t11 returns-3)
+placed-spec = tie.close (tie.spec returns returns-2 (λ c. search needs) returns-3)

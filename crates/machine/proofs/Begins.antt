@@ -1,0 +1,69 @@
+-- The fresh state in a list: a turn of the loop that writes it, and each way out.
+-- Assumes nothing.
+use Prim.Native.Nat.{ℕ, _+_, _*_, _≤_, _<_}
+use mathlib.Core.Path.{_≡_, refl, sym, ap, ap₂, _∙_}
+use mathlib.Core.Bool.{Bool, true, false}
+use mathlib.Core.List.{List}
+use lib.ListN.{length, set, length-replicate}
+use native.Mathlib.Omega.{arith}
+use borrow.Author.Tests.{le-leb, lt-leb}
+use mir.Syntax.{w64}
+use mir.Val.{Fits}
+use Rattle.basis.specs.Limits.{mostRows}
+use Rattle.basis.specs.Refusals.{accepted, refused}
+use Rattle.basis.specs.Upto.{upto}
+use Rattle.basis.proofs.Upto.{upto-below}
+use Rattle.sheet.specs.Legal.{rowAt, legal}
+use Rattle.sheet.specs.declared.row.Row.{Row}
+use Rattle.sheet.specs.declared.row.Sheet.{Sheet}
+use Rattle.sheet.proofs.Legality.{legal-is}
+use Rattle.sheet.proofs.Filling.{fill-more, length-filled}
+use Rattle.machine.specs.declared.state.RowState.{RowState}
+use Rattle.machine.specs.States.{noRecord, noState, recordAt, freshAt, freshState}
+use Rattle.machine.specs.Answers.{fresh}
+use Rattle.machine.specs.Lists.{recordWide, stateLong, putRecord, putTo, putState, cleared, freshOn}
+use Rattle.machine.proofs.Stored.{put-more, put-agree}
+
+-- the fresh records are those of the fresh state
+pub fresh-put : (h : Sheet) (l : List ℕ) → legal h ≡ true → putTo (h .count) (freshAt h) l ≡ putState (h .count) (freshState h) l
+unfolding putState freshState
+fresh-put h l fine =
+    put-agree (h .count) (freshAt h) (recordAt (freshState h)) l
+    (λ k b. sym (upto-below (h .count) (freshAt h) (noState .rows) noRecord k b (omega (arith, legal-is h fine .most-rows, length-replicate mostRows noRecord))))
+
+-- `clear`
+pub clear-more : (l₀ l : List ℕ) (i : ℕ) → l ≡ upto i (λ k. 0) l₀ → set l i 0 ≡ upto (i + 1) (λ k. 0) l₀
+clear-more l₀ l i so-far = fill-more (λ k. 0) l₀ l i so-far 0 refl
+
+-- `put_fresh`
+abbrev freshRow : Row → RowState
+freshRow row = record { remaining = 0; since = row .separation }
+
+pub fresh-more : (h : Sheet) (l l₀ l′ : List ℕ) (i : ℕ) (row : Row) → l ≡ putTo i (freshAt h) l₀ → row ≡ rowAt h i → l′ ≡ putRecord l i (freshRow row) → l′ ≡ putTo (i + 1) (freshAt h) l₀
+fresh-more h l l₀ l′ i row so-far er e = e ∙ put-more i (freshAt h) l l₀ (freshRow row) so-far (ap freshRow er)
+
+-- `fresh_on`
+module _ (h : Sheet) (l : List ℕ) (fine : Bool) (e : fine ≡ legal h) where
+  pub fresh-on-10 : fine ≡ false → (refused 10 0, l) ≡ freshOn h l
+  unfolding freshOn fresh
+  fresh-on-10 f = rw (sym e ∙ f)
+
+  module _ (f : fine ≡ true) (n : ℕ) (en : n ≡ h .count) where
+    yes : legal h ≡ true
+    yes = sym e ∙ f
+
+    pub fresh-scaled : Fits w64 (n * recordWide)
+    fresh-scaled = record { fits = omega (arith, legal-is h yes .most-rows) }
+
+    pub fresh-on-15 : length l < stateLong n → (refused 15 0, l) ≡ freshOn h l
+    unfolding freshOn fresh
+    fresh-on-15 b = rw (yes, lt-leb (stateLong (h .count)) (length l) (omega arith))
+
+    pub cleared-long : (l₁ : List ℕ) → stateLong n ≤ length l → l₁ ≡ cleared l → stateLong n ≤ length l₁
+    cleared-long l₁ b c = omega (arith, ap length c, length-filled (λ i. 0) l)
+
+    pub fresh-on-written : (l₁ l₂ : List ℕ) → stateLong n ≤ length l → l₁ ≡ cleared l → l₂ ≡ putTo n (freshAt h) l₁ → (accepted, l₂) ≡ freshOn h l
+    unfolding freshOn fresh
+    fresh-on-written l₁ l₂ b c d =
+        let w : l₂ ≡ putState (h .count) (freshState h) (cleared l) = d ∙ ap₂ (λ (m : ℕ) (x : List ℕ). putTo m (freshAt h) x) en c ∙ fresh-put h (cleared l) yes in
+        rw (yes, le-leb (stateLong (h .count)) (length l) (omega arith), w)

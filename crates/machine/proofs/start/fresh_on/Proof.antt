@@ -1,0 +1,20 @@
+-- `fresh_on` meets its promise. Assumes nothing.
+use borrow.Author.Needs.{needs}
+use Rattle.machine.proofs.Moves.{so-legal}
+use Rattle.machine.proofs.Begins.{fresh-scaled, cleared-long, fresh-on-10, fresh-on-15, fresh-on-written}
+use Rattle.machine.proofs.start.fresh_on.Statement.{statement}
+use Rattle.machine.proofs.start.fresh_on.Tie as tie
+
+pub fresh-on-spec : {M : Type 1} → statement M
+fresh-on-spec =
+    tie.close
+    (tie.spec
+    (λ c κs. search needs)
+    (λ c κs. search needs)
+    (λ c. search (needs, fresh-scaled))
+    (λ c. search fresh-on-15)
+    (λ c κs. search needs)
+    (λ c κs. (search needs, search so-legal, search cleared-long))
+    (λ c. search needs)
+    (λ c. search fresh-on-written)
+    (λ c. search fresh-on-10))

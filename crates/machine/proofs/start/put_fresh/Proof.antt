@@ -1,0 +1,43 @@
+-- `put_fresh` meets its promise: the rows so far are fresh. Assumes nothing.
+use borrow.Author.Needs.{needs}
+use Prim.Native.Nat.{_≤_, _-_}
+use mathlib.Core.Path.{_≡_}
+use lib.ListN.{length}
+use Rattle.basis.specs.Limits.{mostRows}
+use Rattle.sheet.specs.Lists.{sheetIn, sheetLong}
+use Rattle.sheet.proofs.Ranges.{legal-sheet-long}
+use Rattle.machine.specs.States.{freshAt}
+use Rattle.machine.specs.Lists.{stateLong, putTo}
+use Rattle.machine.proofs.Held.{legal-in-fits}
+use Rattle.machine.proofs.Stored.{put-none}
+use Rattle.machine.proofs.Moves.{moves-done}
+use Rattle.machine.proofs.Begins.{fresh-more}
+use Rattle.machine.proofs.start.put_fresh.Statement.{statement}
+use Rattle.machine.proofs.start.put_fresh.Tie as tie
+
+abbrev Inv-loop : tie.InvT-loop
+Inv-loop sheet list₀ n i₀ list i =
+    (i ≤ n)
+    × (n ≤ mostRows)
+    × (sheetLong n ≤ length sheet)
+    × (stateLong n ≤ length list₀)
+    × (length list ≡ length list₀)
+    × (list ≡ putTo i (freshAt (sheetIn sheet)) list₀)
+
+abbrev μ-loop : tie.MeasureT-loop
+μ-loop sheet list₀ n i₀ list i = n - i
+
+pub put-fresh-spec : {M : Type 1} → statement M
+put-fresh-spec =
+    tie.close
+    (tie.spec
+    Inv-loop
+    μ-loop
+    (λ c. (search needs, search legal-in-fits, search legal-sheet-long, search needs, search needs, search put-none))
+    (λ c κs. (search needs, search needs))
+    (λ c κs. (search needs, search needs))
+    (λ c. search needs)
+    (λ c. search needs)
+    (λ c. (search needs, search needs, search needs, search needs, search needs, search fresh-more))
+    (λ c. search needs)
+    (λ c. search moves-done))
