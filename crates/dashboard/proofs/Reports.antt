@@ -25,6 +25,7 @@ use Rattle.reader.specs.Answers.{reading, rowsRead}
 use Rattle.reader.specs.Lists.{labelsLong}
 use Rattle.reader.specs.Steps.{partIn}
 use Rattle.reader.proofs.Accepted.{accepted-is-legal, refused-is-no-sheet}
+use Rattle.reader.proofs.Least.{accepted-is-not-shorter}
 use Rattle.reader.proofs.Naming.{no-label}
 use Rattle.bound.specs.Test.{passes}
 use Rattle.bound.specs.Bound.{holds}
@@ -93,6 +94,14 @@ few-read s = go (reading s .0) refl
 
 pub room-for-any : (s list parts results : List ℕ) → length list ≡ sheetLong mostRows → length parts ≡ labelsLong mostRows → length results ≡ resultsLong mostRows → Roomy s list parts results
 room-for-any s list parts results a b d = record { for-rows = omega (arith, few-read s); for-labels = omega (arith, few-read s); for-results = omega arith }
+
+-- and so have small ones for a sheet of few bytes
+pub room-for-few : (s list parts results : List ℕ) → length s < 36 → length list ≡ sheetLong 4 → length parts ≡ labelsLong 4 → length results ≡ resultsLong 4 → Roomy s list parts results
+room-for-few s list parts results h a b d = let few = few-of (reading s .0) refl in record { for-rows = omega (arith, few); for-labels = omega (arith, few); for-results = omega arith }
+  where
+    few-of : (o : Outcome) → reading s .0 ≡ o → reading s .1 .count ≤ 4
+    few-of accepted e = omega (arith, accepted-is-not-shorter s e)
+    few-of (refused k p) e = rw (refused-is-no-sheet s k p e) (omega arith)
 
 -- ---- the reference
 

@@ -18,6 +18,10 @@ use sheet::SHEET_LONG;
 // The sheets of the reference: A to E.
 const FIXED_COUNT: usize = 5;
 
+// A sheet of fewer bytes has no more than few rows, for which small lists do.
+const FEW_BYTES: usize = 36;
+const FEW_ROWS: usize = 4;
+
 // Writes the text of the verdict on some bytes, by lists that have room for their sheet.
 fn write_by(
     bytes: &[u8],
@@ -45,6 +49,12 @@ fn write_by(
 pub fn write_verdict(bytes: &[u8], text: &mut [u8]) -> usize
     ensures { λ r. ⌜ (now (text .exit), r) ≡ written (verdictText (now (bytes .entry))) (now (text .entry)) ⌝ }
 {
+    if bytes.len() < FEW_BYTES {
+        let mut list = [0u64; FEW_ROWS * 4 + 2];
+        let mut parts = [0u64; FEW_ROWS * 2];
+        let mut results = [0u64; FEW_ROWS * 2];
+        return write_by(bytes, text, &mut list, &mut parts, &mut results);
+    }
     let mut list = [0u64; SHEET_LONG];
     let mut parts = [0u64; LABELS_LONG];
     let mut results = [0u64; RESULTS_LONG];
