@@ -68,6 +68,14 @@ rows-long s = go (sheet s 0) refl
         length-append (map rowOf (h .entries)) _ ∙ ap₂ _+_ (length-map (h .entries) rowOf) (length-replicate (mostRows - length (map rowOf (h .entries))) noRow)
         ∙ omega (arith, length-map (h .entries) rowOf)
 
+-- and how many they are
+pub rows-few : (s : List ℕ) → reading s .1 .count ≤ mostRows
+rows-few s = go (sheet s 0) refl
+  where
+    go : (x : Step Held) → sheet s 0 ≡ x → handed x .1 .count ≤ mostRows
+    go (refuse k p) e = omega arith
+    go (ok h n) e = read-is-legal s h n e .most-rows
+
 module _ (s : List ℕ) (o : Outcome) (l b : List ℕ) (e : lists o l b ≡ readInto s (zeros (sheetLong mostRows)) (zeros (labelsLong mostRows))) where
   whole : lists o l b ≡ lists (reading s .0) (filled (sheetCell (reading s .1)) (zeros (sheetLong mostRows))) (filled (labelCell s) (zeros (labelsLong mostRows)))
   whole = e ∙ own-lists (sheetLong mostRows) (labelsLong mostRows) (omega arith) (omega arith) s
