@@ -1,29 +1,29 @@
 -- What each function says, from what its calls say.
 -- Assumes nothing.
-use Prim.Native.Nat.{ℕ, zero, suc, _+_, _-_, _≤_, _<_}
+use Prim.Native.Nat.{ℕ, zero, suc, _+_, _-_, _*_, _^_, _≤_, _<_}
 use mathlib.Core.Path.{_≡_, refl, sym, ap, ap₂, _∙_}
 use mathlib.Core.Bool.{Bool, true, false}
 use mathlib.Core.List.{List, _++_}
 use native.Mathlib.Numerals.{add-one}
 use native.Mathlib.Nat.{le-antisymm, add-sub-cancel-left}
 use native.Mathlib.Omega.{arith}
-use lib.ListN.{getD, take, drop, List·getD-map}
-use denote.Ref.{RefT}
-use Rattle.basis.specs.Limits.{mostRows}
-use Rattle.sheet.specs.Legal.{legal}
-use Rattle.sheet.proofs.Legality.{legal-is}
-use Rattle.reader.proofs.Labelled.{label-at}
-use Rattle.reader.specs.Answers.{shown, part, nowhere, labelIn, labelsIn}
-use Rattle.reader.specs.declared.labels.Part.{Part}
+use lib.ListN.{length, take, drop}
+use mir.Syntax.{w64}
+use mir.Val.{Fits}
+use Rattle.sheet.specs.Lists.{numberAt}
 use Rattle.sheet.specs.declared.row.Sheet.{Sheet}
+use Rattle.reader.specs.Answers.{labelIn}
+use Rattle.reader.specs.Lists.{labelsLong}
+use Rattle.reader.specs.Steps.{partIn}
+use Rattle.reader.specs.declared.row.Part.{Part}
+use Rattle.reader.proofs.Shown.{inside}
 use Rattle.bound.specs.Test.{passes}
-use Rattle.bound.specs.Bound.{Word, unreached, word, wordIn, resultOf, holds, Answer, answer, judged, boundsOf}
-use Rattle.bound.specs.declared.results.Result.{Result}
-use Rattle.bound.specs.declared.results.Result.the-variants.{Unreached, Bound, NoBound}
-use Rattle.bound.specs.declared.results.Results.{Results}
-use Rattle.bound.proofs.Answers as bounds
+use Rattle.bound.specs.Bound.{Word, bound, none, unreached, resultOf, holds}
+use Rattle.bound.specs.Lists.{resultsLong, wordAt}
+use Rattle.bound.proofs.Lists.{unreached-read, bound-read, none-read}
 use Rattle.dashboard.specs.Words.{decimal, boundWord, noneWord, unreachedWord, told, line, holdsLine, failsLine, ending}
-use Rattle.dashboard.specs.Labels.{ownLabel, numbered, labelBy, wordAt}
+use Rattle.dashboard.specs.Labels.{bytesOf, ownLabel, numbered, labelBy}
+use Rattle.dashboard.specs.Ready.{LabelsLie}
 use Rattle.dashboard.specs.declared.line.Labels.{Labels}
 use Rattle.dashboard.specs.declared.line.Labels.the-variants.{Own, Numbered}
 use Rattle.dashboard.specs.Texts.{lines, board}
@@ -32,37 +32,49 @@ use Rattle.dashboard.proofs.Saying.{two-said}
 
 -- ---- a line
 
--- what a part of the bytes shows
-pub cut-shown : (s : RefT (List ℕ)) (p : Part) → ((s .ptr .0, p .start + s .ptr .1), take (p .start + p .long - p .start) (drop (p .start) (s .now))) ≡ part s p
-cut-shown s p = rw add-sub-cancel-left refl
+-- the label that a list shows in the bytes
+module _ (s parts : List ℕ) (i : ℕ) (e : partIn parts i ≡ labelIn s i) where
+  starts : numberAt parts (i * 2) ≡ labelIn s i .start
+  unfolding partIn
+  starts = ap (λ (p : Part). p .start) e
 
--- the label of a row stands at its place among those of all rows
-pub label-taken : (s : List ℕ) (ps : List Part) (i n : ℕ) → n ≤ mostRows → i < n → ps ≡ labelsIn s → getD ps i nowhere ≡ labelIn s i
-label-taken s ps i n h l e = ap (λ (x : List Part). getD x i nowhere) e ∙ label-at s i (omega arith)
+  lasts : numberAt parts (i * 2 + 1) ≡ labelIn s i .long
+  unfolding partIn
+  lasts = ap (λ (p : Part). p .long) e
 
-module _ (p q : Page) (labels : Labels) (s : RefT (List ℕ)) (i : ℕ) where
+  pub label-inside : numberAt parts (i * 2) + numberAt parts (i * 2 + 1) ≤ length s
+  label-inside = omega (arith, starts, lasts, inside s i)
+
+  pub label-ends : length s < 2 ^ 64 → Fits w64 (numberAt parts (i * 2) + numberAt parts (i * 2 + 1))
+  label-ends b = record { fits = omega (arith, label-inside) }
+
+  pub label-cut : take (numberAt parts (i * 2) + numberAt parts (i * 2 + 1) - numberAt parts (i * 2)) (drop (numberAt parts (i * 2)) s) ≡ ownLabel s i
+  unfolding ownLabel
+  label-cut = rw add-sub-cancel-left (ap₂ (λ (a b : ℕ). take b (drop a s)) starts lasts)
+
+module _ (p q : Page) (labels : Labels) (s : List ℕ) (i : ℕ) where
   -- the sheet's own label
-  pub own-said : (r : RefT (List ℕ)) (l : Part) → labels ≡ Own → l ≡ labelIn (s .now) i → shown r ≡ part s l → q ≡ said p (r .now) → q ≡ said p (labelBy labels (s .now) i)
-  unfolding labelBy ownLabel
-  own-said r l h k g e = rw h (e ∙ ap (λ (x : (ℕ × ℕ) × List ℕ). said p (x .1)) (g ∙ ap (part s) k))
+  pub own-said : (l : List ℕ) → labels ≡ Own → l ≡ ownLabel s i → q ≡ said p l → q ≡ said p (labelBy labels s i)
+  unfolding labelBy
+  own-said l h k e = rw h (e ∙ ap (said p) k)
 
   -- or the bytes and the row number
-  pub numbered-said : (r : Page) → labels ≡ Numbered → r ≡ said p (s .now) → q ≡ said r (decimal i) → q ≡ said p (labelBy labels (s .now) i)
+  pub numbered-said : (r : Page) → labels ≡ Numbered → r ≡ said p s → q ≡ said r (decimal i) → q ≡ said p (labelBy labels s i)
   unfolding labelBy numbered
-  numbered-said r h e f = rw h (two-said p r q (s .now) (decimal i) e f)
+  numbered-said r h e f = rw h (two-said p r q s (decimal i) e f)
 
-module _ (p q : Page) (result : Result) where
-  pub unreached-said : result ≡ Unreached → q ≡ said p unreachedWord → q ≡ said p (told (word result))
+module _ (p q : Page) (results : List ℕ) (i : ℕ) where
+  pub unreached-said : numberAt results (i * 2) ≡ 0 → q ≡ said p unreachedWord → q ≡ said p (told (wordAt results i))
   unfolding told
-  unreached-said h e = rw h e
+  unreached-said h e = e ∙ ap (λ (w : Word). said p (told w)) (unreached-read results i h)
 
-  pub none-said : result ≡ NoBound → q ≡ said p noneWord → q ≡ said p (told (word result))
+  pub bound-said : (o : Page) → numberAt results (i * 2) ≡ 1 → o ≡ said p boundWord → q ≡ said o (decimal (numberAt results (i * 2 + 1))) → q ≡ said p (told (wordAt results i))
   unfolding told
-  none-said h e = rw h e
+  bound-said o h e f = two-said p o q boundWord (decimal (numberAt results (i * 2 + 1))) e f ∙ ap (λ (w : Word). said p (told w)) (bound-read results i h)
 
-  pub bound-said : (o : Page) (r : ℕ) → result ≡ Bound r → o ≡ said p boundWord → q ≡ said o (decimal r) → q ≡ said p (told (word result))
+  pub none-said : (numberAt results (i * 2) ≡ 0 → ⊥) → (numberAt results (i * 2) ≡ 1 → ⊥) → q ≡ said p noneWord → q ≡ said p (told (wordAt results i))
   unfolding told
-  bound-said o r h e f = rw h (two-said p o q boundWord (decimal r) e f)
+  none-said a b e = e ∙ ap (λ (w : Word). said p (told w)) (none-read results i a b)
 
 -- the last line
 module _ (p q : Page) (yes : Bool) where
@@ -86,6 +98,16 @@ module _ (p : Page) (label : ℕ → List ℕ) (result : ℕ → Word) where
   pub all-lines : (q : Page) (i n : ℕ) → i ≤ n → n ≤ i → q ≡ said p (lines label result i) → q ≡ said p (lines label result n)
   all-lines q i n h g e = e ∙ ap (λ (k : ℕ). said p (lines label result k)) (le-antisymm h g)
 
+-- a row of n that there is room for
+pub label-room : (parts : List ℕ) (i n : ℕ) → labelsLong n ≤ length parts → i < n → labelsLong (i + 1) ≤ length parts
+label-room parts i n r h = omega arith
+
+pub result-room : (results : List ℕ) (i n : ℕ) → resultsLong n ≤ length results → i < n → resultsLong (i + 1) ≤ length results
+result-room results i n r h = omega arith
+
+pub label-lies : (s parts : List ℕ) (i n : ℕ) → LabelsLie s parts n → i < n → partIn parts i ≡ labelIn s i
+label-lies s parts i n all h = all i h
+
 -- results that agree give the same lines
 lines-same : (label : ℕ → List ℕ) (f g : ℕ → Word) (n : ℕ) → ((i : ℕ) → i < n → f i ≡ g i) → lines label f n ≡ lines label g n
 unfolding lines
@@ -93,21 +115,9 @@ lines-same label f g zero h = refl
 lines-same label f g (suc n) h =
     ap₂ (λ (x : List ℕ) (w : Word). x ++ line n (label n) w) (lines-same label f g n (λ i l. h i (omega arith))) (h n (omega arith))
 
-pub most-lines : (h : Sheet) → legal h ≡ true → h .count ≤ mostRows
-most-lines h fine = legal-is h fine .most-rows
-
-module _ (h : Sheet) (fine : legal h ≡ true) (x : Results) (a : answer x ≡ boundsOf h) where
-  judged-so : answer x ≡ judged passes h
-  judged-so = a ∙ bounds.legal-is-judged passes h fine
-
-  holds-so : x .holds ≡ holds passes h
-  unfolding judged
-  holds-so = ap (λ (y : Answer). y .1) judged-so
-
-  words-so : (i : ℕ) → i < h .count → wordAt (x .rows) i ≡ resultOf passes h i
-  words-so i l = sym (List·getD-map wordIn (x .rows) i (record { result = Unreached })) ∙ ap (λ (y : Answer). getD (y .2) i unreached) a ∙ bounds.told-is passes h fine i l
-
-  pub board-said : (p q r : Page) (label : ℕ → List ℕ) → q ≡ said p (lines label (wordAt (x .rows)) (h .count)) → r ≡ said q (ending (x .holds)) → r ≡ said p (board label h)
-  unfolding board
-  board-said p q r label e f =
-      two-said p q r _ _ (e ∙ ap (said p) (lines-same label (wordAt (x .rows)) (resultOf passes h) (h .count) words-so)) (f ∙ ap (λ (b : Bool). said q (ending b)) holds-so)
+-- and so the text of a sheet
+pub board-is : (h : Sheet) (label : ℕ → List ℕ) (f : ℕ → Word) (n : ℕ) (b : Bool) → n ≡ h .count → ((i : ℕ) → i < h .count → f i ≡ resultOf passes h i) → b ≡ holds passes h
+    → lines label f n ++ ending b ≡ board label h
+unfolding board
+board-is h label f n b en ew eb =
+    ap₂ (λ (k : ℕ) (x : Bool). lines label f k ++ ending x) en eb ∙ ap (λ (x : List ℕ). x ++ ending (holds passes h)) (lines-same label f (resultOf passes h) (h .count) ew)

@@ -1,49 +1,107 @@
 -- The two ways out of a verdict, and the sections of the reference.
 -- Assumes nothing.
-use Prim.Native.Nat.{ℕ, zero, suc, _+_, _≤_, _<_}
-use mathlib.Core.Path.{_≡_, refl, sym, ap, _∙_}
-use mathlib.Core.Bool.{true}
-use mathlib.Core.List.{List}
+use Prim.Native.Nat.{ℕ, zero, suc, _+_, _*_, _≤_, _<_}
+use mathlib.Core.Path.{_≡_, refl, sym, ap, ap₂, _∙_}
+use mathlib.Core.Bool.{Bool, true}
+use mathlib.Core.List.{List, _++_}
 use native.Mathlib.Numerals.{add-one}
 use native.Mathlib.Nat.{le-antisymm}
 use native.Mathlib.Omega.{arith}
+use lib.ListN.{length}
+use Rattle.basis.specs.Limits.{mostRows}
 use Rattle.basis.specs.Words.{allOf}
-use Rattle.basis.specs.Refusals.{Outcome, accepted, outcome}
+use Rattle.basis.specs.Refusals.{Outcome, accepted, refused, outcome}
 use Rattle.basis.specs.declared.refusal.Refusal.{Refusal}
 use Rattle.basis.specs.declared.refusal.Refusal.the-variants.{Accepted, Refused}
+use Rattle.basis.proofs.Lists.{getD-all}
 use Rattle.sheet.specs.Legal.{legalRow, legalAt, legal}
-use Rattle.reader.specs.Answers.{answer, reading}
+use Rattle.sheet.specs.Lists.{filled, sheetIn, sheetCell, sheetLong}
 use Rattle.sheet.specs.declared.row.Sheet.{Sheet}
-use Rattle.reader.specs.declared.reader.Reading.{Reading}
-use Rattle.reader.proofs.Accepted.{accepted-is-legal}
+use Rattle.sheet.proofs.Legality.{legal-is}
+use Rattle.sheet.proofs.Back.{whole-sheet-comes-back}
+use Rattle.sheet.proofs.Filling.{zeros, zeros-long}
+use Rattle.reader.specs.Form.{sheet}
+use Rattle.reader.specs.Answers.{reading, rowsRead}
+use Rattle.reader.specs.Lists.{labelsLong}
+use Rattle.reader.specs.Steps.{partIn}
+use Rattle.reader.proofs.Accepted.{accepted-is-legal, refused-is-no-sheet}
+use Rattle.reader.proofs.Least.{accepted-is-not-shorter}
+use Rattle.reader.proofs.Naming.{no-label}
+use Rattle.bound.specs.Test.{passes}
+use Rattle.bound.specs.Bound.{holds}
 use Rattle.bound.specs.Tables.{fixedSheet}
-use Rattle.dashboard.specs.Words.{newline, noVerdict}
-use Rattle.dashboard.specs.Labels.{labelBy}
+use Rattle.bound.specs.Lists.{resultsLong, resultCell, boundsOn, words, wordAt, judgedBytes}
+use Rattle.bound.specs.declared.results.Judgement.{Judgement}
+use Rattle.bound.proofs.FromBytes.{found, judged-outcome, judged-count, judged-few, judged-labels-long, judged-label, judged-results-long, judged-word, judged-holds}
+use Rattle.bound.proofs.Lists.{legal-is-put, word-there, word-comes-back}
+use Rattle.dashboard.specs.Words.{newline, ending, noVerdict}
+use Rattle.dashboard.specs.Labels.{ownLabel, numbered, labelBy}
+use Rattle.dashboard.specs.Ready.{LabelsLie, Roomy}
 use Rattle.dashboard.specs.declared.line.Labels.the-variants.{Own, Numbered}
-use Rattle.dashboard.specs.Texts.{board, textOf, verdictText, fixedCount, letter, prefix, section, sections, referenceText}
+use Rattle.dashboard.specs.Texts.{lines, board, textOf, verdictText, fixedCount, letter, prefix, section, sections, referenceText}
 use Rattle.dashboard.specs.Pages.{Page, written, said}
+use Rattle.dashboard.proofs.Boards.{board-is}
 use Rattle.dashboard.proofs.Saying.{two-said, three-said, said-is-written}
 
--- ---- a verdict, where the reader has answered r
+-- ---- a verdict, where the bytes were judged
 
-module _ (s : List ℕ) (r : Reading) (e : answer r ≡ reading s) where
-  text-of : (o : Refusal) → r .refusal ≡ o → textOf s (outcome o, r .sheet) ≡ verdictText s
+module _ (s list parts results : List ℕ) (room : Roomy s list parts results) (a : Refusal) (h : Bool) (l b rs : List ℕ) (e : found (outcome a) h l b rs ≡ judgedBytes s list parts results) where
+  told-by-reader : outcome a ≡ reading s .0
+  told-by-reader = judged-outcome s list parts results (outcome a) h l b rs e (room .for-rows) (room .for-labels) (room .for-results)
+
+  text-of : (o : Refusal) → a ≡ o → textOf s (outcome o, reading s .1) ≡ verdictText s
   unfolding verdictText
-  text-of o h = ap (λ (x : Refusal). textOf s (outcome x, r .sheet)) (sym h) ∙ ap (textOf s) e
+  text-of o q = ap (λ (x : Outcome). textOf s (x, reading s .1)) (ap outcome (sym q) ∙ told-by-reader)
 
-  pub verdict-refused : (buffer : List ℕ) (q : Page) (k p : ℕ) → r .refusal ≡ Refused k p → q ≡ said (buffer, 0) (noVerdict k p) → q ≡ written (verdictText s) buffer
-  verdict-refused buffer q k p h f = said-is-written q _ buffer (f ∙ ap (said (buffer, 0)) (text-of (Refused k p) h))
+  pub verdict-refused : (buffer : List ℕ) (q : Page) (k p : ℕ) → a ≡ Refused k p → q ≡ said (buffer, 0) (noVerdict k p) → q ≡ written (verdictText s) buffer
+  verdict-refused buffer q k p g f = said-is-written q _ buffer (f ∙ ap (said (buffer, 0)) (text-of (Refused k p) g))
 
-  pub verdict-accepted : (buffer : List ℕ) (q : Page) → r .refusal ≡ Accepted → q ≡ said (buffer, 0) (board (labelBy Own s) (r .sheet)) → q ≡ written (verdictText s) buffer
-  unfolding labelBy
-  verdict-accepted buffer q h f = said-is-written q _ buffer (f ∙ ap (said (buffer, 0)) (text-of Accepted h))
+  module _ (g : a ≡ Accepted) (n : ℕ) (en : n ≡ sheetIn l .count) where
+    accepts : outcome a ≡ accepted
+    accepts = ap outcome g
 
-  -- what was accepted is legal
-  pub accepted-legal : r .refusal ≡ Accepted → legal (r .sheet) ≡ true
-  accepted-legal h =
-      let yes : reading s .0 ≡ accepted = ap (λ (x : Outcome × Sheet). x .0) (sym e) ∙ ap outcome h in
-      let same : r .sheet ≡ reading s .1 = ap (λ (x : Outcome × Sheet). x .1) e in
-      ap legal same ∙ accepted-is-legal s yes .0
+    count-is : n ≡ reading s .1 .count
+    count-is = en ∙ judged-count s list parts results (outcome a) h l b rs e accepts
+
+    pub few-lines : n ≤ mostRows
+    few-lines = omega (arith, count-is, judged-few s list parts results (outcome a) h l b rs e accepts)
+
+    pub labels-there : labelsLong n ≤ length b
+    labels-there = omega (arith, count-is, judged-labels-long s list parts results (outcome a) h l b rs e accepts)
+
+    pub labels-lie : LabelsLie s b n
+    labels-lie i m = judged-label s list parts results (outcome a) h l b rs e accepts i (omega (arith, count-is))
+
+    pub results-there : resultsLong n ≤ length rs
+    results-there = omega (arith, count-is, judged-results-long s list parts results (outcome a) h l b rs e accepts)
+
+    pub verdict-accepted : (buffer : List ℕ) (q : Page) → q ≡ said (buffer, 0) (lines (labelBy Own s) (wordAt rs) n ++ ending h) → q ≡ written (verdictText s) buffer
+    unfolding labelBy
+    verdict-accepted buffer q f =
+        said-is-written q _ buffer
+        (f
+        ∙ ap (said (buffer, 0))
+        (board-is (reading s .1) (ownLabel s) (wordAt rs) n h count-is (judged-word s list parts results (outcome a) h l b rs e accepts) (judged-holds s list parts results (outcome a) h l b rs e accepts)
+        ∙ text-of Accepted g))
+
+-- lists with room for every row have room for any sheet
+few-read : (s : List ℕ) → reading s .1 .count ≤ mostRows
+few-read s = go (reading s .0) refl
+  where
+    go : (o : Outcome) → reading s .0 ≡ o → reading s .1 .count ≤ mostRows
+    go accepted e = legal-is (reading s .1) (accepted-is-legal s e .0) .most-rows
+    go (refused k p) e = rw (refused-is-no-sheet s k p e) (omega arith)
+
+pub room-for-any : (s list parts results : List ℕ) → length list ≡ sheetLong mostRows → length parts ≡ labelsLong mostRows → length results ≡ resultsLong mostRows → Roomy s list parts results
+room-for-any s list parts results a b d = record { for-rows = omega (arith, few-read s); for-labels = omega (arith, few-read s); for-results = omega arith }
+
+-- and so have small ones for a sheet of few bytes
+pub room-for-few : (s list parts results : List ℕ) → length s < 36 → length list ≡ sheetLong 4 → length parts ≡ labelsLong 4 → length results ≡ resultsLong 4 → Roomy s list parts results
+room-for-few s list parts results h a b d = let few = few-of (reading s .0) refl in record { for-rows = omega (arith, few); for-labels = omega (arith, few); for-results = omega arith }
+  where
+    few-of : (o : Outcome) → reading s .0 ≡ o → reading s .1 .count ≤ 4
+    few-of accepted e = omega (arith, accepted-is-not-shorter s e)
+    few-of (refused k p) e = rw (refused-is-no-sheet s k p e) (omega arith)
 
 -- ---- the reference
 
@@ -57,12 +115,52 @@ fixed-is-legal (suc (suc (suc zero))) l = refl
 fixed-is-legal (suc (suc (suc (suc zero)))) l = refl
 fixed-is-legal (suc (suc (suc (suc (suc i))))) l = absurd (omega arith)
 
-pub fixed-legal : (i : ℕ) (h : Sheet) → i < fixedCount → h ≡ fixedSheet i → legal h ≡ true
-fixed-legal i h l e = ap legal e ∙ fixed-is-legal i l
+-- and have room for every row
+fixed-long : (i : ℕ) → i < fixedCount → length (fixedSheet i .rows) ≡ mostRows
+unfolding fixedSheet
+fixed-long zero l = refl
+fixed-long (suc zero) l = refl
+fixed-long (suc (suc zero)) l = refl
+fixed-long (suc (suc (suc zero))) l = refl
+fixed-long (suc (suc (suc (suc zero)))) l = refl
+fixed-long (suc (suc (suc (suc (suc i))))) l = absurd (omega arith)
 
-pub section-said : (p₀ p₁ p₂ p₃ : Page) (i : ℕ) (h : Sheet) → h ≡ fixedSheet i → p₁ ≡ said p₀ (letter i) → p₂ ≡ said p₁ newline → p₃ ≡ said p₂ (board (labelBy Numbered prefix) h) → p₃ ≡ said p₀ (section i)
-unfolding section labelBy
-section-said p₀ p₁ p₂ p₃ i h k e f g = three-said p₀ p₁ p₂ p₃ (letter i) newline _ e f (rw k at g)
+-- the bytes of the prefix are no sheet, so they have no label
+pub no-labels-lie : (n : ℕ) → LabelsLie prefix (zeros (labelsLong mostRows)) n
+unfolding partIn
+no-labels-lie n i l =
+    ap₂ (λ (x y : ℕ). record { start = x; long = y }) (getD-all (labelsLong mostRows) (i * 2) 0) (getD-all (labelsLong mostRows) (i * 2 + 1) 0)
+    ∙ sym (no-label prefix i (none-read i))
+  where
+    none-read : (j : ℕ) → rowsRead (sheet prefix 0) ≤ j
+    none-read j = ?
+
+-- the lines of a fixed sheet
+module _ (i : ℕ) (i<n : i < fixedCount) (h : Sheet) (eh : h ≡ fixedSheet i) (list : List ℕ) (el : list ≡ filled (sheetCell h) (zeros (sheetLong mostRows))) (r : Judgement) (rs : List ℕ)
+    (e : (outcome (r .refusal), (r .holds, rs)) ≡ boundsOn list (zeros (resultsLong mostRows))) where
+  legal-so : legal h ≡ true
+  legal-so = ap legal eh ∙ fixed-is-legal i i<n
+
+  pub fixed-few : h .count ≤ mostRows
+  fixed-few = legal-is h legal-so .most-rows
+
+  pub fixed-labels : labelsLong (h .count) ≤ labelsLong mostRows
+  fixed-labels = omega (arith, fixed-few)
+
+  handed-so : sheetIn list ≡ h
+  handed-so = ap sheetIn el ∙ whole-sheet-comes-back h (zeros (sheetLong mostRows)) (ap (λ (x : Sheet). length (x .rows)) eh ∙ fixed-long i i<n) (omega (arith, zeros-long (sheetLong mostRows)))
+
+  judged-so : (outcome (r .refusal), (r .holds, rs)) ≡ (accepted, (holds passes h, filled (resultCell (words h)) (zeros (resultsLong mostRows))))
+  judged-so =
+      e ∙ legal-is-put list (zeros (resultsLong mostRows)) (ap legal handed-so ∙ legal-so) (rw handed-so (omega (arith, fixed-few, zeros-long (resultsLong mostRows))))
+      ∙ ap (λ (x : Sheet). (accepted, (holds passes x, filled (resultCell (words x)) (zeros (resultsLong mostRows))))) handed-so
+
+  pub fixed-said : (p q : Page) → q ≡ said p (lines (labelBy Numbered prefix) (wordAt rs) (h .count) ++ ending (r .holds)) → q ≡ said p (board (numbered prefix) (fixedSheet i))
+  fixed-said p q f = ?
+
+pub section-said : (p₀ p₁ p₂ p₃ : Page) (i : ℕ) → p₁ ≡ said p₀ (letter i) → p₂ ≡ said p₁ newline → p₃ ≡ said p₂ (board (numbered prefix) (fixedSheet i)) → p₃ ≡ said p₀ (section i)
+unfolding section
+section-said p₀ p₁ p₂ p₃ i e f g = three-said p₀ p₁ p₂ p₃ (letter i) newline _ e f g
 
 -- the loop over them
 pub no-sections : (p : Page) → p ≡ said p (sections 0)

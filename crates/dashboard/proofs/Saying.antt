@@ -45,6 +45,14 @@ byte-said p q r s i h e f = rw (add-one, take-suc s i 0) (two-said p q r _ _ e f
 pub all-said : (p q : Page) (s : List ℕ) (i : ℕ) → length s ≤ i → q ≡ said p (take i s) → q ≡ said p s
 all-said p q s i h e = e ∙ ap (said p) (take-all i s h)
 
+-- the same where there is room for all of them
+module _ (l₀ s : List ℕ) (at : ℕ) (l : List ℕ) (next i : ℕ) (r : at + length s ≤ length l₀) (long : length l ≡ length l₀) (here : next ≡ at + i) (h : i < length s) where
+  pub byte-inside : next < length l
+  byte-inside = omega arith
+
+  pub byte-put : (b : ℕ) → b ≡ getD s i 0 → _≡_ {A = Page} (l, next) (said (l₀, at) (take i s)) → _≡_ {A = Page} (set l next b, next + 1) (said (l₀, at) (take (i + 1) s))
+  byte-put b eb e = byte-said (l₀, at) (l, next) (set l next b, next + 1) s i h e (room l next b byte-inside ∙ ap (λ (x : ℕ). said (l, next) (x ∷ [])) eb)
+
 -- ---- said from the end of x on
 
 pair : {a a′ : List ℕ} {b b′ : ℕ} → a ≡ a′ → b ≡ b′ → _≡_ {A = Page} (a, b) (a′, b′)

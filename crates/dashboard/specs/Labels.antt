@@ -1,12 +1,9 @@
 -- The labels that stand in the lines.
 use Prim.Native.Nat.{ℕ}
 use mathlib.Core.List.{List, _++_}
-use lib.ListN.{getD, take, drop}
+use lib.ListN.{take, drop}
 use Rattle.reader.specs.Answers.{labelIn}
-use Rattle.reader.specs.declared.labels.Part.{Part}
-use Rattle.bound.specs.Bound.{Word, wordIn}
-use Rattle.bound.specs.declared.results.Result.the-variants.{Unreached}
-use Rattle.bound.specs.declared.results.Judged.{Judged}
+use Rattle.reader.specs.declared.row.Part.{Part}
 use Rattle.dashboard.specs.Words.{decimal}
 use Rattle.dashboard.specs.declared.line.Labels.{Labels}
 use Rattle.dashboard.specs.declared.line.Labels.the-variants.{Own, Numbered}
@@ -27,7 +24,3 @@ numbered s i = s ++ decimal i
 unfoldable pub labelBy : Labels → List ℕ → ℕ → List ℕ
 labelBy Own = ownLabel
 labelBy Numbered = numbered
-
--- The result at place i of the code's array.
-abbrev pub wordAt : List Judged → ℕ → Word
-wordAt rows i = wordIn (getD rows i (record { result = Unreached }))

@@ -1,5 +1,6 @@
 pub mod Words
 pub mod Labels
+pub mod Ready
 pub mod Texts
 pub mod Pages
 pub mod Longest

@@ -1,58 +1,56 @@
 // The lines of a whole sheet.
 ghost use mathlib.Core.Path.{_≡_};
-ghost use mathlib.Core.Bool.{true};
+ghost use mathlib.Core.List.{_++_};
 ghost use Prim.Native.Nat.{_≤_};
+ghost use lib.ListN.{length};
 ghost use Rattle.basis.specs.Limits.{mostRows};
-ghost use Rattle.sheet.specs.Legal.{legal};
-ghost use Rattle.dashboard.specs.Texts.{lines, board};
-ghost use Rattle.dashboard.specs.Labels.{labelBy, wordAt};
+ghost use Rattle.reader.specs.Lists.{labelsLong};
+ghost use Rattle.bound.specs.Lists.{resultsLong, wordAt};
+ghost use Rattle.dashboard.specs.Words.{ending};
+ghost use Rattle.dashboard.specs.Texts.{lines};
+ghost use Rattle.dashboard.specs.Labels.{labelBy};
+ghost use Rattle.dashboard.specs.Ready.{LabelsLie};
 ghost use Rattle.dashboard.specs.Pages.{said};
 use crate::line::Labels;
 use crate::line::put_ending;
 use crate::line::put_line;
-use basis::MOST_ROWS;
-use bound::Judged;
-use sheet::Sheet;
 
-// A line for each of the first rows; the bytes are read once for all labels.
+// A line for each of the first rows.
 fn put_lines(
     text: &mut [u8],
     at: usize,
     labels: Labels,
     bytes: &[u8],
-    rows: [Judged; MOST_ROWS],
+    parts: &[u64],
+    results: &[u64],
     count: usize,
 ) -> usize
-    requires { ⌜ count ≤ mostRows ⌝ }
-    ensures { λ r. ⌜ (now (text .exit), r) ≡ said (now (text .entry), at) (lines (labelBy labels (now (bytes .entry))) (wordAt rows) count) ⌝ }
+    requires { ⌜ (count ≤ mostRows) × (labelsLong count ≤ length (now parts)) × (LabelsLie (now bytes) (now parts) count) × (resultsLong count ≤ length (now results)) ⌝ }
+    ensures { λ r. ⌜ (now (text .exit), r) ≡ said (now (text .entry), at) (lines (labelBy labels (now (bytes .entry))) (wordAt (now (results .entry))) count) ⌝ }
 {
-    let own = reader::label_parts(bytes);
-    let parts = own.parts;
     let mut next = at;
     let mut i: usize = 0;
     while i < count {
-        let label = parts[i];
-        let judged = rows[i];
-        let result = judged.result;
-        next = put_line(text, next, labels, bytes, label, i, result);
+        next = put_line(text, next, labels, bytes, parts, results, i);
         i = i + 1;
     }
     next
 }
 
-// A line for each row of a legal sheet, then HOLDS or FAILS.
+// A line for each row, then HOLDS or FAILS.
 pub(crate) fn put_board(
     text: &mut [u8],
     at: usize,
     labels: Labels,
     bytes: &[u8],
-    sheet: Sheet,
+    parts: &[u64],
+    results: &[u64],
+    count: usize,
+    holds: bool,
 ) -> usize
-    requires { ⌜ legal sheet ≡ true ⌝ }
-    ensures { λ r. ⌜ (now (text .exit), r) ≡ said (now (text .entry), at) (board (labelBy labels (now (bytes .entry))) sheet) ⌝ }
+    requires { ⌜ (count ≤ mostRows) × (labelsLong count ≤ length (now parts)) × (LabelsLie (now bytes) (now parts) count) × (resultsLong count ≤ length (now results)) ⌝ }
+    ensures { λ r. ⌜ (now (text .exit), r) ≡ said (now (text .entry), at) (lines (labelBy labels (now (bytes .entry))) (wordAt (now (results .entry))) count ++ ending holds) ⌝ }
 {
-    let results = bound::bounds(sheet);
-    let rows = results.rows;
-    let next = put_lines(text, at, labels, bytes, rows, sheet.count as usize);
-    put_ending(text, next, results.holds)
+    let next = put_lines(text, at, labels, bytes, parts, results, count);
+    put_ending(text, next, holds)
 }

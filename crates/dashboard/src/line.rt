@@ -1,17 +1,18 @@
 // The lines of a verdict: a row's, the last one, and that of a refused sheet.
 ghost use mathlib.Core.Path.{_≡_};
-ghost use Prim.Native.Nat.{_+_, _≤_};
+ghost use Prim.Native.Nat.{_+_, _≤_, _<_};
 ghost use lib.ListN.{length};
-ghost use Rattle.reader.specs.Answers.{shown, part, labelIn};
-ghost use Rattle.bound.specs.Bound.{word};
+ghost use Rattle.basis.specs.Limits.{mostRows};
+ghost use Rattle.reader.specs.Answers.{labelIn};
+ghost use Rattle.reader.specs.Lists.{labelsLong};
+ghost use Rattle.reader.specs.Steps.{partIn};
+ghost use Rattle.bound.specs.Lists.{resultsLong, wordAt};
 ghost use Rattle.dashboard.specs.Words.{told, head, line, ending, refusedBy, noVerdict};
-ghost use Rattle.dashboard.specs.Labels.{labelBy};
+ghost use Rattle.dashboard.specs.Labels.{ownLabel, labelBy};
 ghost use Rattle.dashboard.specs.Pages.{said};
 use crate::page::put;
 use crate::page::put_bytes;
 use crate::page::put_number;
-use bound::Result;
-use reader::Part;
 
 // Where the labels of the rows come from.
 pub enum Labels {
@@ -21,30 +22,30 @@ pub enum Labels {
     Numbered,
 }
 
-// A label, shown in the bytes themselves.
-fn cut(bytes: &[u8], label: Part) -> &[u8]
-    requires { ⌜ label .start + label .long ≤ length (now bytes) ⌝ }
-    ensures { λ r. ⌜ shown r ≡ part (bytes .entry) label ⌝ }
+// The label of a row, of which a list says where it lies, shown in the bytes themselves.
+fn cut<'a, 'b>(bytes: &'a [u8], parts: &'b [u64], row: usize) -> &'a [u8]
+    requires { ⌜ (row < mostRows) × (labelsLong (row + 1) ≤ length (now parts)) × (partIn (now parts) row ≡ labelIn (now bytes) row) ⌝ }
+    ensures { λ r. ⌜ now r ≡ ownLabel (now (bytes .entry)) row ⌝ }
 {
-    let start = label.start;
-    let end = start + label.long;
+    let start = parts[row * 2] as usize;
+    let end = start + parts[row * 2 + 1] as usize;
     &bytes[start..end]
 }
 
-// The label of a row; the part is where the bytes, read as a sheet, have it.
+// The label of a row; a list says where the bytes, read as a sheet, have it.
 fn put_label(
     text: &mut [u8],
     at: usize,
     labels: Labels,
     bytes: &[u8],
-    label: Part,
+    parts: &[u64],
     row: usize,
 ) -> usize
-    requires { ⌜ label ≡ labelIn (now bytes) row ⌝ }
+    requires { ⌜ (row < mostRows) × (labelsLong (row + 1) ≤ length (now parts)) × (partIn (now parts) row ≡ labelIn (now bytes) row) ⌝ }
     ensures { λ r. ⌜ (now (text .exit), r) ≡ said (now (text .entry), at) (labelBy labels (now (bytes .entry)) row) ⌝ }
 {
     match labels {
-        Labels::Own => put_bytes(text, at, cut(bytes, label)),
+        Labels::Own => put_bytes(text, at, cut(bytes, parts, row)),
         Labels::Numbered => {
             let next = put_bytes(text, at, bytes);
             put_number(text, next, row as u64)
@@ -58,30 +59,32 @@ fn put_head(
     at: usize,
     labels: Labels,
     bytes: &[u8],
-    label: Part,
+    parts: &[u64],
     row: usize,
 ) -> usize
-    requires { ⌜ label ≡ labelIn (now bytes) row ⌝ }
+    requires { ⌜ (row < mostRows) × (labelsLong (row + 1) ≤ length (now parts)) × (partIn (now parts) row ≡ labelIn (now bytes) row) ⌝ }
     ensures { λ r. ⌜ (now (text .exit), r) ≡ said (now (text .entry), at) (head row (labelBy labels (now (bytes .entry)) row)) ⌝ }
 {
     let a = put_number(text, at, row as u64);
     let b = put(text, a, b' ');
-    let c = put_label(text, b, labels, bytes, label, row);
+    let c = put_label(text, b, labels, bytes, parts, row);
     put(text, c, b' ')
 }
 
-// The word of a result, and the bound or a dash.
-fn put_result(text: &mut [u8], at: usize, result: Result) -> usize
-    ensures { λ r. ⌜ (now (text .exit), r) ≡ said (now (text .entry), at) (told (word result)) ⌝ }
+// The word of a row's result in a list, and the bound or a dash.
+fn put_result(text: &mut [u8], at: usize, results: &[u64], row: usize) -> usize
+    requires { ⌜ (row < mostRows) × (resultsLong (row + 1) ≤ length (now results)) ⌝ }
+    ensures { λ r. ⌜ (now (text .exit), r) ≡ said (now (text .entry), at) (told (wordAt (now (results .entry)) row)) ⌝ }
 {
-    match result {
-        Result::Unreached => put_bytes(text, at, b"unreached -"),
-        Result::Bound(bound) => {
-            let next = put_bytes(text, at, b"bound ");
-            put_number(text, next, bound)
-        }
-        Result::NoBound => put_bytes(text, at, b"none -"),
+    let word = results[row * 2];
+    if word == 0 {
+        return put_bytes(text, at, b"unreached -");
     }
+    if word == 1 {
+        let next = put_bytes(text, at, b"bound ");
+        return put_number(text, next, results[row * 2 + 1]);
+    }
+    put_bytes(text, at, b"none -")
 }
 
 // The line of a row.
@@ -90,15 +93,15 @@ pub(crate) fn put_line(
     at: usize,
     labels: Labels,
     bytes: &[u8],
-    label: Part,
+    parts: &[u64],
+    results: &[u64],
     row: usize,
-    result: Result,
 ) -> usize
-    requires { ⌜ label ≡ labelIn (now bytes) row ⌝ }
-    ensures { λ r. ⌜ (now (text .exit), r) ≡ said (now (text .entry), at) (line row (labelBy labels (now (bytes .entry)) row) (word result)) ⌝ }
+    requires { ⌜ (row < mostRows) × (labelsLong (row + 1) ≤ length (now parts)) × (partIn (now parts) row ≡ labelIn (now bytes) row) × (resultsLong (row + 1) ≤ length (now results)) ⌝ }
+    ensures { λ r. ⌜ (now (text .exit), r) ≡ said (now (text .entry), at) (line row (labelBy labels (now (bytes .entry)) row) (wordAt (now (results .entry)) row)) ⌝ }
 {
-    let a = put_head(text, at, labels, bytes, label, row);
-    let b = put_result(text, a, result);
+    let a = put_head(text, at, labels, bytes, parts, row);
+    let b = put_result(text, a, results, row);
     put(text, b, b'\n')
 }
 

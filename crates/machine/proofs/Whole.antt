@@ -6,6 +6,7 @@ use mathlib.Core.Bool.{Bool, true, false}
 use mathlib.Core.List.{List}
 use lib.ListN.{length, getD}
 use lib.Dec.{eqb}
+use native.Mathlib.Nat.{le-refl}
 use native.Mathlib.Omega.{arith}
 use Rattle.basis.specs.Limits.{mostRows}
 use Rattle.basis.specs.Words.{pick, both}
@@ -89,15 +90,15 @@ module _ (h : Sheet) (t : State) (rel cs : List ℕ) (held : h .count ≤ length
   state-is =
       ap stateOf
       (upto-agree (h .count) (agedRecord h (workedState h t rel) (codesSoFar h t rel cs)) (next (given h t rel)) (workedState h t rel .rows) (λ k l. ap (λ (x : Aged). x .after) (aged-at k l))
-      ∙ upto-over (h .count) (h .count) (next (given h t rel)) (placedRecord h (begunState h t rel)) (begunState h t rel .rows) noRecord (omega arith) (rw length-upto held)
-      ∙ upto-over (h .count) (h .count) (next (given h t rel)) (releasedAt t rel) (t .rows) noRecord (omega arith) held)
+      ∙ upto-over (h .count) (h .count) (next (given h t rel)) (placedRecord h (begunState h t rel)) (begunState h t rel .rows) noRecord (le-refl (h .count)) (rw length-upto held)
+      ∙ upto-over (h .count) (h .count) (next (given h t rel)) (releasedAt t rel) (t .rows) noRecord (le-refl (h .count)) held)
 
   codes-are : agedCodes h (workedState h t rel) (codesSoFar h t rel cs) ≡ nextCodes h t rel cs
   unfolding agedCodes placedCodes nextCodes given
   codes-are =
       upto-agree (h .count) (agedCode h (workedState h t rel) (codesSoFar h t rel cs)) (code (given h t rel)) (codesSoFar h t rel cs)
       (λ k l. ap (λ (x : Aged). x .code) (aged-at k l) ∙ row-code (free (given h t rel) k) (rowAt h k) (begun (given h t rel) k))
-      ∙ upto-over (h .count) (h .count) (code (given h t rel)) (placedCode h (begunState h t rel)) cs 0 (omega arith) room
+      ∙ upto-over (h .count) (h .count) (code (given h t rel)) (placedCode h (begunState h t rel)) cs 0 (le-refl (h .count)) room
 
 -- what the three methods give, one after another
 module _ (h : Sheet) (t : State) (rel cs : List ℕ) (u v : State) (ds : List ℕ) (held : length (t .rows) ≡ mostRows) (some : h .count ≤ mostRows) (room : h .count ≤ length cs)

@@ -10,7 +10,7 @@ use native.Mathlib.Nat.{not-suc-le-zero, le-of-suc-le-suc}
 use lib.ListN.{length, getD, length-map, List·getD-append, List·getD-eq-default, getD-replicate, length-replicate}
 use lib.Seq.{getD-append-add}
 use Rattle.basis.specs.Limits.{mostProcessors, mostRows, mostSeparation}
-use Rattle.basis.specs.Refusals.{accepted}
+use Rattle.basis.specs.Refusals.{accepted, refused}
 use Rattle.basis.specs.Readers.{Step, ok, refuse}
 use Rattle.basis.proofs.Steps.{after-ok, ok-same}
 use Rattle.basis.proofs.Words.{lt-or-le}
@@ -18,7 +18,7 @@ use Rattle.numbers.specs.Numbers.{upTo}
 use Rattle.numbers.proofs.Bounds.{bounded}
 use Rattle.reader.specs.Form.{Entry, Held, rowOf, label, entry, entries, sheet}
 use Rattle.sheet.specs.Legal.{noRow, rowAt, legal, ZeroPast, LegalRow, Legal}
-use Rattle.sheet.specs.Values.{noRows, padded}
+use Rattle.sheet.specs.Values.{noRows, padded, noSheet}
 use Rattle.reader.specs.Answers.{sheetOf, handed, reading}
 use Rattle.sheet.specs.declared.row.Row.{Row}
 use Rattle.reader.proofs.Found.{whole}
@@ -104,3 +104,11 @@ accepted-is-legal s e = go (sheet s 0) refl e
     go : (x : Step Held) → sheet s 0 ≡ x → handed x .0 ≡ accepted → (legal (handed x .1) ≡ true) × ZeroPast (handed x .1)
     go (ok h n) q f = (legal-says (sheetOf h) (read-is-legal s h n q), zero-past h)
     go (refuse k p) q f = let z : _≡_ {A = ℕ} 0 1 = cc in absurd (omega arith)
+
+-- beside a refusal stands no sheet
+pub refused-is-no-sheet : (s : List ℕ) (k p : ℕ) → reading s .0 ≡ refused k p → reading s .1 ≡ noSheet
+refused-is-no-sheet s k p e = go (sheet s 0) e
+  where
+    go : (x : Step Held) → handed x .0 ≡ refused k p → handed x .1 ≡ noSheet
+    go (ok h n) f = let z : _≡_ {A = ℕ} 0 1 = cc in absurd (omega arith)
+    go (refuse j q) f = refl

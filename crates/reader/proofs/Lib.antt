@@ -6,6 +6,7 @@ pub mod Entries
 pub mod Found
 pub mod Handing
 pub mod Heads
+pub mod Least
 pub mod Lying
 pub mod Naming
 pub mod Owned

@@ -17,7 +17,7 @@ use Rattle.reader.specs.declared.row.Part.{Part}
 use Rattle.reader.proofs.Naming.{label-of-row, no-label}
 
 -- a label lies within the bytes
-inside : (s : List ℕ) (i : ℕ) → labelIn s i .start + labelIn s i .long ≤ length s
+pub inside : (s : List ℕ) (i : ℕ) → labelIn s i .start + labelIn s i .long ≤ length s
 inside s i = ⊎-elim (λ l. label-of-row s i l .inside) (λ l. rw (no-label s i l) (omega arith)) (lt-or-le i (rowsRead (sheet s 0)))
 
 module _ (s : RefT (List ℕ)) (i : ℕ) (p : Part) (e : p ≡ labelIn (s .now) i) where

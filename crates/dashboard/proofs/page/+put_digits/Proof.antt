@@ -1,15 +1,15 @@
--- `put_number` meets its promise, by recursion on the number: one digit, or those before the last and the last. Assumes nothing.
+-- `put_digits` meets its promise, by recursion on the number: one digit, or those before the last and the last. Assumes nothing.
 use Prim.Native.Nat.{ℕ, _<_}
 use borrow.Author.Needs.{needs}
 use borrow.Fn.Kinds.{In}
 use borrow.Fn.PlainCycle.{Measures, is, falls, and}
 use Rattle.dashboard.proofs.Decimals.{digit-said, digits-said}
-use Rattle.dashboard.proofs.page.put_number.Reads as own
-use Rattle.dashboard.proofs.page.put_number.Kinds as kinds
-use Rattle.dashboard.proofs.page.+put_number.Lts-put_number as lts
+use Rattle.dashboard.proofs.page.put_digits.Reads as own
+use Rattle.dashboard.proofs.page.put_digits.Kinds as kinds
+use Rattle.dashboard.proofs.page.+put_digits.Lts-put_digits as lts
 use Rattle.dashboard.proofs.page.put.Reads as put-reads
-use Rattle.dashboard.proofs.page.+put_number.{statement}
-use Rattle.dashboard.proofs.page.+put_number.Tie.{close}
+use Rattle.dashboard.proofs.page.+put_digits.{statement}
+use Rattle.dashboard.proofs.page.+put_digits.Tie.{close}
 
 abbrev μ : Measures 1 kinds.ps ℕ
 μ κs a = a .1 .1 .0
@@ -35,8 +35,8 @@ same-length t c = search needs
 returns : (t : ℕ) → lts.Need-returns (put-reads.Asked, put-reads.Learnt, below t, own.Post) (at t) own.Post
 returns t c = search digit-said
 
-put-number-requires : (t : ℕ) → lts.Need-put-number-requires (put-reads.Asked, put-reads.Learnt, below t, own.Post) (at t) own.Post
-put-number-requires t c κs = search needs
+put-digits-requires : (t : ℕ) → lts.Need-put-digits-requires (put-reads.Asked, put-reads.Learnt, below t, own.Post) (at t) own.Post
+put-digits-requires t c κs = search needs
 
 cast-put-2 : (t : ℕ) → lts.Need-cast-put-2 (put-reads.Asked, put-reads.Learnt, below t, own.Post) (at t) own.Post
 cast-put-2 t c = search needs
@@ -53,8 +53,8 @@ same-length-2 t c = search needs
 returns-2 : (t : ℕ) → lts.Need-returns-2 (put-reads.Asked, put-reads.Learnt, below t, own.Post) (at t) own.Post
 returns-2 t c = search digits-said
 
-pub +put-number-spec : {M : Type 1} → statement M
-+put-number-spec =
+pub +put-digits-spec : {M : Type 1} → statement M
++put-digits-spec =
     close μ λ t.
     lts.spec (put-reads.Asked, put-reads.Learnt, below t, own.Post) (at t) own.Post
     (cast-put t)
@@ -62,7 +62,7 @@ pub +put-number-spec : {M : Type 1} → statement M
     (put-requires t)
     (same-length t)
     (returns t)
-    (put-number-requires t)
+    (put-digits-requires t)
     (cast-put-2 t)
     (add-put-2 t)
     (put-requires-2 t)
