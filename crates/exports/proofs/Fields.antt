@@ -35,9 +35,10 @@ module _ (s list : List ℕ) (r : Refusal) (l b : List ℕ) (e : lists (outcome 
   read-outcome : outcome r ≡ orElse (reading s .0) room
   unfolding readInto intoLists room
   read-outcome =
-      ap (λ (x : Lists). x .0) e ∙ handed-outcome _ _ _
-      ∙ simp (le-leb (labelsLong (reading s .1 .count)) (length (zeros (labelsLong mostRows))) (omega (arith, rows-few s, zeros-long (labelsLong mostRows))))
-      (ap (orElse (reading s .0)) (or-nothing (roomFor (sheetLong (reading s .1 .count)) (length list))))
+      let labels : Outcome = roomFor (labelsLong (reading s .1 .count)) (length (zeros (labelsLong mostRows))) in
+      let enough : labels ≡ accepted = simp (le-leb (labelsLong (reading s .1 .count)) (length (zeros (labelsLong mostRows))) (omega (arith, rows-few s, zeros-long (labelsLong mostRows)))) in
+      ap (λ (x : Lists). x .0) e ∙ handed-outcome _ _ (orElse (reading s .0) (orElse room labels)) ∙ ap (λ (x : Outcome). orElse (reading s .0) (orElse room x)) enough
+      ∙ ap (λ (x : Outcome). orElse (reading s .0) x) (or-nothing room)
 
   pub fields-refused : (k p : ℕ) → r ≡ Refused k p → (t : ℕ × ℕ) → t ≡ (k, p) → (t, l) ≡ readIn s list
   unfolding readIn fieldsIn room
@@ -86,8 +87,26 @@ module _ (s : List ℕ) (r : Refusal) (l b : List ℕ) (e : lists (outcome r) l 
     label-past found t m f = rw (f, sym outcome-is ∙ ap outcome q, le-ltb row (reading s .1 .count) (omega (arith, count-is)))
 
     module _ (m : row < n) where
-      pub label-row-there : row < mostRows
-      label-row-there = omega (arith, count-is, rows-few s)
+      few : row < mostRows
+      few = omega (arith, count-is, rows-few s)
+
+      pub start-fits : Fits w64 (row * 2)
+      start-fits = record { fits = omega (arith, few) }
+
+      pub long-fits : Fits w64 (row * 2 + 1)
+      long-fits = record { fits = omega (arith, few) }
+
+      pub start-scaled : Fits w64 (row * 2 * 8)
+      start-scaled = record { fits = omega (arith, few) }
+
+      pub long-scaled : Fits w64 ((row * 2 + 1) * 8)
+      long-scaled = record { fits = omega (arith, few) }
+
+      pub start-inside : row * 2 < labelsLong mostRows
+      start-inside = omega (arith, few)
+
+      pub long-inside : row * 2 + 1 < labelsLong mostRows
+      long-inside = omega (arith, few)
 
       pub label-there : (found t : ℕ × ℕ) → t ≡ (0, 0) → (t, (numberAt b (row * 2), numberAt b (row * 2 + 1))) ≡ labelAnswer s row found
       unfolding labelAnswer partIn
