@@ -9,6 +9,8 @@ use native.Mathlib.Nat.{le-antisymm}
 use native.Mathlib.Omega.{arith}
 use lib.ListN.{length}
 use Rattle.basis.specs.Limits.{mostRows}
+use Rattle.basis.specs.Readers.{begins}
+use Rattle.basis.specs.Upto.{upto}
 use Rattle.basis.specs.Words.{allOf}
 use Rattle.basis.specs.Refusals.{Outcome, accepted, refused, outcome}
 use Rattle.basis.specs.declared.refusal.Refusal.{Refusal}
@@ -20,15 +22,15 @@ use Rattle.sheet.specs.declared.row.Sheet.{Sheet}
 use Rattle.sheet.proofs.Legality.{legal-is}
 use Rattle.sheet.proofs.Back.{whole-sheet-comes-back}
 use Rattle.sheet.proofs.Filling.{zeros, zeros-long}
-use Rattle.reader.specs.Form.{sheet}
-use Rattle.reader.specs.Answers.{reading, rowsRead}
+use Rattle.reader.specs.Form.{head, sheet}
+use Rattle.reader.specs.Answers.{reading}
 use Rattle.reader.specs.Lists.{labelsLong}
 use Rattle.reader.specs.Steps.{partIn}
 use Rattle.reader.proofs.Accepted.{accepted-is-legal, refused-is-no-sheet}
 use Rattle.reader.proofs.Least.{accepted-is-not-shorter}
 use Rattle.reader.proofs.Naming.{no-label}
 use Rattle.bound.specs.Test.{passes}
-use Rattle.bound.specs.Bound.{holds}
+use Rattle.bound.specs.Bound.{resultOf, holds}
 use Rattle.bound.specs.Tables.{fixedSheet}
 use Rattle.bound.specs.Lists.{resultsLong, resultCell, boundsOn, words, wordAt, judgedBytes}
 use Rattle.bound.specs.declared.results.Judgement.{Judgement}
@@ -127,17 +129,13 @@ fixed-long (suc (suc (suc (suc (suc i))))) l = absurd (omega arith)
 
 -- the bytes of the prefix are no sheet, so they have no label
 pub no-labels-lie : (n : ℕ) → LabelsLie prefix (zeros (labelsLong mostRows)) n
-unfolding partIn
+unfolding partIn sheet head begins
 no-labels-lie n i l =
     ap₂ (λ (x y : ℕ). record { start = x; long = y }) (getD-all (labelsLong mostRows) (i * 2) 0) (getD-all (labelsLong mostRows) (i * 2 + 1) 0)
-    ∙ sym (no-label prefix i (none-read i))
-  where
-    none-read : (j : ℕ) → rowsRead (sheet prefix 0) ≤ j
-    none-read j = ?
+    ∙ sym (no-label prefix i (omega arith))
 
--- the lines of a fixed sheet
-module _ (i : ℕ) (i<n : i < fixedCount) (h : Sheet) (eh : h ≡ fixedSheet i) (list : List ℕ) (el : list ≡ filled (sheetCell h) (zeros (sheetLong mostRows))) (r : Judgement) (rs : List ℕ)
-    (e : (outcome (r .refusal), (r .holds, rs)) ≡ boundsOn list (zeros (resultsLong mostRows))) where
+-- a fixed sheet
+module _ (i : ℕ) (i<n : i < fixedCount) (h : Sheet) (eh : h ≡ fixedSheet i) where
   legal-so : legal h ≡ true
   legal-so = ap legal eh ∙ fixed-is-legal i i<n
 
@@ -147,16 +145,34 @@ module _ (i : ℕ) (i<n : i < fixedCount) (h : Sheet) (eh : h ≡ fixedSheet i) 
   pub fixed-labels : labelsLong (h .count) ≤ labelsLong mostRows
   fixed-labels = omega (arith, fixed-few)
 
+  pub fixed-results : (rs : List ℕ) → length rs ≡ resultsLong mostRows → resultsLong (h .count) ≤ length rs
+  fixed-results rs e = omega (arith, fixed-few)
+
+-- its lines
+module _ (i : ℕ) (i<n : i < fixedCount) (h : Sheet) (eh : h ≡ fixedSheet i) (list : List ℕ) (el : list ≡ filled (sheetCell h) (zeros (sheetLong mostRows))) (r : Judgement) (rs : List ℕ)
+    (e : (outcome (r .refusal), (r .holds, rs)) ≡ boundsOn list (zeros (resultsLong mostRows))) where
   handed-so : sheetIn list ≡ h
   handed-so = ap sheetIn el ∙ whole-sheet-comes-back h (zeros (sheetLong mostRows)) (ap (λ (x : Sheet). length (x .rows)) eh ∙ fixed-long i i<n) (omega (arith, zeros-long (sheetLong mostRows)))
 
-  judged-so : (outcome (r .refusal), (r .holds, rs)) ≡ (accepted, (holds passes h, filled (resultCell (words h)) (zeros (resultsLong mostRows))))
+  judged-so : _≡_ {A = Outcome × (Bool × List ℕ)} (outcome (r .refusal), (r .holds, rs)) (accepted, (holds passes h, filled (resultCell (words h)) (zeros (resultsLong mostRows))))
   judged-so =
-      e ∙ legal-is-put list (zeros (resultsLong mostRows)) (ap legal handed-so ∙ legal-so) (rw handed-so (omega (arith, fixed-few, zeros-long (resultsLong mostRows))))
+      e ∙ legal-is-put list (zeros (resultsLong mostRows)) (ap legal handed-so ∙ legal-so i i<n h eh) (rw handed-so (omega (arith, fixed-few i i<n h eh, zeros-long (resultsLong mostRows))))
       ∙ ap (λ (x : Sheet). (accepted, (holds passes x, filled (resultCell (words x)) (zeros (resultsLong mostRows))))) handed-so
 
+  whole-list : filled (resultCell (words h)) (zeros (resultsLong mostRows)) ≡ upto (resultsLong mostRows) (resultCell (words h)) (zeros (resultsLong mostRows))
+  unfolding filled
+  whole-list = ap (λ (k : ℕ). upto k (resultCell (words h)) (zeros (resultsLong mostRows))) (zeros-long (resultsLong mostRows))
+
   pub fixed-said : (p q : Page) → q ≡ said p (lines (labelBy Numbered prefix) (wordAt rs) (h .count) ++ ending (r .holds)) → q ≡ said p (board (numbered prefix) (fixedSheet i))
-  fixed-said p q f = ?
+  unfolding labelBy
+  fixed-said p q f =
+      f ∙ ap (said p) (board-is h (numbered prefix) (wordAt rs) (h .count) (r .holds) refl word-so (ap (λ (x : Outcome × (Bool × List ℕ)). x .1 .0) judged-so))
+      ∙ ap (λ (x : Sheet). said p (board (numbered prefix) x)) eh
+    where
+      word-so : (k : ℕ) → k < h .count → wordAt rs k ≡ resultOf passes h k
+      word-so k m =
+          word-comes-back (words h) rs (zeros (resultsLong mostRows)) mostRows k (ap (λ (x : Outcome × (Bool × List ℕ)). x .1 .1) judged-so ∙ whole-list) (omega (arith, zeros-long (resultsLong mostRows))) (omega (arith, fixed-few i i<n h eh))
+          ∙ word-there h k (legal-is h (legal-so i i<n h eh)) m
 
 pub section-said : (p₀ p₁ p₂ p₃ : Page) (i : ℕ) → p₁ ≡ said p₀ (letter i) → p₂ ≡ said p₁ newline → p₃ ≡ said p₂ (board (numbered prefix) (fixedSheet i)) → p₃ ≡ said p₀ (section i)
 unfolding section

@@ -20,6 +20,7 @@ const FIXED_COUNT: usize = 5;
 
 // A sheet of fewer bytes has no more than few rows, for which small lists do.
 const FEW_BYTES: usize = 36;
+
 const FEW_ROWS: usize = 4;
 
 // Writes the text of the verdict on some bytes, by lists that have room for their sheet.

@@ -1,0 +1,33 @@
+-- `put_lines` meets its promise. The invariant: what is said so far is the lines of the rows passed. Assumes nothing.
+use borrow.Author.Needs.{needs}
+use Prim.Native.Nat.{_-_, _≤_}
+use mathlib.Core.Path.{_≡_}
+use lib.ListN.{length}
+use Rattle.bound.specs.Lists.{wordAt}
+use Rattle.dashboard.specs.Labels.{labelBy}
+use Rattle.dashboard.specs.Texts.{lines}
+use Rattle.dashboard.specs.Pages.{said}
+use Rattle.dashboard.proofs.Boards.{no-lines, one-line, all-lines, label-room, label-lies, result-room}
+use Rattle.dashboard.proofs.board.put_lines.Statement.{statement}
+use Rattle.dashboard.proofs.board.put_lines.Tie as tie
+
+abbrev Inv-loop : tie.InvT-loop
+Inv-loop text₀ at labels bytes parts results count next₀ i₀ text next i =
+    (i ≤ count) × (length text ≡ length text₀) × ((text, next) ≡ said (text₀, at) (lines (labelBy labels bytes) (wordAt results) i))
+
+abbrev μ-loop : tie.MeasureT-loop
+μ-loop text₀ at labels bytes parts results count next₀ i₀ text next i = count - i
+
+pub put-lines-spec : {M : Type 1} → statement M
+put-lines-spec =
+    tie.close
+    (tie.spec
+    Inv-loop
+    μ-loop
+    (λ c. (search needs, search needs, search no-lines))
+    (λ c κs. (search needs, search label-room, search label-lies, search result-room))
+    (λ c. search needs)
+    (λ c. search needs)
+    (λ c. (search needs, search needs, search one-line))
+    (λ c. search needs)
+    (λ c. search all-lines))

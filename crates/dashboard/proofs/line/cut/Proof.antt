@@ -1,0 +1,22 @@
+-- `cut` meets its promise: it shows the part. Assumes nothing.
+use borrow.Author.Needs.{needs}
+use Rattle.dashboard.proofs.Boards.{label-ends, label-inside, label-cut}
+use Rattle.dashboard.proofs.line.cut.Statement.{statement}
+use Rattle.dashboard.proofs.line.cut.Tie as tie
+
+pub cut-spec : {M : Type 1} → statement M
+cut-spec =
+    tie.close
+    (tie.spec
+    (λ c. search needs)
+    (λ c. search needs)
+    (λ c. search needs)
+    (λ c. search needs)
+    (λ c. search needs)
+    (λ c. search needs)
+    (λ c. search needs)
+    (λ c. search (label-ends, needs))
+    (λ c. search needs)
+    (λ c. search needs)
+    (λ c. search label-inside)
+    (λ c. search label-cut))

@@ -1,0 +1,21 @@
+-- `put_head` meets its promise. Assumes nothing.
+use borrow.Author.Needs.{needs}
+use Rattle.dashboard.specs.Words.{head}
+use Rattle.dashboard.proofs.Saying.{four-said}
+use Rattle.dashboard.proofs.line.put_head.Statement.{statement}
+use Rattle.dashboard.proofs.line.put_head.Tie as tie
+
+returns : tie.Need-returns
+unfolding head
+returns c = search four-said
+
+pub put-head-spec : {M : Type 1} → statement M
+put-head-spec =
+    tie.close
+    (tie.spec
+    (λ c κs. search needs)
+    (λ c κs. search needs)
+    (λ c κs. search needs)
+    (λ c κs. search needs)
+    (λ c. search needs)
+    returns)

@@ -1,0 +1,14 @@
+-- `put_line` meets its promise. Assumes nothing.
+use borrow.Author.Needs.{needs}
+use Rattle.dashboard.specs.Words.{line}
+use Rattle.dashboard.proofs.Saying.{three-said}
+use Rattle.dashboard.proofs.line.put_line.Statement.{statement}
+use Rattle.dashboard.proofs.line.put_line.Tie as tie
+
+returns : tie.Need-returns
+unfolding line
+returns c = search three-said
+
+pub put-line-spec : {M : Type 1} → statement M
+put-line-spec =
+    tie.close (tie.spec (λ c κs. search needs) (λ c κs. search needs) (λ c κs. search needs) (λ c. search needs) returns)

@@ -1,0 +1,22 @@
+-- `put_fixed` meets its promise: the sheet in a list is judged. Assumes nothing.
+use borrow.Author.Needs.{needs}
+use Rattle.dashboard.proofs.Reports.{no-labels-lie, fixed-few, fixed-labels, fixed-results, fixed-said}
+use Rattle.dashboard.proofs.report.put_fixed.Statement.{statement}
+use Rattle.dashboard.proofs.report.put_fixed.Tie as tie
+
+pub put-fixed-spec : {M : Type 1} → statement M
+put-fixed-spec =
+    tie.close
+    (tie.spec
+    (λ c κs. search needs)
+    (λ c. search needs)
+    (λ c κs. search needs)
+    (λ c. search needs)
+    (λ c. search needs)
+    (λ c κs. search needs)
+    (λ c. search needs)
+    (λ c. search needs)
+    (λ c. search needs)
+    (λ c κs. (search fixed-few, search fixed-labels, no-labels-lie _, search fixed-results))
+    (λ c. search needs)
+    (λ c. search fixed-said))

@@ -1,0 +1,26 @@
+-- `write_by` meets its promise: the bytes are judged, and refused or not. Assumes nothing.
+use borrow.Author.Needs.{needs}
+use Rattle.dashboard.proofs.Reports.{few-lines, labels-there, labels-lie, results-there, verdict-refused, verdict-accepted}
+use Rattle.dashboard.proofs.report.write_by.Statement.{statement}
+use Rattle.dashboard.proofs.report.write_by.Tie as tie
+
+pub write-by-spec : {M : Type 1} → statement M
+write-by-spec =
+    tie.close
+    (tie.spec
+    (λ c κs. search needs)
+    (λ c. search needs)
+    (λ c κs. search needs)
+    (λ c. search needs)
+    (λ c κs. search needs)
+    (λ c κs. (search few-lines, search labels-there, search labels-lie, search results-there))
+    (λ c. search needs)
+    (λ c. search needs)
+    (λ c. search needs)
+    (λ c. search needs)
+    (λ c. search verdict-refused)
+    (λ c. search needs)
+    (λ c. search needs)
+    (λ c. search needs)
+    (λ c. search needs)
+    (λ c. search verdict-accepted))
