@@ -22,7 +22,7 @@ use Rattle.reader.specs.Lists.{labelsLong, intoLists, readInto}
 use Rattle.reader.specs.Steps.{partIn}
 use Rattle.reader.specs.declared.row.Part.{Part}
 use Rattle.reader.proofs.Accepted.{accepted-is-legal}
-use Rattle.reader.proofs.After.{outcome-is-the-readers, list-kept, reader-accepts, list-has-room, list-written, count-read, parts-written, labels-as-long}
+use Rattle.reader.proofs.After.{outcome-is-the-readers, list-kept, reader-accepts, list-has-room, list-written, count-read, parts-written}
 use Rattle.reader.proofs.Owned.{Lists, lists, rows-few}
 use Rattle.exports.specs.Answers.{fieldsIn, readIn, labelAnswer}
 
