@@ -4,31 +4,29 @@ use Prim.Native.Nat.{ℕ, _+_, _*_, _/_, _%_, _≤_, _<_}
 use mathlib.Core.Path.{_≡_, refl, sym, ap, _∙_}
 use mathlib.Core.Bool.{Bool, true, false}
 use mathlib.Core.List.{List}
-use mathlib.Core.Logic.{⊎-elim}
 use native.Mathlib.Omega.{arith}
 use native.Mathlib.Nat.{le-refl, mod-lt, div-add-mod'}
 use lib.ListN.{length, getD, set, replicate, length-set, length-replicate}
 use lib.Seq.{ext-getD}
 use lib.Dec.{eqb}
-use borrow.Author.Tests.{lt-ltb, le-ltb, le-leb, lt-leb, ne-eqb}
+use borrow.Author.Tests.{le-leb, lt-leb, ne-eqb}
 use mir.Val.{Fits}
 use mir.Syntax.{w64}
 use Rattle.basis.specs.Limits.{mostRows}
 use Rattle.basis.specs.Words.{pick}
 use Rattle.basis.specs.Upto.{upto, pairCell}
 use Rattle.basis.specs.Refusals.{accepted, refused}
-use Rattle.basis.proofs.Words.{lt-or-le}
-use Rattle.basis.proofs.Upto.{upto-set, upto-below, upto-past, length-upto}
+use Rattle.basis.proofs.Upto.{upto-below, upto-past, length-upto}
 use Rattle.basis.proofs.Pairs.{first-cell, second-cell, first-read, second-read}
 use Rattle.basis.proofs.Lists.{getD-all}
 use Rattle.sheet.specs.Legal.{legal, Legal}
 use Rattle.sheet.specs.declared.row.Sheet.{Sheet}
-use Rattle.sheet.specs.Lists.{numberAt, filled, sheetIn}
+use Rattle.sheet.specs.Lists.{numberAt, filled, sheetIn, clearedCell}
 use Rattle.sheet.proofs.Legality.{legal-is}
-use Rattle.sheet.proofs.Filling.{length-filled}
+use Rattle.sheet.proofs.Clearing.{cleared-is-filled}
 use Rattle.bound.specs.Test.{passes}
 use Rattle.bound.specs.Bound.{Word, bound, none, unreached, resultOf, allUnreached, holds, judged, boundsBy}
-use Rattle.bound.specs.Lists.{wordNumber, boundNumber, resultsLong, resultCell, resultsOn, boundsOn, words, putResult, clearedCell, wordAt}
+use Rattle.bound.specs.Lists.{wordNumber, boundNumber, resultsLong, resultCell, resultsOn, boundsOn, words, putResult, wordAt}
 
 -- ---- the words of a sheet
 
@@ -65,34 +63,6 @@ result-put l k a b w ea eb = rw (ea, eb)
 pub length-put : (l : List ℕ) (k : ℕ) (w : Word) → length (putResult l k w) ≡ length l
 unfolding putResult
 length-put l k w = simp length-set refl
-
--- ---- all zero from a place on
-
-module _ (from : ℕ) (l₀ : List ℕ) where
-  pub clear-none : from ≤ length l₀ → l₀ ≡ upto from (clearedCell from l₀) l₀
-  unfolding clearedCell
-  clear-none b =
-      ext-getD 0 l₀ (upto from (clearedCell from l₀) l₀) (sym (length-upto from (clearedCell from l₀) l₀))
-      (λ i m. ⊎-elim (λ n. sym (upto-below from (clearedCell from l₀) l₀ 0 i n b ∙ rw (lt-ltb i from n))) (λ n. sym (upto-past from (clearedCell from l₀) l₀ 0 i n)) (lt-or-le i from))
-
-  pub clear-more : (l : List ℕ) (i : ℕ) → l ≡ upto i (clearedCell from l₀) l₀ → from ≤ i → set l i 0 ≡ upto (i + 1) (clearedCell from l₀) l₀
-  unfolding clearedCell
-  clear-more l i e b = upto-set i (clearedCell from l₀) l l₀ 0 e (rw (le-ltb i from b))
-
--- the results of a sheet's rows, and zeros past them
-module _ (h : Sheet) (l : List ℕ) (room : resultsLong (h .count) ≤ length l) where
-  cleared-results : filled (clearedCell (resultsLong (h .count)) (upto (resultsLong (h .count)) (resultCell (words h)) l)) (upto (resultsLong (h .count)) (resultCell (words h)) l) ≡ filled (resultCell (words h)) l
-  unfolding filled clearedCell
-  cleared-results =
-      let n : ℕ = resultsLong (h .count) in
-      let m : List ℕ = upto n (resultCell (words h)) l in
-      let long : length m ≡ length l = length-upto n (resultCell (words h)) l in
-      ext-getD 0 (filled (clearedCell n m) m) (filled (resultCell (words h)) l)
-      (length-filled (clearedCell n m) m ∙ long ∙ sym (length-filled (resultCell (words h)) l))
-      (λ i b. let there : i < length l = omega (arith, length-filled (clearedCell n m) m) in
-      let same : clearedCell n m i ≡ resultCell (words h) i =
-      ⊎-elim (λ a. rw (lt-ltb i n a) (upto-below n (resultCell (words h)) l 0 i a room)) (λ a. rw (le-ltb i n a) (sym (result-cell-past h i a))) (lt-or-le i n) in
-      upto-below (length m) (clearedCell n m) m 0 i (omega arith) (le-refl (length m)) ∙ same ∙ sym (upto-below (length l) (resultCell (words h)) l 0 i there (le-refl (length l))))
 
 -- ---- read back
 
@@ -175,5 +145,5 @@ module _ (l b : List ℕ) where
       pub results-told : (t : Bool) (m d : List ℕ) → t ≡ holds passes (sheetIn l) → m ≡ upto (resultsLong n) (resultCell (words (sheetIn l))) b → d ≡ filled (clearedCell (n * 2) m) m → n * 2 ≤ length b
           → (accepted, (t, d)) ≡ boundsOn l b
       results-told t m d et em ed r =
-          let e : d ≡ filled (resultCell (words (sheetIn l))) b = rw (ed, em, en) (cleared-results (sheetIn l) b (rw en at r)) in
+          let e : d ≡ filled (resultCell (words (sheetIn l))) b = ed ∙ cleared-is-filled (resultCell (words (sheetIn l))) (n * 2) b m em r (λ i g. result-cell-past (sheetIn l) i (rw en at g)) in
           rw (et, e) (sym (legal-is-put (sym ef ∙ legal-so) (rw en at r)))

@@ -3,7 +3,7 @@ use Prim.Native.Nat.{ℕ, _+_, _*_}
 use mathlib.Core.Bool.{Bool, false}
 use mathlib.Core.List.{List}
 use lib.ListN.{length, getD, set}
-use lib.Dec.{ltb, eqb}
+use lib.Dec.{eqb}
 use Rattle.basis.specs.Words.{pick}
 use Rattle.basis.specs.Upto.{upto, pairCell}
 use Rattle.basis.specs.Refusals.{Outcome, orElse, roomFor, handed}
@@ -58,10 +58,6 @@ words h = upto (h .count) (resultOf passes h) allUnreached
 -- the list with result k put into it,
 unfoldable pub putResult : List ℕ → ℕ → Word → List ℕ
 putResult l k w = set (set l (k * 2) (wordNumber w)) (k * 2 + 1) (boundNumber w)
-
--- the number at place i where from a place on all is made zero,
-unfoldable pub clearedCell : ℕ → List ℕ → ℕ → ℕ
-clearedCell from l i = pick (ltb i from) (numberAt l i) 0
 
 -- and result k of a list.
 unfoldable pub wordAt : List ℕ → ℕ → Word

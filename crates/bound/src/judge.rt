@@ -6,10 +6,10 @@ ghost use lib.ListN.{length};
 ghost use Rattle.basis.specs.Limits.{mostRows};
 ghost use Rattle.basis.specs.Upto.{upto};
 ghost use Rattle.sheet.specs.Legal.{legal, Legal};
-ghost use Rattle.sheet.specs.Lists.{sheetIn, filled};
+ghost use Rattle.sheet.specs.Lists.{sheetIn};
 ghost use Rattle.bound.specs.Test.{passes};
 ghost use Rattle.bound.specs.Bound.{word, isBound, resultOf, holds};
-ghost use Rattle.bound.specs.Lists.{wordNumber, boundNumber, resultsLong, resultCell, words, putResult, clearedCell};
+ghost use Rattle.bound.specs.Lists.{wordNumber, boundNumber, resultsLong, resultCell, words, putResult};
 ghost use Rattle.bound.specs.Ready.{Lent, RowsAbove};
 use crate::results::Result;
 use crate::search::bound_of;
@@ -82,16 +82,4 @@ pub(crate) fn judge_rows(sheet: &[u64], results: &mut [u64], n: usize) -> bool
         i += 1;
     }
     reached
-}
-
-// Makes every place of a list zero from a place on.
-pub(crate) fn clear_from(results: &mut [u64], from: usize)
-    requires { ⌜ from ≤ length (now results) ⌝ }
-    ensures { λ _. ⌜ now (results .exit) ≡ filled (clearedCell from (now (results .entry))) (now (results .entry)) ⌝ }
-{
-    let mut i: usize = from;
-    while i < results.len() {
-        results[i] = 0;
-        i += 1;
-    }
 }

@@ -7,7 +7,6 @@ ghost use Rattle.basis.specs.Upto.{upto};
 ghost use Rattle.basis.specs.Refusals.{outcome};
 ghost use Rattle.bound.specs.Bound.{wordIn, allUnreached, answer, boundsOf};
 ghost use Rattle.bound.specs.Lists.{resultsLong, wordAt, boundsOn};
-use crate::judge::clear_from;
 use crate::judge::judge_rows;
 use basis::MOST_ROWS;
 use basis::Refusal;
@@ -47,7 +46,7 @@ pub const RESULTS_LONG: usize = MOST_ROWS * 2;
 pub fn bounds_on(sheet: &[u64], results: &mut [u64]) -> Judgement
     ensures { λ r. ⌜ (outcome (r .refusal), (r .holds, now (results .exit))) ≡ boundsOn (now (sheet .entry)) (now (results .entry)) ⌝ }
 {
-    let fine = sheet::is_legal_in(sheet);
+    let fine = sheet::is_legal(sheet);
     if fine {
         let n = sheet::count(sheet) as usize;
         if results.len() < n * 2 {
@@ -57,7 +56,7 @@ pub fn bounds_on(sheet: &[u64], results: &mut [u64]) -> Judgement
             };
         }
         let holds = judge_rows(sheet, results, n);
-        clear_from(results, n * 2);
+        sheet::clear_from(results, n * 2);
         return Judgement {
             refusal: Refusal::Accepted,
             holds,

@@ -1,31 +1,21 @@
 -- What is read into a list comes back when the list is read.
 -- Assumes nothing.
-use Prim.Native.Nat.{ℕ, _≤_}
+use Prim.Native.Nat.{ℕ}
 use mathlib.Core.Path.{_≡_, refl}
 use mathlib.Core.Bool.{Bool, true, false}
 use mathlib.Core.List.{List}
-use lib.ListN.{length, length-append, length-map, length-replicate}
+use lib.ListN.{length}
 use lib.Dec.{leb}
 use native.Mathlib.Omega.{arith}
-use borrow.Author.Tests.{leb-true}
-use Rattle.basis.specs.Limits.{mostRows}
-use Rattle.basis.specs.Readers.{Step, ok, refuse}
-use Rattle.basis.specs.Refusals.{Outcome, accepted, refused, orElse}
-use Rattle.reader.specs.Form.{Held, sheet}
-use Rattle.reader.specs.Answers.{handed, reading}
+use Rattle.basis.specs.Refusals.{Outcome, accepted, refused, orElse, needed, roomFor}
+use Rattle.basis.proofs.Refusals.{room-holds}
+use Rattle.reader.specs.Answers.{reading}
 use Rattle.reader.proofs.Accepted.{accepted-is-legal}
 use Rattle.reader.proofs.Reach.{refusal-is-listed}
-use Rattle.sheet.proofs.Legality.{legal-is}
+use Rattle.reader.proofs.Owned.{rows-long}
 use Rattle.sheet.proofs.Back.{sheet-comes-back}
 use Rattle.sheet.specs.Lists.{sheetIn, sheetLong}
-use Rattle.machine.specs.Checks.{needed}
-use Rattle.machine.proofs.Checked.{needed-holds}
-use Rattle.exports.specs.Answers.{told, roomFor, fieldsIn, readIn}
-
--- the sheet beside an answer of the reader has room for every row
-rows-long : (x : Step Held) → handed x .1 .count ≤ mostRows → length (handed x .1 .rows) ≡ mostRows
-rows-long (ok h n) b = simp (length-append, length-map, length-replicate) (omega arith)
-rows-long (refuse k p) b = refl
+use Rattle.exports.specs.Answers.{told, fieldsIn, readIn}
 
 -- What `giachimu_read` writes where it tells no refusal is the sheet that was read.
 module _ (s l : List ℕ) (none : readIn s l .0 .0 ≡ 0) where
@@ -45,6 +35,5 @@ module _ (s l : List ℕ) (none : readIn s l .0 .0 ≡ 0) where
   pub read-comes-back : sheetIn (readIn s l .1) ≡ reading s .1
   unfolding readIn fieldsIn
   read-comes-back =
-      let (fine, past) = accepted-is-legal s (both-pass .0) in
-      let room = leb-true (sheetLong (reading s .1 .count)) (length l) (needed-holds _ 15 (both-pass .1)) in
-      rw (both-pass .0, both-pass .1) (sheet-comes-back (reading s .1) (reading s .1 .count) l (rows-long (sheet s 0) (legal-is (reading s .1) fine .most-rows)) past room)
+      rw (both-pass .0, both-pass .1)
+      (sheet-comes-back (reading s .1) (reading s .1 .count) l (rows-long s) (accepted-is-legal s (both-pass .0) .1) (room-holds (sheetLong (reading s .1 .count)) (length l) (both-pass .1)))

@@ -1,58 +1,46 @@
--- What `giachimu_bounds` answers at each way out, where `bounds` has answered r of the sheet in the list.
+-- What `giachimu_bounds` answers at each way out, where `bounds_on` has judged the sheet in the list.
 -- Assumes nothing.
-use Prim.Native.Nat.{ℕ, _*_, _≤_, _<_}
-use mathlib.Core.Path.{_≡_, refl, sym, ap, _∙_}
-use mathlib.Core.Bool.{Bool, true, false}
-use mathlib.Core.List.{List, map}
-use native.Mathlib.Omega.{arith}
+use Prim.Native.Nat.{ℕ}
+use mathlib.Core.Path.{_≡_, sym, ap, _∙_}
+use mathlib.Core.Bool.{Bool, false}
+use mathlib.Core.List.{List}
 use lib.ListN.{length}
-use borrow.Author.Tests.{le-leb, lt-leb}
-use mir.Syntax.{w64}
-use mir.Val.{Fits}
-use Rattle.basis.specs.Refusals.{accepted, outcome}
+use Rattle.basis.specs.Refusals.{Outcome, outcome, orElse, roomFor, handed}
 use Rattle.basis.specs.declared.refusal.Refusal.the-variants.{Accepted, Refused}
-use Rattle.sheet.specs.Legal.{legal}
-use Rattle.sheet.specs.declared.row.Sheet.{Sheet}
-use Rattle.sheet.proofs.Legality.{legal-is}
-use Rattle.bound.specs.Bound.{Answer, answer, boundsOf, wordIn}
-use Rattle.bound.specs.Test.{passes}
-use Rattle.bound.specs.declared.results.Results.{Results}
-use Rattle.bound.proofs.Answers.{refused-by-10}
+use Rattle.basis.proofs.Refusals.{handed-outcome, handed-found, handed-done}
 use Rattle.sheet.specs.Lists.{filled, sheetIn}
-use Rattle.exports.specs.Lists.{resultCell, flag}
-use Rattle.exports.specs.Answers.{resultsIn, boundsIn}
+use Rattle.bound.specs.Bound.{boundsOf}
+use Rattle.bound.specs.Lists.{resultsLong, resultCell, resultsOn, boundsOn}
+use Rattle.bound.specs.declared.results.Judgement.{Judgement}
+use Rattle.exports.specs.Answers.{flag, resultsIn, boundsIn}
 
--- a sheet whose bounds are given is legal
-bounded-is-legal : (h : Sheet) → boundsOf h .0 ≡ accepted → legal h ≡ true
-bounded-is-legal h e = go (legal h) refl
-  where
-    go : (b : Bool) → legal h ≡ b → legal h ≡ true
-    go true f = f
-    go false f = absurd (let g = sym (ap (λ (x : Answer). x .0) (refused-by-10 passes h f)) ∙ e in let z : _≡_ {A = ℕ} 0 1 = cc in omega arith)
+-- what `bounds_on` answers
+abbrev Given : Type 0
+Given = Outcome × (Bool × List ℕ)
 
-module _ (h : Sheet) (r : Results) (e : answer r ≡ boundsOf h) where
-  -- so that it has few rows, and the places that they need are a number
-  pub pairs-fit : r .refusal ≡ Accepted → Fits w64 (h .count * 2)
-  pairs-fit q =
-      let yes = ap (λ (x : Answer). x .0) (sym e) ∙ ap outcome q in
-      record { fits = omega (arith, legal-is h (bounded-is-legal h yes) .most-rows) }
+module _ (sheet list : List ℕ) (r : Judgement) (after : List ℕ) (e : (outcome (r .refusal), (r .holds, after)) ≡ boundsOn sheet list) (found : ℕ) (t : ℕ × ℕ) where
+  -- 10, then the room for the results
+  told-by : Outcome
+  told-by = orElse (boundsOf (sheetIn sheet) .0) (roomFor (resultsLong (sheetIn sheet .count)) (length list))
 
-  module _ (sheet : List ℕ) (is : h ≡ sheetIn sheet) (found : ℕ) (list : List ℕ) (t : ℕ × ℕ) where
-    bounds-given : resultsIn (h .count) (answer r) (found, list) ≡ boundsIn sheet (found, list)
-    unfolding boundsIn
-    bounds-given =
-        ap (λ (x : Answer). resultsIn (h .count) x (found, list)) e ∙ ap (λ (x : Sheet). resultsIn (x .count) (boundsOf x) (found, list)) is
+  done : Bool × List ℕ
+  done = (boundsOf (sheetIn sheet) .1, filled (resultCell (boundsOf (sheetIn sheet) .2)) list)
 
-    pub bounds-refused : (k p : ℕ) → r .refusal ≡ Refused k p → t ≡ (k, p) → (t, (found, list)) ≡ boundsIn sheet (found, list)
-    unfolding resultsIn
-    bounds-refused k p q f = rw (f, ← bounds-given, q)
+  given : (outcome (r .refusal), (r .holds, after)) ≡ handed told-by done (false, list)
+  unfolding boundsOn resultsOn told-by done
+  given = e
 
-    module _ (q : r .refusal ≡ Accepted) where
-      pub bounds-need-room : length list < h .count * 2 → t ≡ (15, 0) → (t, (found, list)) ≡ boundsIn sheet (found, list)
-      unfolding resultsIn
-      bounds-need-room l f = rw (f, ← bounds-given, q, lt-leb (h .count * 2) (length list) l)
+  outcome-is : outcome (r .refusal) ≡ told-by
+  outcome-is = ap (λ (x : Given). x .0) given ∙ handed-outcome done (false, list) told-by
 
-      pub bounds-are-told : (holds : ℕ) (after : List ℕ) → h .count * 2 ≤ length list → after ≡ filled (resultCell (map wordIn (r .rows))) list → holds ≡ flag (r .holds)
-          → t ≡ (0, 0) → (t, (holds, after)) ≡ boundsIn sheet (found, list)
-      unfolding resultsIn
-      bounds-are-told holds after l g b f = rw (f, g, b, ← bounds-given, q, le-leb (h .count * 2) (length list) l)
+  pub bounds-refused : (k p : ℕ) → r .refusal ≡ Refused k p → t ≡ (k, p) → (t, (found, after)) ≡ boundsIn sheet (found, list)
+  unfolding boundsIn resultsIn told-by
+  bounds-refused k p q f =
+      let kept = ap (λ (x : Given). x .1) given ∙ handed-found done (false, list) told-by k p (sym (ap (λ (x : Given). x .0) given) ∙ ap outcome q) in
+      rw (f, sym outcome-is ∙ ap outcome q) (ap (λ (x : Bool × List ℕ). ((k, p), (found, x .1))) kept)
+
+  pub bounds-are-told : r .refusal ≡ Accepted → (v : ℕ) → v ≡ flag (r .holds) → t ≡ (0, 0) → (t, (v, after)) ≡ boundsIn sheet (found, list)
+  unfolding boundsIn resultsIn told-by done
+  bounds-are-told q v ev f =
+      let are = ap (λ (x : Given). x .1) given ∙ handed-done done (false, list) told-by (sym (ap (λ (x : Given). x .0) given) ∙ ap outcome q) .1 in
+      rw (f, ev, sym outcome-is ∙ ap outcome q) (ap (λ (x : Bool × List ℕ). ((0, 0), (flag (x .0), x .1))) are)

@@ -9,14 +9,13 @@ use lib.ListN.{length, take}
 use lib.Dec.{leb, eqb}
 use borrow.Author.Tests.{ne-eqb, eqb-true, eqb-false}
 use Rattle.basis.specs.Words.{pick}
-use Rattle.basis.specs.Refusals.{Outcome, accepted, refused, orElse}
+use Rattle.basis.specs.Refusals.{Outcome, accepted, refused, orElse, needed, handed}
 use Rattle.reader.specs.Answers.{reading}
 use Rattle.sheet.specs.Legal.{legal}
 use Rattle.sheet.specs.Lists.{sheetIn}
 use Rattle.sheet.specs.declared.row.Sheet.{Sheet}
 use Rattle.machine.specs.declared.state.State.{State}
-use Rattle.machine.specs.Checks.{needed}
-use Rattle.machine.specs.Answers.{fresh, handed, slot}
+use Rattle.machine.specs.Answers.{fresh, slot}
 use Rattle.machine.specs.Lists.{stateLong, stateIn, freshOn, slotIn, runIn}
 use Rattle.machine.proofs.Listed.{InTable, sheet-not-legal, list-not-whole, over-budget, too-soon, no-such-row, short-buffer, state-not-legal, Listed, slot-refusals}
 use Rattle.machine.proofs.Handed.{fresh-on-state, slot-in-state, run-in-state}

@@ -6,19 +6,19 @@ use mathlib.Core.List.{List}
 use lib.ListN.{length}
 use lib.IntN.{ℤ}
 use borrow.Author.Tests.{eq-eqb}
-use Rattle.basis.specs.Refusals.{Outcome, accepted, refused, orElse}
+use Rattle.basis.specs.Refusals.{Outcome, accepted, refused, orElse, roomFor, handed}
 use Rattle.reader.specs.Answers.{reading}
 use Rattle.sheet.specs.declared.row.Sheet.{Sheet}
 use Rattle.bound.specs.Bound.{boundsOf}
+use Rattle.bound.specs.Lists.{resultsLong}
 use Rattle.machine.specs.Checks.{checkSlot, checkRun}
-use Rattle.machine.specs.Answers.{Course, Told, no-job, margin-is, refused-by, fresh, handed, nextState, nextCodes, slot, notBegun, course, run, margin}
+use Rattle.machine.specs.Answers.{Course, Told, no-job, margin-is, refused-by, fresh, nextState, nextCodes, slot, notBegun, course, run, margin}
 use Rattle.machine.specs.declared.state.State.{State}
 use Rattle.machine.proofs.Done.{Ends, all-done, stopped-at, run-ends, run-not-begun}
 use Rattle.dashboard.specs.Texts.{verdictText}
 use Rattle.sheet.specs.Lists.{sheetIn, sheetLong}
-use Rattle.exports.specs.Lists.{pairsLong}
 use Rattle.machine.specs.Lists.{stateLong, stateIn, freshOn, slotListed, slotIn, runIn}
-use Rattle.exports.specs.Answers.{told, roomFor, verdictIn, fieldsIn, readIn, labelOutcome, labelAnswer, resultsIn, boundsIn, withTold, freshIn, slotOn, runOn, marginGiven, marginIn}
+use Rattle.exports.specs.Answers.{told, verdictIn, fieldsIn, readIn, labelOutcome, labelAnswer, resultsIn, boundsIn, withTold, freshIn, slotOn, runOn, marginGiven, marginIn}
 
 -- what is handed over where a number other than 0 is told
 kept : {A : Type 0} (o : Outcome) (done found : A) → (told o .0 ≡ 0 → ⊥) → handed o done found .1 ≡ found
@@ -38,7 +38,7 @@ refused-label-changes-nothing s row found n = kept (labelOutcome (reading s) row
 -- A refused `giachimu_bounds` leaves the list and the number.
 pub refused-bounds-changes-nothing : (s : List ℕ) (lent : ℕ × List ℕ) → (boundsIn s lent .0 .0 ≡ 0 → ⊥) → boundsIn s lent .1 ≡ lent
 unfolding boundsIn resultsIn
-refused-bounds-changes-nothing s lent n = kept (orElse (boundsOf (sheetIn s) .0) (roomFor (pairsLong (sheetIn s .count)) (length (lent .1)))) _ lent n
+refused-bounds-changes-nothing s lent n = kept (orElse (boundsOf (sheetIn s) .0) (roomFor (resultsLong (sheetIn s .count)) (length (lent .1)))) _ lent n
 
 -- the same of a call of the machine
 left : {A : Type 0} (o : Outcome) (done found : A) → (told (handed o done found .0) .0 ≡ 0 → ⊥) → handed o done found .1 ≡ found

@@ -1,7 +1,6 @@
 pub mod Back
 pub mod Bounds
 pub mod Calls
-pub mod Cells
 pub mod Copied
 pub mod Fields
 pub mod Following

@@ -1,4 +1,4 @@
--- What `giachimu_verdict` answers at each way out: the text is whole in the buffer that it is written to first, and is copied from there where it fits.
+-- What `giachimu_verdict` answers at each way out: the text is whole in a buffer that has room for any, be it lent or the call's own, and is copied from its own where it fits.
 -- Assumes nothing.
 use Prim.Native.Nat.{ℕ, _≤_, _<_, min}
 use mathlib.Core.Path.{_≡_, sym, ap, _∙_}
@@ -7,9 +7,10 @@ use native.Mathlib.Omega.{arith}
 use lib.ListN.{length, take, drop}
 use lib.Seq.{take-all}
 use borrow.Author.Tests.{le-leb, lt-leb}
-use Rattle.dashboard.specs.Longest.{textBuffer}
-use Rattle.dashboard.specs.Pages.{written}
+use Rattle.dashboard.specs.Longest.{textSize, textBuffer}
+use Rattle.dashboard.specs.Pages.{Page, written}
 use Rattle.dashboard.specs.Texts.{verdictText}
+use Rattle.dashboard.proofs.Fits.{verdict-is-short, longest-fits}
 use Rattle.dashboard.proofs.Rooms.{written-part, verdict-is-printed}
 use Rattle.exports.specs.Answers.{verdictIn}
 
@@ -20,7 +21,13 @@ fits-whole t buffer l =
     let m : min (length t) (length buffer) ≡ length t = omega arith in
     rw (take-all (length buffer) t l, m)
 
--- the text of s was written into the first buffer, n bytes of it
+-- the text of s was written into a lent buffer that has room for any
+pub text-is-written : (s text after : List ℕ) (n : ℕ) → (after, n) ≡ written (verdictText s) text → textSize ≤ length text → (long : ℕ) (t : ℕ × ℕ) → t ≡ (0, 0) → (t, (after, n)) ≡ verdictIn s text long
+unfolding verdictIn
+text-is-written s text after n e room long t f =
+    rw (le-leb (length (verdictText s)) (length text) (omega (arith, verdict-is-short s, longest-fits)), f) (ap (λ (x : Page). ((0, 0), x)) e)
+
+-- it was written into the first buffer, n bytes of it
 module _ (s first whole : List ℕ) (n : ℕ) (b : first ≡ textBuffer) (e : (whole, n) ≡ written (verdictText s) first) where
   part-is-text : take n whole ≡ verdictText s
   part-is-text = verdict-is-printed whole n s (e ∙ ap (written (verdictText s)) b)

@@ -1,19 +1,20 @@
 -- What each call for other programs answers: the number and the place of a refusal, or zeros, and every lent list and number afterwards.
 use Prim.Native.Nat.{ℕ}
+use mathlib.Core.Bool.{Bool}
 use mathlib.Core.List.{List}
 use lib.ListN.{length}
 use lib.IntN.{ℤ}
-use lib.Dec.{ltb, leb}
-use Rattle.basis.specs.Refusals.{Outcome, accepted, refused, orElse}
+use lib.Dec.{ltb}
+use Rattle.basis.specs.Words.{pick}
+use Rattle.basis.specs.Refusals.{Outcome, accepted, refused, orElse, needed, roomFor, handed}
 use Rattle.reader.specs.Answers.{reading, labelIn}
 use Rattle.sheet.specs.declared.row.Sheet.{Sheet}
 use Rattle.bound.specs.Bound.{Answer, boundsOf}
-use Rattle.machine.specs.Checks.{needed}
-use Rattle.machine.specs.Answers.{Told, no-job, margin-is, refused-by, handed, margin}
+use Rattle.bound.specs.Lists.{resultsLong, resultCell}
+use Rattle.machine.specs.Answers.{Told, no-job, margin-is, refused-by, margin}
 use Rattle.dashboard.specs.Pages.{Page, written}
 use Rattle.dashboard.specs.Texts.{verdictText}
 use Rattle.sheet.specs.Lists.{filled, sheetIn, sheetCell, sheetLong}
-use Rattle.exports.specs.Lists.{pairsLong, resultCell, flag}
 use Rattle.machine.specs.Lists.{stateIn, freshOn, slotIn, runIn}
 
 -- A refusal's number and place; zeros where nothing is refused.
@@ -25,9 +26,9 @@ told (refused number place) = (number, place)
 abbrev pub answered : {A : Type 0} → Outcome → A → A → (ℕ × ℕ) × A
 answered o done found = (told o, handed o done found .1)
 
--- 15 where an answer needs more places than its buffer has.
-abbrev pub roomFor : ℕ → ℕ → Outcome
-roomFor needs room = needed (leb needs room) 15
+-- Yes and no as numbers.
+abbrev pub flag : Bool → ℕ
+flag test = pick test 1 0
 
 -- The verdict: its whole text at the start of the buffer, and how long it is.
 unfoldable pub verdictIn : List ℕ → List ℕ → ℕ → (ℕ × ℕ) × Page
@@ -51,7 +52,7 @@ labelAnswer s row found = answered (labelOutcome (reading s) row) (labelIn s row
 -- The bounds of a sheet's list: 10, then the room for a word and a bound for each row; whether the sheet holds, and the results.
 unfoldable pub resultsIn : ℕ → Answer → ℕ × List ℕ → (ℕ × ℕ) × (ℕ × List ℕ)
 resultsIn n (o, holds, ws) (found, list) =
-    answered (orElse o (roomFor (pairsLong n) (length list))) (flag holds, filled (resultCell ws) list) (found, list)
+    answered (orElse o (roomFor (resultsLong n) (length list))) (flag holds, filled (resultCell ws) list) (found, list)
 
 unfoldable pub boundsIn : List ℕ → ℕ × List ℕ → (ℕ × ℕ) × (ℕ × List ℕ)
 boundsIn sheet lent = resultsIn (sheetIn sheet .count) (boundsOf (sheetIn sheet)) lent

@@ -1,7 +1,6 @@
 // What other programs link: each function takes any numbers and any lists, and no list may overlap another that is written.
 mod machines;
 mod sheets;
-mod states;
 mod telling;
 mod verdicts;
 

@@ -3,23 +3,21 @@ ghost use mathlib.Core.Path.{_≡_};
 ghost use Rattle.exports.specs.Answers.{readIn, labelAnswer};
 use crate::telling::tell;
 use basis::Refusal;
-use sheet::put_sheet;
+use reader::LABELS_LONG;
+use sheet::SHEET_LONG;
 
 // Reads a sheet's bytes into a list: processors, rows n, and then of each row threads, separation, deadline and budget.
 #[no_mangle]
 pub extern "C" fn giachimu_read(bytes: &[u8], list: &mut [u64], place: &mut usize) -> u64
     ensures { λ r. ⌜ ((r, now (place .exit)), now (list .exit)) ≡ readIn (now (bytes .entry)) (now (list .entry)) ⌝ }
 {
-    let reading = reader::read(bytes);
-    let refusal = reading.refusal;
-    let sheet = reading.sheet;
+    let mut labels = [0u64; LABELS_LONG];
+    let refusal = reader::read_into(bytes, list, &mut labels);
     match refusal {
         Refusal::Refused(number, at) => tell(Refusal::Refused(number, at), place),
         Refusal::Accepted => {
-            if list.len() < sheet.count as usize * 4 + 2 {
-                return tell(Refusal::Refused(15, 0), place);
-            }
-            put_sheet(list, sheet);
+            let n = sheet::count(list) as usize;
+            sheet::clear_from(list, n * 4 + 2);
             tell(Refusal::Accepted, place)
         }
     }
@@ -36,18 +34,18 @@ pub extern "C" fn giachimu_label(
 ) -> u64
     ensures { λ r. ⌜ ((r, now (place .exit)), (now (start .exit), now (long .exit))) ≡ labelAnswer (now (bytes .entry)) row (now (start .entry), now (long .entry)) ⌝ }
 {
-    let reading = reader::read(bytes);
-    let refusal = reading.refusal;
-    let sheet = reading.sheet;
+    let mut list = [0u64; SHEET_LONG];
+    let mut labels = [0u64; LABELS_LONG];
+    let refusal = reader::read_into(bytes, &mut list, &mut labels);
     match refusal {
         Refusal::Refused(number, at) => tell(Refusal::Refused(number, at), place),
         Refusal::Accepted => {
-            if sheet.count as usize <= row {
+            let n = sheet::count(&list) as usize;
+            if n <= row {
                 return tell(Refusal::Refused(14, 0), place);
             }
-            let part = reader::label_part(bytes, row);
-            *start = part.start;
-            *long = part.long;
+            *start = labels[row * 2] as usize;
+            *long = labels[row * 2 + 1] as usize;
             tell(Refusal::Accepted, place)
         }
     }

@@ -1,23 +1,18 @@
 // The verdict's text, green, and the bounds.
 ghost use mathlib.Core.Path.{_≡_};
 ghost use mathlib.Core.Bool.{true};
-ghost use mathlib.Core.List.{_++_, map};
+ghost use mathlib.Core.List.{_++_};
 ghost use lib.ListN.{length, drop};
 ghost use Prim.Native.Nat.{_≤_};
 ghost use Rattle.reader.specs.Answers.{reading};
-ghost use Rattle.bound.specs.Bound.{word, wordIn};
 ghost use Rattle.green.specs.Demand.{NoJobIsLate};
 ghost use Rattle.green.specs.Green.{greenOf};
-ghost use Rattle.sheet.specs.Lists.{filled};
-ghost use Rattle.exports.specs.Lists.{wordNumber, boundNumber, resultCell, flag};
-ghost use Rattle.exports.specs.Answers.{verdictIn, boundsIn};
-use crate::states::pair_cell;
-use crate::states::pair_of;
+ghost use Rattle.exports.specs.Answers.{flag, verdictIn, boundsIn};
 use crate::telling::tell;
 use basis::Refusal;
-use bound::Result;
-use bound::Results;
-use sheet::sheet_in;
+
+// A buffer of so many bytes has room for any text.
+const ANY_TEXT: usize = 1536;
 
 // Copies a text to the start of a buffer.
 fn copy(text: &[u8], buffer: &mut [u8])
@@ -31,7 +26,7 @@ fn copy(text: &[u8], buffer: &mut [u8])
     }
 }
 
-// Writes the text of the verdict on some bytes, and how long it is.
+// Writes the text of the verdict on some bytes, and how long it is: straight into a buffer that has room for any, else by a buffer of its own.
 #[no_mangle]
 pub extern "C" fn giachimu_verdict(
     bytes: &[u8],
@@ -41,6 +36,10 @@ pub extern "C" fn giachimu_verdict(
 ) -> u64
     ensures { λ r. ⌜ ((r, now (place .exit)), (now (text .exit), now (long .exit))) ≡ verdictIn (now (bytes .entry)) (now (text .entry)) (now (long .entry)) ⌝ }
 {
+    if ANY_TEXT <= text.len() {
+        *long = dashboard::write_verdict(bytes, text);
+        return tell(Refusal::Accepted, place);
+    }
     let mut whole = dashboard::text_buffer();
     let count = dashboard::write_verdict(bytes, &mut whole);
     if count <= text.len() {
@@ -57,42 +56,6 @@ pub extern "C" fn giachimu_green(bytes: &[u8]) -> bool
     ensures { λ r. ⌜ (r ≡ greenOf (now (bytes .entry))) × (r ≡ true → NoJobIsLate (reading (now (bytes .entry)) .1)) ⌝ }
 {
     green::green(bytes)
-}
-
-// A result's word: 0 unreached, 1 bound, 2 none.
-fn word_number(result: Result) -> u64
-    ensures { λ r. ⌜ r ≡ wordNumber (word result) ⌝ }
-{
-    match result {
-        Result::Unreached => 0,
-        Result::Bound(_) => 1,
-        Result::NoBound => 2,
-    }
-}
-
-// A result's bound, and zero where there is none.
-fn bound_number(result: Result) -> u64
-    ensures { λ r. ⌜ r ≡ boundNumber (word result) ⌝ }
-{
-    match result {
-        Result::Unreached => 0,
-        Result::Bound(bound) => bound,
-        Result::NoBound => 0,
-    }
-}
-
-// Writes results into a list.
-fn put_results(list: &mut [u64], results: Results)
-    ensures { λ _. ⌜ now (list .exit) ≡ filled (resultCell (map wordIn (results .rows))) (now (list .entry)) ⌝ }
-{
-    let rows = results.rows;
-    let mut i: usize = 0;
-    while i < list.len() {
-        let judged = rows[pair_of(i)];
-        let result = judged.result;
-        list[i] = pair_cell(word_number(result), bound_number(result), i);
-        i += 1;
-    }
 }
 
 // Yes and no as numbers.
@@ -115,17 +78,12 @@ pub extern "C" fn giachimu_bounds(
 ) -> u64
     ensures { λ r. ⌜ ((r, now (place .exit)), (now (holds .exit), now (list .exit))) ≡ boundsIn (now (sheet .entry)) (now (holds .entry), now (list .entry)) ⌝ }
 {
-    let given = sheet_in(sheet);
-    let results = bound::bounds(given);
-    let refusal = results.refusal;
+    let judgement = bound::bounds_on(sheet, list);
+    let refusal = judgement.refusal;
     match refusal {
         Refusal::Refused(number, at) => tell(Refusal::Refused(number, at), place),
         Refusal::Accepted => {
-            if list.len() < given.count as usize * 2 {
-                return tell(Refusal::Refused(15, 0), place);
-            }
-            put_results(list, results);
-            *holds = flag(results.holds);
+            *holds = flag(judgement.holds);
             tell(Refusal::Accepted, place)
         }
     }

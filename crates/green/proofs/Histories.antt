@@ -9,13 +9,13 @@ use native.Mathlib.Nat.{mul-le-mul-right}
 use native.Mathlib.Numerals.{add-one}
 use lib.ListN.{length, getD, take, drop, length-append, length-drop, take-append-drop}
 use lib.Seq.{getD-take, length-take-le, take-append-le, drop-append-le, drop-at, take-take}
-use Rattle.basis.specs.Refusals.{Outcome, accepted, refused, isAccepted}
+use Rattle.basis.specs.Refusals.{Outcome, accepted, refused, isAccepted, handed}
 use Rattle.basis.proofs.Upto.{upto-below, length-upto}
 use Rattle.sheet.specs.declared.row.Sheet.{Sheet}
 use Rattle.machine.specs.declared.state.State.{State}
 use Rattle.machine.specs.Slot.{code}
 use Rattle.machine.specs.Checks.{checkSlot, checkRun}
-use Rattle.machine.specs.Answers.{given, nextState, nextCodes, handed, slot, Course, notBegun, entriesOf, behind, slotAt, followed, onward, course, runBy, run}
+use Rattle.machine.specs.Answers.{given, nextState, nextCodes, slot, Course, notBegun, entriesOf, behind, slotAt, followed, onward, course, runBy, run}
 use Rattle.machine.proofs.Answered.{Accepted-slot, slot-shows}
 use Rattle.machine.proofs.Legals.{legal-state-is}
 use Rattle.green.specs.Calls.{Call, one-slot, a-run, Done, slotDone, runSlot, runDone, slotsOf, stateAfter, history, stateAfterAll}

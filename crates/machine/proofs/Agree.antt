@@ -7,13 +7,14 @@ use lib.ListN.{length, getD}
 use native.Mathlib.Omega.{arith}
 use Rattle.basis.specs.Refusals.{Outcome, accepted}
 use Rattle.basis.proofs.Upto.{upto-below}
+use Rattle.basis.proofs.Refusals.{handed-outcome}
 use Rattle.sheet.specs.declared.row.Sheet.{Sheet}
 use Rattle.machine.specs.declared.state.State.{State}
 use Rattle.machine.specs.States.{noRecord, recordAt}
 use Rattle.machine.specs.Slot.{released, freeAt, ended, Given, begun, free, runs, reached, next, code}
 use Rattle.machine.specs.Checks.{checkSlot}
 use Rattle.machine.specs.Answers.{given, nextState, nextCodes, slot}
-use Rattle.machine.proofs.Answered.{handed-outcome, slot-shows}
+use Rattle.machine.proofs.Answered.{slot-shows}
 use Rattle.machine.proofs.Legals.{legal-state-is, legal-state-long}
 use Rattle.machine.proofs.Placement.{free-agrees}
 
@@ -50,7 +51,7 @@ module _ (k : ℕ) (g g′ : Given) (a : AgreeTo k g g′) (i : ℕ) (l : i ≤ 
 -- an accepted slot, and what it gives
 pub slot-outcome : (h : Sheet) (t : State) (rel cs : List ℕ) → slot h t rel cs .0 ≡ checkSlot h t rel (length cs)
 unfolding slot
-slot-outcome h t rel cs = handed-outcome (checkSlot h t rel (length cs)) (nextState h t rel, nextCodes h t rel cs) (t, cs)
+slot-outcome h t rel cs = handed-outcome (nextState h t rel, nextCodes h t rel cs) (t, cs) (checkSlot h t rel (length cs))
 
 module _ (h : Sheet) (t : State) (rel cs : List ℕ) (f : slot h t rel cs .0 ≡ accepted) where
   pub slot-passed : checkSlot h t rel (length cs) ≡ accepted

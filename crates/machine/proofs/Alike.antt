@@ -12,7 +12,7 @@ use native.Mathlib.Nat.{le-refl}
 use borrow.Author.Tests.{lt-ltb, le-ltb}
 use Rattle.basis.specs.Limits.{mostRows, mostProcessors}
 use Rattle.basis.specs.Words.{pick, both, within}
-use Rattle.basis.specs.Refusals.{Outcome, accepted, refused, isAccepted, orElse}
+use Rattle.basis.specs.Refusals.{Outcome, accepted, refused, isAccepted, orElse, needed, handed}
 use Rattle.basis.proofs.Words.{all-same, lt-or-le}
 use Rattle.basis.proofs.First.{first-same}
 use Rattle.sheet.specs.Legal.{noRow, rowAt, legalRow, legal}
@@ -23,8 +23,8 @@ use Rattle.machine.specs.declared.state.RowState.{RowState}
 use Rattle.machine.specs.declared.state.State.{State}
 use Rattle.machine.specs.States.{noRecord, noState, recordAt, stateOf, freshAt, freshState, legalAt, legalRecord, legalState}
 use Rattle.machine.specs.Slot.{next, code}
-use Rattle.machine.specs.Checks.{needed, checkRow, checkAt, checkReleases, checkState, checkRoom, checkSlot, checkRun, checkMargin}
-use Rattle.machine.specs.Answers.{fresh, given, nextState, nextCodes, handed, slot, entriesOf, behind, slotAt, Course, followed, onward, course, notBegun, run, runBy, Told, marginAt, marginBy, margin}
+use Rattle.machine.specs.Checks.{checkRow, checkAt, checkReleases, checkState, checkRoom, checkSlot, checkRun, checkMargin}
+use Rattle.machine.specs.Answers.{fresh, given, nextState, nextCodes, slot, entriesOf, behind, slotAt, Course, followed, onward, course, notBegun, run, runBy, Told, marginAt, marginBy, margin}
 use Rattle.machine.proofs.Agree.{AgreeTo, next-agrees, code-agrees}
 use Rattle.basis.proofs.Upto.{upto-agree}
 

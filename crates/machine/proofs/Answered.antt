@@ -10,23 +10,19 @@ use native.Mathlib.Omega.{arith}
 use native.Mathlib.Nat.{div-add-mod'}
 use borrow.Author.Tests.{leb-true, eqb-true}
 use Rattle.basis.specs.Limits.{mostRows}
-use Rattle.basis.specs.Refusals.{Outcome, accepted, refused, outcome}
+use Rattle.basis.specs.Refusals.{Outcome, accepted, refused, outcome, needed, handed}
 use Rattle.basis.specs.declared.refusal.Refusal.{Refusal}
 use Rattle.basis.specs.declared.refusal.Refusal.the-variants.{Accepted, Refused}
 use Rattle.basis.proofs.First.{both-accepted}
+use Rattle.basis.proofs.Refusals.{needed-holds}
 use Rattle.sheet.specs.Legal.{legal}
 use Rattle.sheet.specs.declared.row.Sheet.{Sheet}
 use Rattle.machine.specs.declared.state.State.{State}
 use Rattle.machine.specs.States.{legalState}
-use Rattle.machine.specs.Checks.{needed, checkReleases, checkState, checkRoom, checkSlot, checkRun}
-use Rattle.machine.specs.Answers.{handed, nextState, nextCodes, slot, notBegun, course, run, Course}
+use Rattle.machine.specs.Checks.{checkReleases, checkState, checkRoom, checkSlot, checkRun}
+use Rattle.machine.specs.Answers.{nextState, nextCodes, slot, notBegun, course, run, Course}
 use Rattle.machine.specs.Lent.{slottedIn}
-use Rattle.machine.proofs.Checked.{needed-holds, Ready, ready}
-
--- what is handed over says of itself what the checks did
-pub handed-outcome : {A : Type 0} (o : Outcome) (x y : A) → handed o x y .0 ≡ o
-handed-outcome accepted x y = refl
-handed-outcome (refused a b) x y = refl
+use Rattle.machine.proofs.Checked.{Ready, ready}
 
 -- what an accepted slot's checks have shown
 pub record Accepted-slot (h : Sheet) (t : State) (rel : List ℕ) (room : ℕ) : Type 0 where

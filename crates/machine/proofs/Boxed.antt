@@ -8,7 +8,7 @@ use lib.ListN.{length, take, drop, length-drop, drop-of-length-le}
 use lib.Seq.{take-all}
 use native.Mathlib.Omega.{arith}
 use borrow.Rule.Slice.PartMut.{putMid}
-use Rattle.basis.specs.Refusals.{Outcome, accepted, refused, outcome, isAccepted}
+use Rattle.basis.specs.Refusals.{Outcome, accepted, refused, outcome, isAccepted, handed}
 use Rattle.basis.specs.declared.refusal.Refusal.{Refusal}
 use Rattle.basis.specs.declared.refusal.Refusal.the-variants.{Accepted, Refused}
 use Rattle.sheet.specs.declared.row.Sheet.{Sheet}
@@ -16,7 +16,7 @@ use Rattle.machine.specs.declared.state.State.{State}
 use Rattle.machine.specs.declared.start.Started.{Started}
 use Rattle.machine.specs.declared.lent.Begun.{Begun}
 use Rattle.machine.specs.Checks.{checkRun}
-use Rattle.machine.specs.Answers.{started, fresh, handed, slot, entriesOf, behind, slotAt, Course, course, notBegun, run}
+use Rattle.machine.specs.Answers.{started, fresh, slot, entriesOf, behind, slotAt, Course, course, notBegun, run}
 use Rattle.machine.specs.Lent.{slottedIn, begun, beginning}
 use Rattle.machine.proofs.Answered.{run-list, run-buffer}
 use Rattle.machine.proofs.Courses.{room-for, goes-on, stops}

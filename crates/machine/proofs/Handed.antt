@@ -11,11 +11,12 @@ use native.Mathlib.Omega.{arith}
 use borrow.Author.Tests.{le-leb, leb-true, eqb-true}
 use Rattle.basis.specs.Limits.{mostRows}
 use Rattle.basis.specs.Words.{pick}
-use Rattle.basis.specs.Refusals.{Outcome, accepted, refused, outcome, orElse}
+use Rattle.basis.specs.Refusals.{Outcome, accepted, refused, outcome, orElse, needed, handed}
 use Rattle.basis.specs.Upto.{upto}
 use Rattle.basis.proofs.First.{both-accepted}
 use Rattle.basis.proofs.Lists.{getD-all}
 use Rattle.basis.proofs.Words.{lt-or-le}
+use Rattle.basis.proofs.Refusals.{needed-holds, handed-outcome}
 use Rattle.sheet.specs.Legal.{legal}
 use Rattle.sheet.specs.declared.row.Sheet.{Sheet}
 use Rattle.sheet.proofs.Legality.{legal-is}
@@ -24,11 +25,11 @@ use Rattle.sheet.proofs.Filling.{length-filled}
 use Rattle.machine.specs.declared.state.State.{State}
 use Rattle.machine.specs.declared.places.Done.{Done}
 use Rattle.machine.specs.States.{stateOf, recordAt, freshAt, freshState, legalState}
-use Rattle.machine.specs.Checks.{needed, checkSlot, checkRun}
-use Rattle.machine.specs.Answers.{fresh, handed, nextState, nextCodes, slot, Course, notBegun, course, run}
+use Rattle.machine.specs.Checks.{checkSlot, checkRun}
+use Rattle.machine.specs.Answers.{fresh, nextState, nextCodes, slot, Course, notBegun, course, run}
 use Rattle.machine.specs.Lists.{stateLong, stateIn, putState, cleared, freshOn, slotListed, slotIn, runIn, ranIn, courseIn}
-use Rattle.machine.proofs.Checked.{needed-holds, Ready}
-use Rattle.machine.proofs.Answered.{handed-outcome, slot-shows, run-in-order-shows}
+use Rattle.machine.proofs.Checked.{Ready}
+use Rattle.machine.proofs.Answered.{slot-shows, run-in-order-shows}
 use Rattle.machine.proofs.Laws.{run-keeps-legal, run-keeps-long}
 use Rattle.machine.proofs.Held.{kept-spare, past-is-zero, state-comes-back}
 use Rattle.machine.proofs.Stored.{put-past, state-rows-long, state-put, zeros-spare, zeros-state, cleared-none}

@@ -16,6 +16,7 @@ use Rattle.basis.specs.Refusals.{accepted, outcome}
 use Rattle.basis.specs.declared.refusal.Refusal.{Refusal}
 use Rattle.basis.specs.declared.refusal.Refusal.the-variants.{Accepted, Refused}
 use Rattle.basis.proofs.First.{both-accepted}
+use Rattle.basis.proofs.Refusals.{needed-holds}
 use Rattle.sheet.specs.Legal.{rowAt, legal, LegalRow}
 use Rattle.sheet.specs.declared.row.Row.{Row}
 use Rattle.sheet.specs.declared.row.Sheet.{Sheet}
@@ -29,7 +30,7 @@ use Rattle.machine.specs.Lists.{recordIn, stateLong, stateIn}
 use Rattle.sheet.specs.Lists.{sheetIn, sheetLong}
 use Rattle.sheet.proofs.Ranges.{legal-sheet-long}
 use Rattle.machine.proofs.Held.{kept-long, kept-record}
-use Rattle.machine.proofs.Checked.{needed-holds, ready}
+use Rattle.machine.proofs.Checked.{ready}
 use Rattle.machine.proofs.Differences.{themselves, difference-fits, less-twice}
 use Rattle.machine.proofs.Legals.{LegalRecord, legal-state-is}
 

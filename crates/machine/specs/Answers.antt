@@ -4,7 +4,7 @@ use mathlib.Core.List.{List, _++_}
 use lib.ListN.{length, getD, take, drop}
 use lib.IntN.{ℤ, pos, _-ℤ_}
 use Rattle.basis.specs.Words.{pick}
-use Rattle.basis.specs.Refusals.{Outcome, accepted, refused, outcome, isAccepted}
+use Rattle.basis.specs.Refusals.{Outcome, accepted, refused, outcome, isAccepted, needed, handed}
 use Rattle.basis.specs.Upto.{upto}
 use Rattle.sheet.specs.Legal.{rowAt, legal}
 use Rattle.sheet.specs.declared.row.Row.{Row}
@@ -18,7 +18,7 @@ use Rattle.machine.specs.declared.margins.Margin.{Margin}
 use Rattle.machine.specs.declared.margins.Margin.the-variants as margin-variants
 use Rattle.machine.specs.States.{noState, freshState, stateOf, recordAt, hasJob}
 use Rattle.machine.specs.Slot.{Given, next, code}
-use Rattle.machine.specs.Checks.{needed, checkSlot, checkRun, checkMargin}
+use Rattle.machine.specs.Checks.{checkSlot, checkRun, checkMargin}
 
 -- The answer of `fresh`: the outcome, and the state beside it.
 abbrev pub started : Started → Outcome × State
@@ -40,11 +40,6 @@ nextState h t releases = stateOf (upto (h .count) (next (given h t releases)) (t
 -- The code buffer after an accepted slot: the code of each row, and the bytes past them as they were.
 unfoldable pub nextCodes : Sheet → State → List ℕ → List ℕ → List ℕ
 nextCodes h t releases codes = upto (h .count) (code (given h t releases)) codes
-
--- What is handed over: the one where the call is accepted, the other beside a refusal.
-abbrev pub handed : {A : Type 0} → Outcome → A → A → Outcome × A
-handed accepted done refused-with = (accepted, done)
-handed (refused number place) done refused-with = (refused number place, refused-with)
 
 -- The answer of `slot`: the outcome, the state, and the code buffer after it.
 abbrev pub slotted : Slotted → List ℕ → Outcome × (State × List ℕ)

@@ -3,19 +3,15 @@ use Prim.Native.Nat.{ℕ, _%_}
 use mathlib.Core.Bool.{Bool}
 use mathlib.Core.List.{List}
 use lib.ListN.{length, getD}
-use lib.Dec.{ltb, leb, eqb}
+use lib.Dec.{ltb, eqb}
 use Rattle.basis.specs.Words.{pick}
-use Rattle.basis.specs.Refusals.{Outcome, accepted, refused, orElse, firstOf}
+use Rattle.basis.specs.Refusals.{Outcome, accepted, refused, orElse, firstOf, needed, roomFor}
 use Rattle.sheet.specs.Legal.{rowAt, legal}
 use Rattle.sheet.specs.declared.row.Row.{Row}
 use Rattle.sheet.specs.declared.row.Sheet.{Sheet}
 use Rattle.machine.specs.declared.state.RowState.{RowState}
 use Rattle.machine.specs.declared.state.State.{State}
 use Rattle.machine.specs.States.{recordAt, legalState}
-
--- A test that has to hold, and the number where it does not; its place is none.
-abbrev pub needed : Bool → ℕ → Outcome
-needed test number = pick test accepted (refused number 0)
 
 -- 12 for a release over C, then 13 for one that is too soon: since is below T.
 unfoldable pub checkRow : Row → RowState → ℕ → ℕ → Outcome
@@ -38,7 +34,7 @@ checkState h t = orElse (needed (legal h) 10) (needed (legalState h t) 16)
 
 -- 11 where the list is not as long as it has to be, then 15 where the code buffer is shorter than the list.
 unfoldable pub checkRoom : Bool → ℕ → ℕ → Outcome
-checkRoom long entries room = orElse (needed long 11) (needed (leb entries room) 15)
+checkRoom long entries room = orElse (needed long 11) (roomFor entries room)
 
 -- A slot's checks: 10, 16, 11, 15, then rows from the top.
 unfoldable pub checkSlot : Sheet → State → List ℕ → ℕ → Outcome

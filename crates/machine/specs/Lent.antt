@@ -2,13 +2,13 @@
 use Prim.Native.Nat.{ℕ, _/_}
 use mathlib.Core.List.{List}
 use lib.ListN.{length}
-use Rattle.basis.specs.Refusals.{Outcome, outcome}
+use Rattle.basis.specs.Refusals.{Outcome, outcome, handed}
 use Rattle.basis.specs.declared.refusal.Refusal.{Refusal}
 use Rattle.sheet.specs.declared.row.Sheet.{Sheet}
 use Rattle.machine.specs.declared.state.State.{State}
 use Rattle.machine.specs.declared.lent.Begun.{Begun}
 use Rattle.machine.specs.Checks.{checkRun}
-use Rattle.machine.specs.Answers.{fresh, handed}
+use Rattle.machine.specs.Answers.{fresh}
 
 -- The answer of `slot_in`: the outcome, the lent state, and the code buffer after it.
 abbrev pub slottedIn : Refusal → State → List ℕ → Outcome × (State × List ℕ)

@@ -3,10 +3,10 @@ use Prim.Native.Nat.{ℕ, zero, suc, _+_, _*_}
 use mathlib.Core.Bool.{Bool, true}
 use mathlib.Core.List.{List}
 use lib.ListN.{length, set}
-use lib.Dec.{ltb, leb, eqb}
+use lib.Dec.{ltb, eqb}
 use Rattle.basis.specs.Limits.{mostRows}
 use Rattle.basis.specs.Words.{pick, allOf}
-use Rattle.basis.specs.Refusals.{Outcome, outcome, orElse}
+use Rattle.basis.specs.Refusals.{Outcome, outcome, orElse, roomFor, handed}
 use Rattle.basis.specs.Upto.{upto}
 use Rattle.sheet.specs.Lists.{numberAt, filled}
 use Rattle.sheet.specs.declared.row.Sheet.{Sheet}
@@ -14,8 +14,7 @@ use Rattle.machine.specs.declared.state.RowState.{RowState}
 use Rattle.machine.specs.declared.state.State.{State}
 use Rattle.machine.specs.declared.places.Done.{Done}
 use Rattle.machine.specs.States.{noState, stateOf, recordAt}
-use Rattle.machine.specs.Checks.{needed}
-use Rattle.machine.specs.Answers.{Course, handed, fresh, slot, run}
+use Rattle.machine.specs.Answers.{Course, fresh, slot, run}
 
 -- The numbers of a record.
 abbrev pub recordWide : ℕ
@@ -64,7 +63,7 @@ cleared l = filled (λ i. 0) l
 
 -- The answer of fresh put into a list: 15 comes after its refusals, where there is no room for a record for each row; past the records every number is zero, and beside a refusal the list is as it was.
 abbrev pub freshListed : ℕ → Outcome × State → List ℕ → Outcome × List ℕ
-freshListed n (o, t) list = handed (orElse o (needed (leb (stateLong n) (length list)) 15)) (putState n t (cleared list)) list
+freshListed n (o, t) list = handed (orElse o (roomFor (stateLong n) (length list))) (putState n t (cleared list)) list
 
 -- Fresh, in a list: 10, then 15.
 unfoldable pub freshOn : Sheet → List ℕ → Outcome × List ℕ

@@ -146,7 +146,7 @@ fn run_part(
 pub(crate) fn check_state_in(sheet: &[u64], list: &[u64]) -> Refusal
     ensures { λ r. ⌜ outcome r ≡ checkState (sheetIn (now (sheet .entry))) (stateIn (now (list .entry))) ⌝ }
 {
-    let sheet_fine = sheet::is_legal_in(sheet);
+    let sheet_fine = sheet::is_legal(sheet);
     if sheet_fine {
         let n = rows_in(sheet);
         let state_fine = is_legal_in(sheet, list, n);

@@ -59,7 +59,7 @@ fn put_fresh(sheet: &[u64], list: &mut [u64], n: usize)
 pub fn fresh_on(sheet: &[u64], list: &mut [u64]) -> Refusal
     ensures { λ r. ⌜ (outcome r, now (list .exit)) ≡ freshOn (sheetIn (now (sheet .entry))) (now (list .entry)) ⌝ }
 {
-    let fine = sheet::is_legal_in(sheet);
+    let fine = sheet::is_legal(sheet);
     if fine {
         let n = rows_in(sheet);
         if list.len() < n * RECORD_WIDE {

@@ -9,7 +9,6 @@ use crate::cases::MOST_SHEET;
 use crate::cases::MOST_STATE;
 use crate::cases::count_at;
 use crate::cases::load;
-use crate::cases::sheet_of;
 use crate::frame::WORD;
 use crate::frame::word;
 use crate::steps::answer_step;
@@ -92,7 +91,7 @@ fn answer_state(kind: u64, sheet: &[u64], case: &[u8], at: usize, page: &mut [u8
 
 // Kind 13, a sheet: whether it is legal.
 fn answer_legal(sheet: &[u64], page: &mut [u8]) -> bool {
-    let legal = sheet::is_legal(sheet_of(sheet));
+    let legal = sheet::is_legal(sheet);
     reply(page, [flag(legal), 0, 0, 0], 1, b"")
 }
 

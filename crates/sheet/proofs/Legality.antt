@@ -1,13 +1,11 @@
--- The check of a sheet's ranges: what the loop shows, and that a legal sheet is one whose every number is in its range.
+-- A legal sheet is one whose every number is in its range.
 -- Assumes nothing.
-use Prim.Native.Nat.{ℕ, _+_, _≤_, _<_}
+use Prim.Native.Nat.{ℕ}
 use mathlib.Core.Path.{_≡_, sym, _∙_}
-use mathlib.Core.Bool.{Bool, true, false}
-use native.Mathlib.Omega.{arith}
-use borrow.Author.Tests.{le-leb}
+use mathlib.Core.Bool.{Bool, true}
 use Rattle.basis.specs.Limits.{mostProcessors, mostRows, mostSeparation}
-use Rattle.basis.specs.Words.{both, within, allOf}
-use Rattle.basis.proofs.Words.{both-left, both-right, both-true, at-least, at-most, within-true, all-at, all-true, all-one-more, all-fails}
+use Rattle.basis.specs.Words.{within}
+use Rattle.basis.proofs.Words.{both-left, both-right, both-true, at-least, at-most, within-true, all-at, all-true}
 use Rattle.sheet.specs.Legal.{rowAt, legalRow, legalAt, legal, LegalRow, Legal}
 use Rattle.sheet.specs.declared.row.Row.{Row}
 use Rattle.sheet.specs.declared.row.Sheet.{Sheet}
@@ -67,22 +65,3 @@ legal-says h r =
 -- where the check has said so
 pub legal-told : (h : Sheet) (fine : Bool) → fine ≡ legal h → fine ≡ true → Legal h
 legal-told h fine e t = legal-is h (sym e ∙ t)
-
--- a turn of the loop over rows, and its ends
-module _ (h : Sheet) (i : ℕ) (e : true ≡ allOf i (legalAt h)) where
-  pub legal-more : (b : Bool) → b ≡ legalRow (h .processors) (rowAt h i) → b ≡ true → true ≡ allOf (i + 1) (legalAt h)
-  unfolding legalAt
-  legal-more b eb t = sym (all-one-more i (legalAt h) ∙ rw (sym e) (sym eb ∙ t))
-
-  module _ (a : 1 ≤ h .processors) (b : h .processors ≤ mostProcessors) (c : 1 ≤ h .count) (d : h .count ≤ mostRows) where
-    pub legal-fails : (x : Bool) → i < h .count → x ≡ legalRow (h .processors) (rowAt h i) → x ≡ false → false ≡ legal h
-    unfolding legal legalAt
-    legal-fails x l ex f = simp (le-leb _ _ a, le-leb _ _ b, le-leb _ _ c, le-leb _ _ d) (sym (all-fails (h .count) (legalAt h) i l (sym ex ∙ f)))
-
-    pub legal-done : i ≤ h .count → h .count ≤ i → true ≡ legal h
-    unfolding legal
-    legal-done l g = let s : i ≡ h .count = omega arith in simp (le-leb _ _ a, le-leb _ _ b, le-leb _ _ c, le-leb _ _ d) (rw s at e)
-
--- `is_legal`
-pub is-legal-same : (h : Sheet) (a b : Bool) → a ≡ legal h → b ≡ legal h → a ≡ b
-is-legal-same h a b e f = e ∙ sym f

@@ -1,5 +1,6 @@
 pub mod Back
 pub mod Cells
+pub mod Clearing
 pub mod Filling
 pub mod Handed
 pub mod Legality

@@ -51,7 +51,11 @@ sheetCell h = listCell (h .processors) (h .count) (rowAt h)
 abbrev pub sheetLong : ℕ → ℕ
 sheetLong n = n * 4 + 2
 
--- How the code finds the number at place i, of which no promise of a public function speaks: the row that the place belongs to, or row 0 where it belongs to none,
+-- The number at place i of a list that is made zero from a place on.
+unfoldable pub clearedCell : ℕ → List ℕ → ℕ → ℕ
+clearedCell from l i = pick (ltb i from) (numberAt l i) 0
+
+-- How the code finds the number at place i of a sheet's list, of which no promise of a public function speaks: the row that the place belongs to, or row 0 where it belongs to none,
 unfoldable pub rowOf : ℕ → ℕ
 rowOf i = pick (ltb i 2) 0 (pick (leb (sheetLong mostRows) i) 0 ((i - 2) / 4))
 

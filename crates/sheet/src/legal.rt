@@ -1,4 +1,4 @@
-// Whether a sheet that is handed over is in the ranges.
+// Whether the sheet that a list hands over is in the ranges.
 ghost use mathlib.Core.Path.{_≡_};
 ghost use Prim.Native.Nat.{_≤_};
 ghost use lib.ListN.{length};
@@ -10,13 +10,12 @@ use crate::inside::count;
 use crate::inside::processors;
 use crate::inside::row_inside;
 use crate::row::Row;
-use crate::row::Sheet;
 use basis::MOST_PROCESSORS;
 use basis::MOST_ROWS;
 use basis::MOST_SEPARATION;
 
 // Whether a row is in the ranges, on so many processors.
-pub fn is_legal_row(processors: u64, row: Row) -> bool
+fn is_legal_row(processors: u64, row: Row) -> bool
     ensures { λ r. ⌜ r ≡ legalRow processors row ⌝ }
 {
     let threads = row.threads;
@@ -46,38 +45,6 @@ pub fn is_legal_row(processors: u64, row: Row) -> bool
     }
     if deadline < budget {
         return false;
-    }
-    true
-}
-
-// Whether m, n and each of the n rows are in the ranges; rows past n are not looked at.
-pub fn is_legal(sheet: Sheet) -> bool
-    ensures { λ r. ⌜ r ≡ legal sheet ⌝ }
-{
-    let processors = sheet.processors;
-    let count = sheet.count;
-    if processors < 1 {
-        return false;
-    }
-    if MOST_PROCESSORS < processors {
-        return false;
-    }
-    if count < 1 {
-        return false;
-    }
-    if (MOST_ROWS as u64) < count {
-        return false;
-    }
-    let n = count as usize;
-    let mut i: usize = 0;
-    while i < n {
-        let row = sheet.rows[i];
-        let fine = is_legal_row(processors, row);
-        if fine {
-            i += 1;
-        } else {
-            return false;
-        }
     }
     true
 }
@@ -119,8 +86,8 @@ fn rows_are_legal(list: &[u64], processors: u64, n: usize) -> bool
     true
 }
 
-// Whether the sheet that a list hands over is in the ranges: a list that ends before its last row is not.
-pub fn is_legal_in(list: &[u64]) -> bool
+// Whether m, n and each of the n rows of the sheet that a list hands over are in the ranges: a list that ends before its last row is not.
+pub fn is_legal(list: &[u64]) -> bool
     ensures { λ r. ⌜ r ≡ legal (sheetIn (now (list .entry))) ⌝ }
 {
     let m = processors(list);

@@ -1,6 +1,6 @@
-// A sheet written into a list.
+// A sheet written into a list, and a list made zero from a place on.
 ghost use mathlib.Core.Path.{_≡_};
-ghost use Rattle.sheet.specs.Lists.{filled, rowCell, sheetCell, cellBy, rowOf};
+ghost use Rattle.sheet.specs.Lists.{filled, rowCell, sheetCell, clearedCell, cellBy, rowOf};
 use crate::row::Row;
 use crate::row::Sheet;
 use basis::MOST_ROWS;
@@ -53,7 +53,7 @@ fn cell_by(processors: u64, count: u64, row: Row, at: usize) -> u64
     row_cell(row, (at - 2) % 4)
 }
 
-// Writes a sheet into a list; places past its rows are made zero.
+// Writes a sheet into a list, every row that there is room for as it stands; places past those are made zero.
 pub fn put_sheet(list: &mut [u64], sheet: Sheet)
     ensures { λ _. ⌜ now (list .exit) ≡ filled (sheetCell sheet) (now (list .entry)) ⌝ }
 {
@@ -61,6 +61,17 @@ pub fn put_sheet(list: &mut [u64], sheet: Sheet)
     while i < list.len() {
         let row = sheet.rows[row_of(i)];
         list[i] = cell_by(sheet.processors, sheet.count, row, i);
+        i += 1;
+    }
+}
+
+// Makes every place of a list zero from a place on.
+pub fn clear_from(list: &mut [u64], from: usize)
+    ensures { λ _. ⌜ now (list .exit) ≡ filled (clearedCell from (now (list .entry))) (now (list .entry)) ⌝ }
+{
+    let mut i: usize = from;
+    while i < list.len() {
+        list[i] = 0;
         i += 1;
     }
 }

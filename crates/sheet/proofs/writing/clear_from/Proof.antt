@@ -4,26 +4,25 @@ use Prim.Native.Nat.{_≤_, _-_}
 use mathlib.Core.Path.{_≡_}
 use lib.ListN.{length}
 use Rattle.basis.specs.Upto.{upto}
-use Rattle.sheet.proofs.Filling.{fill-done}
-use Rattle.bound.specs.Lists.{clearedCell}
-use Rattle.bound.proofs.Lists.{clear-none, clear-more}
-use Rattle.bound.proofs.judge.clear_from.Statement.{statement}
-use Rattle.bound.proofs.judge.clear_from.Tie as tie
+use Rattle.sheet.specs.Lists.{clearedCell}
+use Rattle.sheet.proofs.Clearing.{clear-none, clear-more, clear-done}
+use Rattle.sheet.proofs.writing.clear_from.Statement.{statement}
+use Rattle.sheet.proofs.writing.clear_from.Tie as tie
 
 abbrev Inv-loop : tie.InvT-loop
-Inv-loop results₀ from i₀ results i = (from ≤ i) × (i ≤ length results₀) × (length results ≡ length results₀) × (results ≡ upto i (clearedCell from results₀) results₀)
+Inv-loop list₀ from i₀ list i = (from ≤ i) × (length list ≡ length list₀) × (list ≡ upto i (clearedCell from list₀) list₀)
 
 abbrev μ-loop : tie.MeasureT-loop
-μ-loop results₀ from i₀ results i = length results₀ - i
+μ-loop list₀ from i₀ list i = length list₀ - i
 
 loop-holds : tie.Need-loop-holds Inv-loop μ-loop
-loop-holds c = (search needs, search needs, search needs, search clear-none)
+loop-holds c = (search needs, search needs, search clear-none)
 
 loop-again : tie.Need-loop-again Inv-loop μ-loop
-loop-again c = (search needs, search needs, search needs, search clear-more)
+loop-again c = (search needs, search needs, search clear-more)
 
 returns : tie.Need-returns Inv-loop μ-loop
-returns c = search fill-done
+returns c = search clear-done
 
 pub clear-from-spec : {M : Type 1} → statement M
 clear-from-spec =
