@@ -8,6 +8,7 @@ ghost use Rattle.bound.specs.Quantities.{on, less};
 ghost use Rattle.bound.specs.Test.{q, X, x, W, durationOf, amounts, room};
 ghost use Rattle.bound.specs.Ready.{heldIn, Long, Lent, Ready, Length, Above, Spans};
 use crate::inside::row_inside;
+use crate::inside::row_looked_at;
 use crate::quantity::Amount;
 use crate::quantity::Duration;
 use sheet::Row;
@@ -91,7 +92,7 @@ pub(crate) fn sum_above(sheet: &[u64], results: &[u64], k: usize, length: Durati
     let mut sum = Amount::none();
     let mut i: usize = 0;
     while i < k {
-        let row = row_inside(sheet, i);
+        let row = row_looked_at(sheet, i);
         let bound = Duration(results[i * 2 + 1]);
         let amount = amount_above(row, bound, length, window, busy);
         sum = sum.plus(amount);
