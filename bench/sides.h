@@ -1,0 +1,33 @@
+/* The sides of the benchmark: the proved library, and the same plain C by each compiler. All work on the inputs that main.c has. */
+#ifndef SIDES_H
+#define SIDES_H
+
+#include "sheets.h"
+
+enum { BATCH = 64, SLOTS = 1000 };
+
+/* Sheets to judge. */
+extern const written_t *sheets;
+extern size_t sheet_count;
+
+/* A sheet to run, the same as the library's list, and the releases of its slots. */
+extern sheet_t running;
+extern uint64_t list[2 + 4 * MOST_ROWS], releases[SLOTS * MOST_ROWS];
+
+/* The jobs of a side: judge the sheets, by its search or by the paper's iteration; from the fresh state, a run of the slots, and the slots one by one. */
+enum { VERDICTS, PAPER_VERDICTS, RUN, ONE_BY_ONE, JOBS };
+typedef void job_t(void);
+
+/* What a side does, and where what it did last is found. */
+typedef struct {
+  job_t *jobs[JOBS];
+  const void *text, *codes, *state;
+  const size_t *length;
+  const uint64_t *done;
+} side_t;
+
+/* The C by gcc is left out where no gcc makes x86-64 code. */
+extern const side_t proved, plain_by_clang;
+extern const side_t plain_by_gcc __attribute__((weak));
+
+#endif
