@@ -52,8 +52,8 @@ module _ (s list : List ℕ) (r : Refusal) (l b : List ℕ) (e : lists (outcome 
     pub rows-fit : Fits w64 (n * 4)
     rows-fit = record { fits = omega (arith, rows-are, rows-few s) }
 
-    pub places-fit : Fits w64 (n * 4 + 2)
-    places-fit = record { fits = omega (arith, rows-are, rows-few s) }
+    pub places-fit : (more : ℕ) → more ≤ 64 → Fits w64 (n * 4 + more)
+    places-fit more m = record { fits = omega (arith, rows-are, rows-few s) }
 
     pub fields-are-read : (after : List ℕ) → after ≡ filled (clearedCell (n * 4 + 2) l) l → (t : ℕ × ℕ) → t ≡ (0, 0) → (t, after) ≡ readIn s list
     unfolding readIn fieldsIn room
@@ -93,20 +93,22 @@ module _ (s : List ℕ) (r : Refusal) (l b : List ℕ) (e : lists (outcome r) l 
       pub start-fits : Fits w64 (row * 2)
       start-fits = record { fits = omega (arith, few) }
 
-      pub long-fits : Fits w64 (row * 2 + 1)
-      long-fits = record { fits = omega (arith, few) }
-
       pub start-scaled : Fits w64 (row * 2 * 8)
       start-scaled = record { fits = omega (arith, few) }
-
-      pub long-scaled : Fits w64 ((row * 2 + 1) * 8)
-      long-scaled = record { fits = omega (arith, few) }
 
       pub start-inside : row * 2 < labelsLong mostRows
       start-inside = omega (arith, few)
 
-      pub long-inside : row * 2 + 1 < labelsLong mostRows
-      long-inside = omega (arith, few)
+      -- one place more
+      module _ (more : ℕ) (most : more ≤ 1) where
+        pub long-fits : Fits w64 (row * 2 + more)
+        long-fits = record { fits = omega (arith, few) }
+
+        pub long-scaled : Fits w64 ((row * 2 + more) * 8)
+        long-scaled = record { fits = omega (arith, few) }
+
+        pub long-inside : row * 2 + more < labelsLong mostRows
+        long-inside = omega (arith, few)
 
       pub label-there : (found t : ℕ × ℕ) → t ≡ (0, 0) → (t, (numberAt b (row * 2), numberAt b (row * 2 + 1))) ≡ labelAnswer s row found
       unfolding labelAnswer partIn

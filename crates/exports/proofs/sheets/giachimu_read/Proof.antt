@@ -15,7 +15,7 @@ giachimu-read-spec =
     (λ c. search needs)
     (λ c κs. search needs)
     (λ c. search rows-fit)
-    (λ c. search places-fit)
+    (λ c. search (needs, places-fit))
     (λ c κs. search needs)
     (λ c κs. search needs)
     (λ c. search needs)
