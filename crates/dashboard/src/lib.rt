@@ -7,5 +7,6 @@ mod room;
 
 pub use report::write_reference;
 pub use report::write_verdict;
+pub use room::TEXT_SIZE;
 pub use room::input_buffer;
 pub use room::text_buffer;

@@ -6,7 +6,7 @@ ghost use Rattle.dashboard.specs.Longest.{inputBuffer, textBuffer};
 const INPUT_SIZE: usize = 871;
 
 // No text has more bytes.
-const TEXT_SIZE: usize = 1536;
+pub const TEXT_SIZE: usize = 1536;
 
 // A buffer for a sheet: what it takes decides the verdict.
 pub fn input_buffer() -> [u8; INPUT_SIZE]

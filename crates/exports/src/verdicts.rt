@@ -10,9 +10,7 @@ ghost use Rattle.green.specs.Green.{greenOf};
 ghost use Rattle.exports.specs.Answers.{flag, verdictIn, boundsIn};
 use crate::telling::tell;
 use basis::Refusal;
-
-// A buffer of so many bytes has room for any text.
-const ANY_TEXT: usize = 1536;
+use dashboard::TEXT_SIZE;
 
 // Copies a text to the start of a buffer.
 fn copy(text: &[u8], buffer: &mut [u8])
@@ -36,7 +34,7 @@ pub extern "C" fn giachimu_verdict(
 ) -> u64
     ensures { λ r. ⌜ ((r, now (place .exit)), (now (text .exit), now (long .exit))) ≡ verdictIn (now (bytes .entry)) (now (text .entry)) (now (long .entry)) ⌝ }
 {
-    if ANY_TEXT <= text.len() {
+    if TEXT_SIZE <= text.len() {
         *long = dashboard::write_verdict(bytes, text);
         return tell(Refusal::Accepted, place);
     }

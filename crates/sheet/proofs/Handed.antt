@@ -46,12 +46,3 @@ row-in-sheet l k h = upto-below mostRows (rowIn l) (noRows mostRows) noRow k h (
 pub row-handed : (l : List ℕ) (k : ℕ) → k < mostRows → rowIn l k ≡ rowAt (sheetIn l) k
 unfolding sheetIn
 row-handed l k b = sym (upto-below mostRows (rowIn l) (noRows mostRows) noRow k b (le-refl mostRows))
-
--- `row_at`
-pub row-there : (l : List ℕ) (k : ℕ) (row : Row) → k < mostRows → row ≡ rowIn l k → row ≡ rowAt (sheetIn l) k
-row-there l k row b e = e ∙ row-handed l k b
-
-pub row-past : (l : List ℕ) (k : ℕ) → mostRows ≤ k → noRow ≡ rowAt (sheetIn l) k
-unfolding sheetIn
-row-past l k b =
-    sym (List·getD-eq-default (upto mostRows (rowIn l) (noRows mostRows)) noRow {n = k} (rw (length-upto mostRows (rowIn l) (noRows mostRows)) b))

@@ -5,7 +5,6 @@ use mathlib.Core.Path.{_≡_, sym, _∙_}
 use mathlib.Core.Bool.{Bool}
 use mathlib.Core.List.{List}
 use Rattle.sheet.specs.Legal.{rowAt, legal}
-use Rattle.sheet.specs.declared.row.Row.{Row}
 use Rattle.sheet.specs.declared.row.Sheet.{Sheet}
 use Rattle.sheet.specs.Lists.{numberAt, filled, sheetIn, sheetCell, clearedCell}
 
@@ -17,9 +16,6 @@ processors-same l r r′ e e′ = e ∙ sym e′
 
 pub count-same : (l : List ℕ) (r r′ : ℕ) → r ≡ sheetIn l .count → r′ ≡ sheetIn l .count → r ≡ r′
 count-same l r r′ e e′ = e ∙ sym e′
-
-pub row-at-same : (l : List ℕ) (k : ℕ) (r r′ : Row) → r ≡ rowAt (sheetIn l) k → r′ ≡ rowAt (sheetIn l) k → r ≡ r′
-row-at-same l k r r′ e e′ = e ∙ sym e′
 
 pub sheet-in-same : (l : List ℕ) (r r′ : Sheet) → r ≡ sheetIn l → r′ ≡ sheetIn l → r ≡ r′
 sheet-in-same l r r′ e e′ = e ∙ sym e′

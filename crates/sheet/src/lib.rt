@@ -9,7 +9,6 @@ pub use inside::count;
 pub use inside::processors;
 pub use legal::is_legal;
 pub use reading::number_at;
-pub use reading::row_at;
 pub use reading::sheet_in;
 pub use row::Row;
 pub use row::Sheet;

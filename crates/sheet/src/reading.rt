@@ -2,12 +2,9 @@
 ghost use mathlib.Core.Path.{_≡_};
 ghost use Prim.Native.Nat.{_<_};
 ghost use Rattle.basis.specs.Limits.{mostRows};
-ghost use Rattle.sheet.specs.Legal.{rowAt};
 ghost use Rattle.sheet.specs.Lists.{numberAt, rowIn, sheetIn};
-use crate::inside::row_inside;
 use crate::row::Row;
 use crate::row::Sheet;
-use crate::writing::SHEET_LONG;
 use basis::MOST_ROWS;
 
 // The number at a place, and zero past the end.
@@ -30,24 +27,6 @@ fn row_in(list: &[u64], k: usize) -> Row
         separation: number_at(list, k * 4 + 3),
         deadline: number_at(list, k * 4 + 4),
         budget: number_at(list, k * 4 + 5),
-    }
-}
-
-// Row k of the sheet that a list hands over, and zeros past the rows that there is room for.
-pub fn row_at(list: &[u64], k: usize) -> Row
-    ensures { λ r. ⌜ r ≡ rowAt (sheetIn (now (list .entry))) k ⌝ }
-{
-    if k < MOST_ROWS {
-        if SHEET_LONG <= list.len() {
-            return row_inside(list, k);
-        }
-        return row_in(list, k);
-    }
-    Row {
-        threads: 0,
-        separation: 0,
-        deadline: 0,
-        budget: 0,
     }
 }
 
