@@ -4,20 +4,21 @@ use Prim.Native.Nat.{ℕ, _+_, _*_, _≤_, _<_}
 use mathlib.Core.Path.{_≡_, refl, sym, ap, ap₂, _∙_}
 use mathlib.Core.Bool.{Bool, true, false}
 use mathlib.Core.List.{List}
-use lib.ListN.{length, set, length-replicate}
+use lib.ListN.{length, length-replicate}
 use native.Mathlib.Omega.{arith}
 use borrow.Author.Tests.{le-leb, lt-leb}
 use mir.Syntax.{w64}
 use mir.Val.{Fits}
 use Rattle.basis.specs.Limits.{mostRows}
 use Rattle.basis.specs.Refusals.{accepted, refused}
-use Rattle.basis.specs.Upto.{upto}
-use Rattle.basis.proofs.Upto.{upto-below}
+use Rattle.basis.proofs.Upto.{upto-none, upto-below}
 use Rattle.sheet.specs.Legal.{rowAt, legal}
 use Rattle.sheet.specs.declared.row.Row.{Row}
 use Rattle.sheet.specs.declared.row.Sheet.{Sheet}
 use Rattle.sheet.proofs.Legality.{legal-is}
-use Rattle.sheet.proofs.Filling.{fill-more, length-filled}
+use Rattle.sheet.specs.Lists.{filled, clearedCell}
+use Rattle.sheet.proofs.Clearing.{cleared-is-filled}
+use Rattle.sheet.proofs.Filling.{length-filled}
 use Rattle.machine.specs.declared.state.RowState.{RowState}
 use Rattle.machine.specs.States.{noRecord, noState, recordAt, freshAt, freshState}
 use Rattle.machine.specs.Answers.{fresh}
@@ -31,9 +32,9 @@ fresh-put h l fine =
     put-agree (h .count) (freshAt h) (recordAt (freshState h)) l
     (λ k b. sym (upto-below (h .count) (freshAt h) (noState .rows) noRecord k b (omega (arith, legal-is h fine .most-rows, length-replicate mostRows noRecord))))
 
--- `clear`
-pub clear-more : (l₀ l : List ℕ) (i : ℕ) → l ≡ upto i (λ k. 0) l₀ → set l i 0 ≡ upto (i + 1) (λ k. 0) l₀
-clear-more l₀ l i so-far = fill-more (λ k. 0) l₀ l i so-far 0 refl
+-- a list that is made zero from its start on
+all-cleared : (l l₁ : List ℕ) → l₁ ≡ filled (clearedCell 0 l) l → l₁ ≡ cleared l
+all-cleared l l₁ e = e ∙ cleared-is-filled (λ i. 0) 0 l l (upto-none (λ i. 0) l) (omega arith) (λ i b. refl)
 
 -- `put_fresh`
 abbrev freshRow : Row → RowState
@@ -59,11 +60,11 @@ module _ (h : Sheet) (l : List ℕ) (fine : Bool) (e : fine ≡ legal h) where
     unfolding freshOn fresh
     fresh-on-15 b = rw (yes, lt-leb (stateLong (h .count)) (length l) (omega arith))
 
-    pub cleared-long : (l₁ : List ℕ) → stateLong n ≤ length l → l₁ ≡ cleared l → stateLong n ≤ length l₁
-    cleared-long l₁ b c = omega (arith, ap length c, length-filled (λ i. 0) l)
+    pub cleared-long : (l₁ : List ℕ) → stateLong n ≤ length l → l₁ ≡ filled (clearedCell 0 l) l → stateLong n ≤ length l₁
+    cleared-long l₁ b c = omega (arith, ap length c, length-filled (clearedCell 0 l) l)
 
-    pub fresh-on-written : (l₁ l₂ : List ℕ) → stateLong n ≤ length l → l₁ ≡ cleared l → l₂ ≡ putTo n (freshAt h) l₁ → (accepted, l₂) ≡ freshOn h l
+    pub fresh-on-written : (l₁ l₂ : List ℕ) → stateLong n ≤ length l → l₁ ≡ filled (clearedCell 0 l) l → l₂ ≡ putTo n (freshAt h) l₁ → (accepted, l₂) ≡ freshOn h l
     unfolding freshOn fresh
     fresh-on-written l₁ l₂ b c d =
-        let w : l₂ ≡ putState (h .count) (freshState h) (cleared l) = d ∙ ap₂ (λ (m : ℕ) (x : List ℕ). putTo m (freshAt h) x) en c ∙ fresh-put h (cleared l) yes in
+        let w : l₂ ≡ putState (h .count) (freshState h) (cleared l) = d ∙ ap₂ (λ (m : ℕ) (x : List ℕ). putTo m (freshAt h) x) en (all-cleared l l₁ c) ∙ fresh-put h (cleared l) yes in
         rw (yes, le-leb (stateLong (h .count)) (length l) (omega arith), w)

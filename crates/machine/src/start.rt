@@ -8,7 +8,7 @@ ghost use Rattle.sheet.specs.Legal.{legal};
 ghost use Rattle.sheet.specs.Lists.{sheetIn};
 ghost use Rattle.machine.specs.States.{freshAt};
 ghost use Rattle.machine.specs.Answers.{started, fresh};
-ghost use Rattle.machine.specs.Lists.{stateLong, putTo, cleared, freshOn};
+ghost use Rattle.machine.specs.Lists.{stateLong, putTo, freshOn};
 use crate::places::RECORD_WIDE;
 use crate::places::STATE_LONG;
 use crate::places::put_record;
@@ -25,17 +25,6 @@ use sheet::Sheet;
 pub struct Started {
     pub refusal: Refusal,
     pub state: State,
-}
-
-// Makes every number of a list zero.
-fn clear(list: &mut [u64])
-    ensures { λ _. ⌜ now (list .exit) ≡ cleared (now (list .entry)) ⌝ }
-{
-    let mut i: usize = 0;
-    while i < list.len() {
-        list[i] = 0;
-        i += 1;
-    }
 }
 
 // Makes the records of n rows fresh: each without a job, T slots since release.
@@ -65,7 +54,7 @@ pub fn fresh_on(sheet: &[u64], list: &mut [u64]) -> Refusal
         if list.len() < n * RECORD_WIDE {
             return Refusal::Refused(15, 0);
         }
-        clear(list);
+        sheet::clear_from(list, 0);
         put_fresh(sheet, list, n);
         return Refusal::Accepted;
     }
