@@ -2,7 +2,8 @@
 -- Assumes nothing.
 use Prim.Native.Nat.{ℕ, _+_, _*_, _-_, _≤_, _<_, min}
 use mathlib.Core.Path.{_≡_, ap, _∙_}
-use mathlib.Core.Bool.{Bool}
+use mathlib.Core.Bool.{Bool, false}
+use borrow.Author.Tests.{le-ltb}
 use lib.Dec.{ltb}
 use native.Mathlib.Nat.{mul-le-mul, mul-le-mul-right}
 use native.Mathlib.Omega.{arith}
@@ -15,7 +16,7 @@ use Rattle.sheet.specs.Legal.{rowAt, LegalRow, Legal}
 use Rattle.sheet.specs.declared.row.Row.{Row}
 use Rattle.sheet.specs.declared.row.Sheet.{Sheet}
 use Rattle.bound.specs.Quantities.{on, noAmount}
-use Rattle.bound.specs.Test.{q, X, x, W, durationOf, amountOf, amounts, room}
+use Rattle.bound.specs.Test.{q, X, x, W, durationOf, amountOf, amounts, room, passes}
 use Rattle.bound.specs.Ready.{Ready, Length, Above}
 use Rattle.bound.specs.declared.quantity.Duration.{Duration}
 use Rattle.bound.specs.declared.quantity.Amount.{Amount}
@@ -80,9 +81,31 @@ pub X-some : (h : Sheet) (k : ℕ) (L : Duration) → 1 ≤ X h k L .0
 unfolding X
 X-some h k L = omega arith
 
+pub X-mono : (h : Sheet) (k : ℕ) (L l : Duration) → L .0 ≤ l .0 → X h k L .0 ≤ X h k l .0
+unfolding X
+X-mono h k L l m = omega arith
+
 pub room-by-q : (h : Sheet) (k : ℕ) (L : Duration) → room h k L .0 ≡ X h k L .0 * q h k
 unfolding room
 room-by-q h k L = let e : min (q h k) (q h k) ≡ q h k = omega arith in rw e
+
+-- a length fails where the sum reaches X on q processors
+pub fails-where : (h : Sheet) (R : ℕ → Duration) (k : ℕ) (L : Duration) → X h k L .0 * q h k ≤ amounts h R k L k .0 → passes h R k L ≡ false
+unfolding passes
+fails-where h R k L m = le-ltb (amounts h R k L k .0) (room h k L .0) (rw room-by-q m)
+
+pub room-small : (h : Sheet) (k : ℕ) (L : Duration) (a : Amount) → Legal h → k < h .count → Length h k L → a ≡ room h k L → a .0 ≤ mostSeparation * mostProcessors
+room-small h k L a l b n e =
+    omega (
+      arith,
+      number-of e,
+      room-by-q h k L,
+      mul-le-mul {n₁ = X h k L .0} {m₁ = q h k} {n₂ = mostSeparation} {m₂ = mostProcessors} (X-small h k l b L n) (q-small h k l b),
+    )
+
+-- a whole room in 256ths fits
+pub fine-room-fits : (h : Sheet) (k : ℕ) (L : Duration) (a : Amount) → Legal h → k < h .count → Length h k L → a ≡ room h k L → Fits w64 (256 * a .0)
+fine-room-fits h k L a l b n e = omega (arith, room-small h k L a l b n e)
 
 -- ---- the rows above it
 

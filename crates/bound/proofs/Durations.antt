@@ -8,12 +8,14 @@ use mir.Val.{Fits}
 use mir.Syntax.{w64}
 use Rattle.basis.specs.Limits.{mostProcessors, mostSeparation}
 use Rattle.sheet.specs.declared.row.Row.{Row}
-use Rattle.bound.specs.Quantities.{slots, on}
+use Rattle.bound.specs.Quantities.{slots, on, parts, pieces}
 use Rattle.bound.specs.Test.{x, W, durationOf}
 use Rattle.bound.specs.Ready.{Above, Spans}
 use Rattle.bound.specs.Skipping.{stayOf}
 use Rattle.bound.specs.declared.quantity.Duration.{Duration}
 use Rattle.bound.specs.declared.quantity.Amount.{Amount}
+use Rattle.bound.specs.declared.quantity.Fine.{Fine}
+use Rattle.bound.specs.declared.quantity.FineAmount.{FineAmount}
 
 -- durations and amounts of equal numbers are equal
 pub same : (a b : Duration) → a .0 ≡ b .0 → a ≡ b
@@ -27,6 +29,25 @@ number e = ap (λ (d : Duration). d .0) e
 
 pub number-of : {a b : Amount} → a ≡ b → a .0 ≡ b .0
 number-of e = ap (λ (d : Amount). d .0) e
+
+pub same-fine : (a b : Fine) → a .0 ≡ b .0 → a ≡ b
+same-fine a b e = ap parts e
+
+pub same-fine-amount : (a b : FineAmount) → a .0 ≡ b .0 → a ≡ b
+same-fine-amount a b e = ap pieces e
+
+pub number-in : {a b : FineAmount} → a ≡ b → a .0 ≡ b .0
+number-in e = ap (λ (d : FineAmount). d .0) e
+
+-- what is in 256ths fits
+pub weighed-fits : (a c : ℕ) → a ≤ 2 * mostSeparation → c ≤ mostSeparation → Fits w64 (a * c)
+weighed-fits a c l m = omega (arith, mul-le-mul {n₁ = a} {m₁ = c} {n₂ = 2 * mostSeparation} {m₂ = mostSeparation} l m)
+
+pub part-fits : (a c w : ℕ) → w ≡ a * c → a ≤ 2 * mostSeparation → c ≤ mostSeparation → Fits w64 (256 * w)
+part-fits a c w e l m = omega (arith, mul-le-mul {n₁ = a} {m₁ = c} {n₂ = 2 * mostSeparation} {m₂ = mostSeparation} l m)
+
+pub fine-amount-fits : (d g : ℕ) → d ≤ 256 * mostSeparation → g ≤ mostProcessors → Fits w64 (d * g)
+fine-amount-fits d g a b = omega (arith, mul-le-mul {n₁ = d} {m₁ = g} {n₂ = 256 * mostSeparation} {m₂ = mostProcessors} a b)
 
 -- an amount fits, and how often it is filled
 pub amount-fits : (d g : ℕ) → d ≤ mostSeparation → g ≤ mostProcessors → Fits w64 (d * g)
@@ -101,6 +122,16 @@ duration-small row R L X d e l = omega (arith, number e)
 pub amount-is : (row : Row) (R L X d : Duration) (b g : ℕ) (a : Amount) → d ≡ durationOf row R L X → g ≡ min (row .threads) b → a .0 ≡ d .0 * g
     → a ≡ on (durationOf row R L X) (min (row .threads) b)
 amount-is row R L X d b g a ed eg ea = same-amount a (on (durationOf row R L X) (min (row .threads) b)) (ea ∙ rw (ed, eg))
+
+pub amount-most : (row : Row) (R L X : Duration) (b : ℕ) (a : Amount) → a ≡ on (durationOf row R L X) (min (row .threads) b) → X .0 ≤ mostSeparation → b ≤ mostProcessors
+    → a .0 ≤ mostSeparation * mostProcessors
+unfolding durationOf
+amount-most row R L X b a e l m =
+    omega (
+      arith,
+      number-of e,
+      mul-le-mul {n₁ = min (W row (x row R L) .0) (X .0)} {m₁ = min (row .threads) b} {n₂ = mostSeparation} {m₂ = mostProcessors} (omega arith) (omega arith),
+    )
 
 -- how long its duration keeps pace
 module _ (row : Row) (R L X s w ran job more : Duration) (a : Above row R L) (es : s ≡ x row R L) (ew : w ≡ W row s) (er : ran .0 ≡ s .0 % row .separation)

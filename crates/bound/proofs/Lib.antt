@@ -7,6 +7,7 @@ pub mod Steps
 pub mod Lengths
 pub mod Shares
 pub mod FromBytes
+pub mod Stretches
 pub mod Judging
 pub mod Meaning
 pub mod Lists

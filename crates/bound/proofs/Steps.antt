@@ -49,6 +49,11 @@ module _ (h : Sheet) (R : ℕ → Duration) (k : ℕ) (L : Duration) (s : Amount
   pub length-fails : t ≡ false → passes h R k L ≡ false
   length-fails e = sym trial-is ∙ e
 
+-- what it can spare fits
+pub spare-fits : (h : Sheet) (R : ℕ → Duration) (k : ℕ) (L : Duration) (s a o : Amount) → Ready h R k → Length h k L → s ≡ amounts h R k L k → o .0 ≡ s .0 - a .0
+    → Fits w64 (256 * o .0 + 255)
+spare-fits h R k L s a o r n e eo = omega (arith, number-of e, amounts-small h R k r L n k, r .below, r .legal .most-rows)
+
 module _ (h : Sheet) (R : ℕ → Duration) (k : ℕ) (r : Ready h R k) (L : Duration) (len : Length h k L) (no : passes h R k L ≡ false) where
   reaches : X h k L .0 * q h k ≤ amounts h R k L k .0
   unfolding passes

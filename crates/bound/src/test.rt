@@ -73,7 +73,13 @@ fn duration_above(row: Row, bound: Duration, length: Duration, window: Duration)
 }
 
 // The amount of a row above with this bound.
-fn amount_above(row: Row, bound: Duration, length: Duration, window: Duration, busy: u64) -> Amount
+pub(crate) fn amount_above(
+    row: Row,
+    bound: Duration,
+    length: Duration,
+    window: Duration,
+    busy: u64,
+) -> Amount
     requires { ⌜ (Above row bound length) × (window .0 ≤ mostSeparation) × (busy ≤ mostProcessors) ⌝ }
     ensures { λ r. ⌜ r ≡ on (durationOf row bound length window) (min (row .threads) busy) ⌝ }
 {
