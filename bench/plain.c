@@ -150,11 +150,26 @@ static uint64_t next_length(const sheet_t *sheet, const uint64_t *bounds, size_t
   return length + (level > steep ? level : steep) + 1;
 }
 
+/* The length to begin with: the budget, or later where the bound of a row above that is no wider carries over. */
+static uint64_t first_length(const sheet_t *sheet, const uint64_t *bounds, size_t k) {
+  const row_t *row = &sheet->rows[k];
+  uint64_t first = row->budget;
+  for (size_t j = 0; j < k; j++) {
+    const row_t *above = &sheet->rows[j];
+    uint64_t later = first;
+    if (row->threads < above->threads) continue;
+    if (above->budget <= row->budget) later = bounds[j] - above->budget + row->budget;
+    else if (sheet->processors < above->threads + row->threads) later = bounds[j];
+    if (first < later) first = later;
+  }
+  return first;
+}
+
 uint64_t skipping_bound(const sheet_t *sheet, const uint64_t *bounds, size_t k) {
   const row_t *row = &sheet->rows[k];
   uint64_t q = sheet->processors - row->threads + 1;
   if (no_room(sheet, bounds, k, q)) return 0;
-  uint64_t length = row->budget, guess = 0;
+  uint64_t length = first_length(sheet, bounds, k), guess = 0;
   for (unsigned calm = 8; length <= row->deadline; calm -= calm > 0) {
     uint64_t sum = sum_above(sheet, bounds, k, length, q), room = q * (length - row->budget + 1);
     if (sum < room) return length;

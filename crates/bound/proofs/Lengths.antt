@@ -14,7 +14,7 @@ use Rattle.sheet.specs.declared.row.Sheet.{Sheet}
 use Rattle.bound.specs.Test.{passes}
 use Rattle.bound.specs.Bound.{bound, none, unreached, least, passesAt, boundBy}
 use Rattle.bound.specs.Ready.{Length}
-use Rattle.bound.specs.Skipping.{Skips, Says}
+use Rattle.bound.specs.Skipping.{Skips, Starts, Says}
 use Rattle.bound.specs.declared.quantity.Duration.{Duration}
 use Rattle.bound.specs.declared.quantity.FineAmount.{FineAmount}
 use Rattle.bound.specs.declared.search.Tried.{Tried}
@@ -102,14 +102,12 @@ least-same p s e (suc n) l = rw (e l, least-same p s e n (suc l))
 
 -- ---- the search
 
+pub search-starts : (h : Sheet) (R : ℕ → Duration) (k : ℕ) (L : Duration) → Starts h R k L → least (passesAt passes h R k) (L .0) (rowAt h k .deadline + 1 - L .0) ≡ boundBy passes h R k
+unfolding boundBy
+search-starts h R k L s =
+    sym (least-skip (passesAt passes h R k) (L .0 - rowAt h k .budget) (rowAt h k .budget) (L .0) (rowAt h k .deadline + 1) (omega (arith, s .low)) (s .fails))
+
 module _ (h : Sheet) (R : ℕ → Duration) (k : ℕ) (row : Row) (er : row ≡ rowAt h k) where
-  pub start-low : rowAt h k .budget ≤ row .budget
-  start-low = rw er (omega arith)
-
-  pub search-starts : least (passesAt passes h R k) (row .budget) (rowAt h k .deadline + 1 - row .budget) ≡ boundBy passes h R k
-  unfolding boundBy
-  search-starts = rw er
-
   same-deadline : row .deadline ≡ rowAt h k .deadline
   same-deadline = ap (λ (z : Row). z .deadline) er
 

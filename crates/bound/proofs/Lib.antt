@@ -6,6 +6,7 @@ pub mod Paces
 pub mod Steps
 pub mod Lengths
 pub mod Shares
+pub mod Carry
 pub mod FromBytes
 pub mod Stretches
 pub mod Judging

@@ -110,6 +110,14 @@ module _ (test : Test) (loc : Local test) (h : Sheet) where
     go none ew = true-not-false (sym e ∙ ap isBound ew)
     go unreached ew = true-not-false (sym e ∙ ap isBound ew)
 
+  -- no shorter length passes
+  pub bound-is-first : (k : ℕ) → isBound (resultOf test h k) ≡ true → (l : ℕ) → rowAt h k .budget ≤ l → l < valueOf (resultOf test h k) .0 → passing test h k l ≡ false
+  bound-is-first k e l low = go (resultOf test h k) refl where
+    go : (w : Word) → resultOf test h k ≡ w → l < valueOf w .0 → passing test h k l ≡ false
+    go (bound r) ew high = let (_, s) = bound-is-smallest test loc h k r ew in s .first l low high
+    go none ew high = true-not-false (sym e ∙ ap isBound ew)
+    go unreached ew high = true-not-false (sym e ∙ ap isBound ew)
+
   -- where a sheet holds, every row's bound passes, by the bounds above it
   pub holds-passes : holds test h ≡ true → (k : ℕ) → k < h .count → test h (bounds (resultOf test h)) k (bounds (resultOf test h) k) ≡ true
   unfolding holds

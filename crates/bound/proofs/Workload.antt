@@ -2,7 +2,7 @@
 -- Assumes nothing.
 use Prim.Native.Nat.{ℕ, _+_, _-_, _*_, _%_, _≤_, min}
 use Rattle.basis.specs.Workload.{ω}
-use Rattle.basis.proofs.Workload.{ω-mono, ω-runs-on, ω-shares, ω-evenly}
+use Rattle.basis.proofs.Workload.{ω-mono, ω-runs-on, ω-shares, ω-evenly, ω-least}
 use Rattle.sheet.specs.declared.row.Row.{Row}
 use Rattle.bound.specs.Quantities.{slots}
 use Rattle.bound.specs.Test.{W}
@@ -11,6 +11,11 @@ module _ (row : Row) (pos : 1 ≤ row .separation) (fits : row .budget ≤ row .
   pub W-mono : (x y : ℕ) → x ≤ y → W row (slots x) .0 ≤ W row (slots y) .0
   unfolding W ω
   W-mono x y h = ω-mono (row .budget) (row .separation) pos fits x y h
+
+  -- it is no less than one budget, or all slots if these are fewer
+  pub W-least : (x : ℕ) → min (row .budget) x ≤ W row (slots x) .0
+  unfolding W ω
+  W-least x = ω-least (row .budget) (row .separation) pos fits x
 
   -- what d slots more add at least: those that the present job is still to run
   pub W-runs-on : (x d : ℕ) → W row (slots x) .0 + min d (row .budget - x % row .separation) ≤ W row (slots (x + d)) .0

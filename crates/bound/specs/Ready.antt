@@ -1,7 +1,7 @@
 -- The facts that the functions below the public ones are called with.
 use Prim.Native.Nat.{ℕ, _+_, _*_, _≤_, _<_}
 use mathlib.Core.Path.{_≡_}
-use mathlib.Core.Bool.{Bool}
+use mathlib.Core.Bool.{Bool, false}
 use mathlib.Core.List.{List}
 use lib.ListN.{length}
 use Rattle.basis.specs.Limits.{mostProcessors, mostSeparation}
@@ -40,12 +40,13 @@ pub record SoFar (h : Sheet) (lent rs : List ℕ) (reached : Bool) (k : ℕ) : T
   pub put : rs ≡ upto (resultsLong k) (resultCell (words h)) lent
   pub all : reached ≡ allOf k (bounded (resultOf passes h))
 
--- Row k of a legal sheet can be judged by these bounds: each above is from C to D.
+-- Row k of a legal sheet can be judged by these bounds: each above is from C to D, and no shorter length of its row passes.
 pub record Ready (h : Sheet) (R : ℕ → Duration) (k : ℕ) : Type 0 where
   pub legal : Legal h
   pub below : k < h .count
   pub low : (i : ℕ) → i < k → rowAt h i .budget ≤ R i .0
   pub high : (i : ℕ) → i < k → R i .0 ≤ rowAt h i .deadline
+  pub smallest : (i : ℕ) → i < k → (l : ℕ) → rowAt h i .budget ≤ l → l < R i .0 → passes h R i (slots l) ≡ false
 
 -- A length that the test of row k is put to: from C to D.
 pub record Length (h : Sheet) (k : ℕ) (L : Duration) : Type 0 where

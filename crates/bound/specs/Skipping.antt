@@ -2,7 +2,7 @@
 use Prim.Native.Nat.{ℕ, _+_, _*_, _-_, _≤_, _<_, min}
 use mathlib.Core.Path.{_≡_}
 use mathlib.Core.Bool.{Bool, true, false}
-use lib.Dec.{eqb, leb}
+use lib.Dec.{eqb, leb, ltb}
 use Rattle.basis.specs.Limits.{mostProcessors, mostSeparation}
 use Rattle.basis.specs.Words.{pick}
 use Rattle.sheet.specs.Legal.{rowAt}
@@ -25,6 +25,19 @@ use Rattle.bound.specs.declared.search.Tried.the-variants.{Passes, Next}
 pub record Skips (h : Sheet) (R : ℕ → Duration) (k : ℕ) (L r : Duration) : Type 0 where
   pub further : L .0 < r .0
   pub fails : (l : ℕ) → L .0 ≤ l → l < r .0 → passes h R k (slots l) ≡ false
+
+-- No length of row k before r passes: r is a length to begin with.
+pub record Starts (h : Sheet) (R : ℕ → Duration) (k : ℕ) (r : Duration) : Type 0 where
+  pub low : rowAt h k .budget ≤ r .0
+  pub fails : (l : ℕ) → rowAt h k .budget ≤ l → l < r .0 → passes h R k (slots l) ≡ false
+
+-- The length that the bound of a row above gives a row on m processors to begin with. Where the one above is no wider: as many slots after the budget as there, if its
+-- budget is no larger; its bound, if the two never run together. Else the budget.
+unfoldable pub carriedOf : ℕ → Row → Row → Duration → Duration
+carriedOf m row above R =
+    pick (ltb (row .threads) (above .threads)) (C row)
+    (pick (leb (above .budget) (row .budget)) (plus (minus R (C above)) (C row))
+    (pick (ltb m (above .threads + row .threads)) R (C row)))
 
 -- What the trial of a length tells: it passes, or the next length that can. What is spare is a guide only.
 abbrev pub Says : Sheet → (ℕ → Duration) → ℕ → Duration → Tried → Type 0

@@ -7,6 +7,7 @@ mod quantity;
 mod results;
 mod search;
 mod share;
+mod start;
 mod stretch;
 mod tables;
 mod test;

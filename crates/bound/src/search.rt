@@ -16,6 +16,7 @@ use crate::quantity::Duration;
 use crate::quantity::FineAmount;
 use crate::results::Result;
 use crate::share::no_room;
+use crate::start::first_length;
 use crate::stretch::all_fail;
 use crate::test::busy_of;
 use crate::test::passes;
@@ -141,8 +142,9 @@ fn smallest(sheet: &[u64], results: &[u64], k: usize) -> Result
 {
     let row = row_inside(sheet, k);
     let deadline = Duration(row.deadline);
+    let first = first_length(sheet, results, k);
     let mut at = Pursuit {
-        length: Duration(row.budget),
+        length: first,
         guess: Duration(0),
         calm: 8,
     };

@@ -8,7 +8,7 @@ use Rattle.sheet.specs.Lists.{sheetIn}
 use Rattle.bound.specs.Test.{passes}
 use Rattle.bound.specs.Bound.{least, passesAt, boundBy}
 use Rattle.bound.specs.Ready.{heldIn}
-use Rattle.bound.proofs.Lengths.{start-low, search-starts, length-of-row, search-less, search-low, told-next, search-found, search-more, search-ends}
+use Rattle.bound.proofs.Lengths.{search-starts, length-of-row, search-less, search-low, told-next, search-found, search-more, search-ends}
 use Rattle.bound.proofs.search.smallest.Statement.{statement}
 use Rattle.bound.proofs.search.smallest.Tie as tie
 
@@ -21,7 +21,7 @@ abbrev μ-loop : tie.MeasureT-loop
 μ-loop sheet results k deadline at₀ at = rowAt (sheetIn sheet) k .deadline + 1 - at .length .0
 
 loop-holds : tie.Need-loop-holds Inv-loop μ-loop
-loop-holds c = (search start-low, search search-starts)
+loop-holds c = (search needs, search search-starts)
 
 try-length-requires : tie.Need-try-length-requires Inv-loop μ-loop
 try-length-requires c κs = (search needs, search needs, search length-of-row)
@@ -30,7 +30,7 @@ returns : tie.Need-returns Inv-loop μ-loop
 returns c = search search-found
 
 further-requires : tie.Need-further-requires Inv-loop μ-loop
-further-requires c κs = (search needs, search needs, search (length-of-row, le-of-lt), search told-next)
+further-requires c κs = (search needs, search needs, search length-of-row, search told-next)
 
 loop-less : tie.Need-loop-less Inv-loop μ-loop
 loop-less c = search (search-less, le-of-lt)
@@ -47,6 +47,7 @@ smallest-spec =
     (tie.spec
     Inv-loop
     μ-loop
+    (λ c κs. search needs)
     (λ c κs. search needs)
     loop-holds
     try-length-requires
