@@ -10,13 +10,13 @@ use borrow.Author.Tests.{ltb-true}
 use lib.Dec.{ltb}
 use mir.Val.{Fits}
 use mir.Syntax.{w64}
-use Rattle.basis.specs.Limits.{mostProcessors, mostSeparation}
+use Rattle.basis.specs.Limits.{mostProcessors}
 use Rattle.basis.proofs.Words.{lt-or-le}
 use Rattle.basis.proofs.Sums.{sum-one-more}
 use Rattle.sheet.specs.Legal.{rowAt, LegalRow}
 use Rattle.sheet.specs.declared.row.Row.{Row}
 use Rattle.sheet.specs.declared.row.Sheet.{Sheet}
-use Rattle.bound.specs.Quantities.{slots, onFine}
+use Rattle.bound.specs.Quantities.{widestSeparation, slots, onFine}
 use Rattle.bound.specs.Test.{q, X, x, W, durationOf, amountOf, amounts, room, passes}
 use Rattle.bound.specs.Bound.{none, boundBy}
 use Rattle.bound.specs.Ready.{Ready, Length}
@@ -27,7 +27,7 @@ use Rattle.bound.specs.declared.quantity.Fine.{Fine}
 use Rattle.bound.specs.declared.quantity.FineAmount.{FineAmount}
 use Rattle.bound.proofs.Durations.{same-fine, same-fine-amount, number-in}
 use Rattle.bound.proofs.Workload.{W-shares}
-use Rattle.bound.proofs.Amounts.{row, q-small, X-small, X-some, X-mono, room-by-q, fails-where}
+use Rattle.bound.proofs.Amounts.{few-rows, row, q-small, X-small, X-some, X-mono, room-by-q, fails-where}
 use Rattle.bound.proofs.Lengths.{none-is-least}
 
 -- ---- one row
@@ -109,15 +109,15 @@ module _ (h : Sheet) (R : ℕ → Duration) (k : ℕ) (r : Ready h R k) (L : Dur
     share-is-of : c .0 ≡ shareOf (rowAt h i) (R i) L (X h k L) .0 * min (rowAt h i .threads) (q h k)
     share-is-of = number-in ec ∙ rw (er, ev, ew, eb)
 
-    share-small : c .0 ≤ 256 * (mostSeparation * mostProcessors)
+    share-small : c .0 ≤ 256 * (widestSeparation * mostProcessors)
     unfolding shareOf
     share-small =
         rw share-is-of
-        (mul-le-mul {m₁ = min (rowAt h i .threads) (q h k)} {n₂ = 256 * mostSeparation} {m₂ = mostProcessors}
+        (mul-le-mul {m₁ = min (rowAt h i .threads) (q h k)} {n₂ = 256 * widestSeparation} {m₂ = mostProcessors}
         (omega (arith, X-small h k (r .legal) (r .below) L len)) (omega (arith, q-small h k (r .legal) (r .below))))
 
     pub shares-fit : Fits w64 (a .0 + c .0)
-    shares-fit = omega (arith, share-small, now .small, r .below, r .legal .most-rows)
+    shares-fit = omega (arith, share-small, now .small, few-rows h R k r)
 
     one-share-more : (d : FineAmount) → d .0 ≡ a .0 + c .0 → Shares h R k L (i + 1) d
     unfolding amounts
@@ -150,7 +150,7 @@ module _ (h : Sheet) (R : ℕ → Duration) (k : ℕ) (r : Ready h R k) (L : Dur
   room-told a o true s eo e = no-room a s (rw (← eo) (ltb-true (256 * o .0) (a .0 + 256) (sym e)))
 
   pub shares-round : (a : FineAmount) → Shares h R k L k a → Fits w64 (a .0 + 256)
-  shares-round a s = omega (arith, s .small, r .below, r .legal .most-rows)
+  shares-round a s = omega (arith, s .small, few-rows h R k r)
 
 -- ---- none at once
 

@@ -10,14 +10,14 @@ use borrow.Author.Tests.{ltb-true, leb-true}
 use lib.Dec.{ltb, leb}
 use mir.Val.{Fits}
 use mir.Syntax.{w64}
-use Rattle.basis.specs.Limits.{mostProcessors, mostSeparation}
+use Rattle.basis.specs.Limits.{mostProcessors}
 use Rattle.basis.specs.Words.{sum}
 use Rattle.basis.proofs.Sums.{sum-one-more}
 use Rattle.basis.proofs.Workload.{lesser-evenly}
 use Rattle.sheet.specs.Legal.{rowAt}
 use Rattle.sheet.specs.declared.row.Row.{Row}
 use Rattle.sheet.specs.declared.row.Sheet.{Sheet}
-use Rattle.bound.specs.Quantities.{slots, plus, on, onFine, pieces}
+use Rattle.bound.specs.Quantities.{widestSeparation, slots, plus, on, onFine, pieces}
 use Rattle.bound.specs.Test.{q, X, x, W, durationOf, amountOf, amounts, room, passes}
 use Rattle.bound.specs.Ready.{Ready, Length}
 use Rattle.bound.specs.Skipping.{Skips, shareOf, way, Stretches, Along, amountAlong, RowMeets, RowsMeet, bothEnds, lasts, AllFail}
@@ -28,7 +28,7 @@ use Rattle.bound.specs.declared.stretch.Stretch.{Stretch}
 use Rattle.bound.specs.declared.stretch.Ends.{Ends}
 use Rattle.bound.proofs.Durations.{number, number-in, same-fine-amount}
 use Rattle.bound.proofs.Workload.{W-mono, W-shares, W-evenly}
-use Rattle.bound.proofs.Amounts.{row-above, q-small, X-small, room-by-q, fails-where}
+use Rattle.bound.proofs.Amounts.{few-rows, row-above, q-small, X-small, room-by-q, fails-where}
 use Rattle.bound.proofs.Paces.{X-more}
 
 -- ---- straight lines
@@ -123,7 +123,7 @@ module _ (row : Row) (R : Duration) (s : Stretch) (b : ℕ) (al : Along row R s 
 
   -- the code's three choices
   pub exact-meets : lasts row R s ≡ true → (n t : Amount) (p z o : FineAmount) → n ≡ on (durationOf row R (s .from) (s .early)) (min (row .threads) b)
-      → t ≡ on (durationOf row R (s .to) (s .late)) (min (row .threads) b) → n .0 ≤ mostSeparation * mostProcessors → t .0 ≤ mostSeparation * mostProcessors → p .0 ≡ 256 * n .0
+      → t ≡ on (durationOf row R (s .to) (s .late)) (min (row .threads) b) → n .0 ≤ widestSeparation * mostProcessors → t .0 ≤ widestSeparation * mostProcessors → p .0 ≡ 256 * n .0
       → z .0 ≡ 256 * t .0 → RowMeets row R s b (record { now = p; then = z; spare = o })
   exact-meets l n t p z o en et sn st ep ez =
       record {
@@ -133,7 +133,7 @@ module _ (row : Row) (R : Duration) (s : Stretch) (b : ℕ) (al : Along row R s 
       }
 
   pub level-meets : (n t : Amount) (p z o : FineAmount) → n ≡ on (durationOf row R (s .from) (s .early)) (min (row .threads) b)
-      → t ≡ on (durationOf row R (s .from) (s .late)) (min (row .threads) b) → n .0 ≤ mostSeparation * mostProcessors → t .0 ≤ mostSeparation * mostProcessors → p .0 ≡ 256 * n .0
+      → t ≡ on (durationOf row R (s .from) (s .late)) (min (row .threads) b) → n .0 ≤ widestSeparation * mostProcessors → t .0 ≤ widestSeparation * mostProcessors → p .0 ≡ 256 * n .0
       → z .0 ≡ 256 * t .0 → RowMeets row R s b (record { now = p; then = z; spare = o })
   level-meets n t p z o en et sn st ep ez =
       record {
@@ -142,13 +142,13 @@ module _ (row : Row) (R : Duration) (s : Stretch) (b : ℕ) (al : Along row R s 
         under = λ c d e. rw (ep, ez, en, et) (omega (arith, mul-le-mul-right (min (row .threads) b) (level-under c d e)));
       }
 
-  share-most : (L Y : Duration) (n : FineAmount) → n ≡ onFine (shareOf row R L Y) (min (row .threads) b) → Y .0 ≤ mostSeparation → n .0 ≤ 256 * (mostSeparation * mostProcessors)
+  share-most : (L Y : Duration) (n : FineAmount) → n ≡ onFine (shareOf row R L Y) (min (row .threads) b) → Y .0 ≤ widestSeparation → n .0 ≤ 256 * (widestSeparation * mostProcessors)
   unfolding shareOf
   share-most L Y n e l =
       omega (
         arith,
         number-in e,
-        mul-le-mul {n₁ = shareOf row R L Y .0} {m₁ = min (row .threads) b} {n₂ = 256 * mostSeparation} {m₂ = mostProcessors} (omega arith) (omega (arith, al .most-q)),
+        mul-le-mul {n₁ = shareOf row R L Y .0} {m₁ = min (row .threads) b} {n₂ = 256 * widestSeparation} {m₂ = mostProcessors} (omega arith) (omega (arith, al .most-q)),
       )
 
   pub share-meets : (n t o : FineAmount) → n ≡ onFine (shareOf row R (s .from) (s .early)) (min (row .threads) b)
@@ -188,10 +188,10 @@ module _ (h : Sheet) (R : ℕ → Duration) (k : ℕ) (r : Ready h R k) (s : Str
 
   module _ (i b : ℕ) (row : Row) (v : Duration) (e m : Ends) (l : i < k) (now : RowsMeet h R k s i e) (one : RowMeets row v s b m) where
     pub now-fits : Fits w64 (e .now .0 + m .now .0)
-    now-fits = omega (arith, now .small-now, one .small-now, r .below, r .legal .most-rows)
+    now-fits = omega (arith, now .small-now, one .small-now, few-rows h R k r)
 
     pub then-fits : Fits w64 (e .then .0 + m .then .0)
-    then-fits = omega (arith, now .small-then, one .small-then, r .below, r .legal .most-rows)
+    then-fits = omega (arith, now .small-then, one .small-then, few-rows h R k r)
 
     along-is : (d : ℕ) → row ≡ rowAt h i → v ≡ R i → b ≡ q h k → amountAlong row v s b d ≡ amountOf h R k (plus (s .from) (slots d)) i
     unfolding amountOf
@@ -223,10 +223,10 @@ module _ (h : Sheet) (R : ℕ → Duration) (k : ℕ) (r : Ready h R k) (s : Str
 
   module _ (e : Ends) (m : RowsMeet h R k s k e) where
     pub now-rounds : (n : FineAmount) → n ≡ e .now → Fits w64 (n .0 + 256)
-    now-rounds n en = omega (arith, number-in en, m .small-now, r .below, r .legal .most-rows)
+    now-rounds n en = omega (arith, number-in en, m .small-now, few-rows h R k r)
 
     pub then-rounds : (n : FineAmount) → n ≡ e .then → Fits w64 (n .0 + 256)
-    then-rounds n en = omega (arith, number-in en, m .small-then, r .below, r .legal .most-rows)
+    then-rounds n en = omega (arith, number-in en, m .small-then, few-rows h R k r)
 
     -- each length of the stretch fails
     stretch-fails : 256 * room h k (s .from) .0 < e .now .0 + 256 → 256 * room h k (s .to) .0 < e .then .0 + 256 → (c d : ℕ) → c + d ≡ way s
@@ -279,14 +279,14 @@ module _ (h : Sheet) (R : ℕ → Duration) (k : ℕ) (r : Ready h R k) (row : R
   same-deadline : row .deadline ≡ rowAt h k .deadline
   same-deadline = ap (λ (z : Row). z .deadline) er
 
-  pub deadline-small : row .deadline ≤ mostSeparation
+  pub deadline-small : row .deadline ≤ widestSeparation
   deadline-small = omega (arith, same-deadline, r .legal .rows k (r .below))
 
   module _ (L d e : Duration) (len : Length h k L) (ee : e .0 ≡ L .0 + d .0) (m : L .0 + d .0 ≤ row .deadline) where
     pub end-is-length : Length h k e
     end-is-length = record { low = omega (arith, len .low); high = omega (arith, same-deadline) }
 
-    pub after-end-fits : (n : ℕ) → n ≤ mostSeparation → Fits w64 (e .0 + n)
+    pub after-end-fits : (n : ℕ) → n ≤ widestSeparation → Fits w64 (e .0 + n)
     after-end-fits n l = omega (arith, deadline-small)
 
     pub twice-fits : Fits w64 (2 * d .0)

@@ -9,6 +9,13 @@ use Rattle.bound.specs.declared.quantity.Amount.{Amount}
 use Rattle.bound.specs.declared.quantity.Fine.{Fine}
 use Rattle.bound.specs.declared.quantity.FineAmount.{FineAmount}
 
+-- The longest separation, and the most rows, for which every sum and product of these is proved to fit: as far as the limits of a sheet may ever be raised.
+abbrev pub widestSeparation : ℕ
+widestSeparation = 100000000
+
+abbrev pub widestRows : ℕ
+widestRows = 160
+
 -- So many slots.
 abbrev pub slots : ℕ → Duration
 slots n = record { 0 = n }

@@ -4,14 +4,14 @@ use mathlib.Core.Path.{_≡_}
 use mathlib.Core.Bool.{Bool, false}
 use mathlib.Core.List.{List}
 use lib.ListN.{length}
-use Rattle.basis.specs.Limits.{mostProcessors, mostSeparation}
+use Rattle.basis.specs.Limits.{mostProcessors}
 use Rattle.basis.specs.Words.{allOf}
 use Rattle.basis.specs.Upto.{upto}
 use Rattle.sheet.specs.Legal.{rowAt, Legal}
 use Rattle.sheet.specs.declared.row.Row.{Row}
 use Rattle.sheet.specs.declared.row.Sheet.{Sheet}
 use Rattle.sheet.specs.Lists.{numberAt, sheetIn, sheetLong}
-use Rattle.bound.specs.Quantities.{slots}
+use Rattle.bound.specs.Quantities.{widestSeparation, slots}
 use Rattle.bound.specs.Test.{passes}
 use Rattle.bound.specs.Bound.{bounds, bounded, resultOf}
 use Rattle.bound.specs.Lists.{resultsLong, resultCell, words}
@@ -59,12 +59,12 @@ pub record Above (row : Row) (R L : Duration) : Type 0 where
   pub some-budget : 1 ≤ row .budget
   pub low : row .budget ≤ R .0
   pub high : R .0 ≤ row .separation
-  pub most-separation : row .separation ≤ mostSeparation
-  pub most-length : L .0 ≤ mostSeparation
+  pub most-separation : row .separation ≤ widestSeparation
+  pub most-length : L .0 ≤ widestSeparation
 
 -- A row above, and an x of it.
 pub record Spans (row : Row) (span : Duration) : Type 0 where
   pub some-separation : 1 ≤ row .separation
   pub most-budget : row .budget ≤ row .separation
-  pub most-separation : row .separation ≤ mostSeparation
-  pub most-span : span .0 ≤ 2 * mostSeparation
+  pub most-separation : row .separation ≤ widestSeparation
+  pub most-span : span .0 ≤ 2 * widestSeparation

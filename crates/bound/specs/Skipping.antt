@@ -3,12 +3,12 @@ use Prim.Native.Nat.{ℕ, _+_, _*_, _-_, _≤_, _<_, min}
 use mathlib.Core.Path.{_≡_}
 use mathlib.Core.Bool.{Bool, true, false}
 use lib.Dec.{eqb, leb, ltb}
-use Rattle.basis.specs.Limits.{mostProcessors, mostSeparation}
+use Rattle.basis.specs.Limits.{mostProcessors}
 use Rattle.basis.specs.Words.{pick}
 use Rattle.sheet.specs.Legal.{rowAt}
 use Rattle.sheet.specs.declared.row.Row.{Row}
 use Rattle.sheet.specs.declared.row.Sheet.{Sheet}
-use Rattle.bound.specs.Quantities.{slots, plus, minus, lesser, left, on, fine, partOf, lesserFine, plusFine}
+use Rattle.bound.specs.Quantities.{widestSeparation, slots, plus, minus, lesser, left, on, fine, partOf, lesserFine, plusFine}
 use Rattle.bound.specs.Test.{T, C, X, x, W, durationOf, amounts, passes}
 use Rattle.bound.specs.Ready.{Length, Above}
 use Rattle.bound.specs.declared.quantity.Duration.{Duration}
@@ -55,7 +55,7 @@ joined p g s = pick (eqb (s .0) 0) p (record { width = p .width + g; stay = less
 -- The amounts of the first n rows grow at this pace: by its width with each slot that the length grows by, while it stays.
 pub record Paces (h : Sheet) (R : ℕ → Duration) (k : ℕ) (L : Duration) (n : ℕ) (p : Pace) : Type 0 where
   pub width : p .width ≤ n * mostProcessors
-  pub stay : p .stay .0 ≤ mostSeparation
+  pub stay : p .stay .0 ≤ widestSeparation
   pub grows : (d : ℕ) → d ≤ p .stay .0 → amounts h R k L n .0 + p .width * d ≤ amounts h R k (plus L (slots d)) n .0
 
 -- So many slots are within a pace's stay, and what q processors take in them beyond the pace's width is within an amount.
@@ -69,7 +69,7 @@ shareOf row R L X = lesserFine (partOf (x row R L) (row .budget) (T row)) (fine 
 
 -- An amount in 256ths that the first n rows reach in every length up to L, in proportion to X.
 pub record Shares (h : Sheet) (R : ℕ → Duration) (k : ℕ) (L : Duration) (n : ℕ) (a : FineAmount) : Type 0 where
-  pub small : a .0 ≤ n * (256 * (mostSeparation * mostProcessors))
+  pub small : a .0 ≤ n * (256 * (widestSeparation * mostProcessors))
   pub reached : (l : ℕ) → rowAt h k .budget ≤ l → l ≤ L .0 → X h k (slots l) .0 * a .0 ≤ X h k L .0 * (256 * amounts h R k (slots l) n .0)
 
 -- The straight line from a to b is nowhere above f: not where d slots of its way are passed and c are left.
@@ -94,8 +94,8 @@ pub record Along (row : Row) (R : Duration) (s : Stretch) (q : ℕ) : Type 0 whe
   pub to : Above row R (s .to)
   pub further : s .from .0 < s .to .0
   pub late : s .late .0 ≡ s .early .0 + way s
-  pub most-early : s .early .0 ≤ mostSeparation
-  pub most-late : s .late .0 ≤ mostSeparation
+  pub most-early : s .early .0 ≤ widestSeparation
+  pub most-late : s .late .0 ≤ widestSeparation
   pub most-q : q ≤ mostProcessors
 
 -- The amount of a row above, d slots on from the start of a stretch.
@@ -104,14 +104,14 @@ amountAlong row R s q d = on (durationOf row R (plus (s .from) (slots d)) (plus 
 
 -- Two ends, in 256ths: along a stretch the amount of a row above is never below the straight line between them.
 pub record RowMeets (row : Row) (R : Duration) (s : Stretch) (q : ℕ) (ends : Ends) : Type 0 where
-  pub small-now : ends .now .0 ≤ 256 * (mostSeparation * mostProcessors)
-  pub small-then : ends .then .0 ≤ 256 * (mostSeparation * mostProcessors)
+  pub small-now : ends .now .0 ≤ 256 * (widestSeparation * mostProcessors)
+  pub small-then : ends .then .0 ≤ 256 * (widestSeparation * mostProcessors)
   pub under : Under (way s) (ends .now .0) (ends .then .0) (λ d. 256 * amountAlong row R s q d .0)
 
 -- Two ends, in 256ths: along a stretch the amounts of the first n rows are never below the straight line between them.
 pub record RowsMeet (h : Sheet) (R : ℕ → Duration) (k : ℕ) (s : Stretch) (n : ℕ) (ends : Ends) : Type 0 where
-  pub small-now : ends .now .0 ≤ n * (256 * (mostSeparation * mostProcessors))
-  pub small-then : ends .then .0 ≤ n * (256 * (mostSeparation * mostProcessors))
+  pub small-now : ends .now .0 ≤ n * (256 * (widestSeparation * mostProcessors))
+  pub small-then : ends .then .0 ≤ n * (256 * (widestSeparation * mostProcessors))
   pub under : Under (way s) (ends .now .0) (ends .then .0) (λ d. 256 * amounts h R k (plus (s .from) (slots d)) n .0)
 
 -- The ends of some rows and of more.

@@ -3,8 +3,8 @@ ghost use mathlib.Core.Path.{_≡_};
 ghost use Prim.Native.Nat.{_+_, _*_, _≤_, _<_};
 ghost use mir.Val.{Fits};
 ghost use mir.Syntax.{w64};
-ghost use Rattle.basis.specs.Limits.{mostProcessors, mostSeparation};
-ghost use Rattle.bound.specs.Quantities.{plus, minus, lesser, greater, times, into, left, on, noAmount, plusAmount, minusAmount, less, fine, partOf, lesserFine, pieces, onFine, fineAmount, plusFine, minusFine, reaches};
+ghost use Rattle.basis.specs.Limits.{mostProcessors};
+ghost use Rattle.bound.specs.Quantities.{widestSeparation, plus, minus, lesser, greater, times, into, left, on, noAmount, plusAmount, minusAmount, less, fine, partOf, lesserFine, pieces, onFine, fineAmount, plusFine, minusFine, reaches};
 
 // Slots.
 pub struct Duration(pub(crate) u64);
@@ -75,7 +75,7 @@ impl Duration {
 
     // How many times a period goes into it, of slots that 32 bits hold, which are faster to divide.
     pub(crate) fn rounds(self, period: Duration) -> u64
-        requires { ⌜ (1 ≤ period .0) × (period .0 ≤ mostSeparation) × (self .0 ≤ 2 * mostSeparation) ⌝ }
+        requires { ⌜ (1 ≤ period .0) × (period .0 ≤ widestSeparation) × (self .0 ≤ 2 * widestSeparation) ⌝ }
         ensures { λ r. ⌜ r ≡ into self period ⌝ }
     {
         (self.0 as u32 / period.0 as u32) as u64
@@ -83,7 +83,7 @@ impl Duration {
 
     // What is left of it after whole periods, of slots that 32 bits hold.
     pub(crate) fn left(self, period: Duration) -> Duration
-        requires { ⌜ (1 ≤ period .0) × (period .0 ≤ mostSeparation) × (self .0 ≤ 2 * mostSeparation) ⌝ }
+        requires { ⌜ (1 ≤ period .0) × (period .0 ≤ widestSeparation) × (self .0 ≤ 2 * widestSeparation) ⌝ }
         ensures { λ r. ⌜ r .0 ≡ left self period .0 ⌝ }
     {
         Duration((self.0 as u32 % period.0 as u32) as u64)
@@ -91,7 +91,7 @@ impl Duration {
 
     // The same in 256ths.
     pub(crate) fn fine(self) -> Fine
-        requires { ⌜ self .0 ≤ mostSeparation ⌝ }
+        requires { ⌜ self .0 ≤ widestSeparation ⌝ }
         ensures { λ r. ⌜ r .0 ≡ fine self .0 ⌝ }
     {
         Fine(256 * self.0)
@@ -99,7 +99,7 @@ impl Duration {
 
     // So many slots of every period of it, in 256ths.
     pub(crate) fn part(self, budget: u64, period: Duration) -> Fine
-        requires { ⌜ (self .0 ≤ 2 * mostSeparation) × (budget ≤ mostSeparation) × (1 ≤ period .0) ⌝ }
+        requires { ⌜ (self .0 ≤ 2 * widestSeparation) × (budget ≤ widestSeparation) × (1 ≤ period .0) ⌝ }
         ensures { λ r. ⌜ r .0 ≡ partOf self budget period .0 ⌝ }
     {
         Fine(256 * (self.0 * budget) / period.0)
@@ -107,7 +107,7 @@ impl Duration {
 
     // Its amount on so many processors: the only way from a duration to an amount.
     pub(crate) fn on(self, capped: u64) -> Amount
-        requires { ⌜ (self .0 ≤ mostSeparation) × (capped ≤ mostProcessors) ⌝ }
+        requires { ⌜ (self .0 ≤ widestSeparation) × (capped ≤ mostProcessors) ⌝ }
         ensures { λ r. ⌜ r .0 ≡ on self capped .0 ⌝ }
     {
         Amount(self.0 * capped)
@@ -149,7 +149,7 @@ impl Amount {
 
     // The same in 256ths.
     pub(crate) fn fine(self) -> FineAmount
-        requires { ⌜ self .0 ≤ mostSeparation * mostProcessors ⌝ }
+        requires { ⌜ self .0 ≤ widestSeparation * mostProcessors ⌝ }
         ensures { λ r. ⌜ r .0 ≡ fineAmount self .0 ⌝ }
     {
         FineAmount(256 * self.0)
@@ -184,7 +184,7 @@ impl Fine {
 
     // Its amount on so many processors.
     pub(crate) fn on(self, capped: u64) -> FineAmount
-        requires { ⌜ (self .0 ≤ 256 * mostSeparation) × (capped ≤ mostProcessors) ⌝ }
+        requires { ⌜ (self .0 ≤ 256 * widestSeparation) × (capped ≤ mostProcessors) ⌝ }
         ensures { λ r. ⌜ r .0 ≡ onFine self capped .0 ⌝ }
     {
         FineAmount(self.0 * capped)

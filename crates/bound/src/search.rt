@@ -2,8 +2,8 @@
 ghost use mathlib.Core.Path.{_≡_};
 ghost use mathlib.Core.Bool.{false};
 ghost use Prim.Native.Nat.{_+_, _≤_, _<_};
-ghost use Rattle.basis.specs.Limits.{mostSeparation};
 ghost use Rattle.sheet.specs.Lists.{sheetIn};
+ghost use Rattle.bound.specs.Quantities.{widestSeparation};
 ghost use Rattle.bound.specs.Test.{amounts, passes};
 ghost use Rattle.bound.specs.Bound.{word, boundBy};
 ghost use Rattle.bound.specs.Ready.{heldIn, Lent, Ready, Length};
@@ -66,7 +66,7 @@ fn try_length(sheet: &[u64], results: &[u64], k: usize, length: Duration) -> Tri
 
 // How far a stretch is guessed to fail: twice as far as the next length is, or as guessed before, and at most to the deadline.
 fn reach_of(length: Duration, next: Duration, deadline: Duration, guess: Duration) -> Duration
-    requires { ⌜ (length .0 < next .0) × (next .0 ≤ deadline .0) × (deadline .0 ≤ mostSeparation) ⌝ }
+    requires { ⌜ (length .0 < next .0) × (next .0 ≤ deadline .0) × (deadline .0 ≤ widestSeparation) ⌝ }
     ensures { λ r. ⌜ (1 ≤ r .0) × (length .0 + r .0 ≤ deadline .0) ⌝ }
 {
     let step = next.after(length).times(2);

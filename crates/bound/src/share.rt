@@ -1,10 +1,10 @@
 // The shares of the rows above: what each runs at least in the long run, in 256ths, and whether they leave room for any length.
 ghost use mathlib.Core.Path.{_≡_};
 ghost use Prim.Native.Nat.{_≤_, min};
-ghost use Rattle.basis.specs.Limits.{mostProcessors, mostSeparation};
+ghost use Rattle.basis.specs.Limits.{mostProcessors};
 ghost use Rattle.sheet.specs.Legal.{rowAt};
 ghost use Rattle.sheet.specs.Lists.{sheetIn};
-ghost use Rattle.bound.specs.Quantities.{onFine};
+ghost use Rattle.bound.specs.Quantities.{widestSeparation, onFine};
 ghost use Rattle.bound.specs.Ready.{heldIn, Lent, Ready, Length, Above};
 ghost use Rattle.bound.specs.Skipping.{shareOf, Shares, AllFail};
 use crate::inside::row_inside;
@@ -25,7 +25,7 @@ pub(crate) fn share_above(
     window: Duration,
     busy: u64,
 ) -> FineAmount
-    requires { ⌜ (Above row bound length) × (window .0 ≤ mostSeparation) × (busy ≤ mostProcessors) ⌝ }
+    requires { ⌜ (Above row bound length) × (window .0 ≤ widestSeparation) × (busy ≤ mostProcessors) ⌝ }
     ensures { λ r. ⌜ r ≡ onFine (shareOf row bound length window) (min (row .threads) busy) ⌝ }
 {
     let span = span_above(row, bound, length);
