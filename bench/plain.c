@@ -1,6 +1,6 @@
 #include "plain.h"
 
-uint64_t lengths_tried;
+uint64_t lengths_tried, stretches_tried;
 
 static uint64_t smaller(uint64_t a, uint64_t b) { return a < b ? a : b; }
 
@@ -116,6 +116,7 @@ static bool no_room(const sheet_t *sheet, const uint64_t *bounds, size_t k, uint
 /* All lengths of a stretch fail where its two ends do, by amounts that grow evenly between them: a row's own while its separation lasts, or by its share if what that loses can be spared, or level. */
 static bool all_fail(const sheet_t *sheet, const uint64_t *bounds, size_t k, uint64_t from, uint64_t to, uint64_t q, uint64_t spare) {
   uint64_t early = from - sheet->rows[k].budget + 1, late = to - sheet->rows[k].budget + 1, now = 0, then = 0;
+  stretches_tried++;
   for (size_t i = 0; i < k; i++) {
     const row_t *row = &sheet->rows[i];
     uint64_t start = from + bounds[i] - row->budget, end = to + bounds[i] - row->budget, capped = smaller(row->threads, q), done = work(row, start);
