@@ -14,5 +14,6 @@ pub mod Meaning
 pub mod Lists
 pub mod Rows
 pub mod Worked
+pub mod Wrong
 pub mod Answers
 pub mod Load

@@ -3,6 +3,7 @@ pub mod Test
 pub mod Bound
 pub mod Tables
 pub mod Cases
+pub mod Wrong
 pub mod Lists
 pub mod Ready
 pub mod Skipping
