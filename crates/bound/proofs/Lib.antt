@@ -1,4 +1,3 @@
-pub mod Fixed
 pub mod Durations
 pub mod Workload
 pub mod Amounts

@@ -21,7 +21,7 @@ use Rattle.reader.specs.Lists.{intoLists, readInto}
 use Rattle.bound.specs.Test.{q, X, x, W, durationOf, amountOf, amounts, room, passes}
 use Rattle.bound.specs.Bound.{unreached, least, boundBy, judge, resultsTo, resultOf, holds, Answer, judged, boundsBy, boundsOf}
 use Rattle.bound.specs.Lists.{boundNumber, resultCell, resultsOn, boundsOn, judgedBytes}
-use Rattle.bound.specs.Tables.{sheetA, sheetC, sheetE, sheetF}
+use Rattle.tables.specs.Tables.{sheetA, sheetC, sheetE, sheetF}
 use Rattle.bound.specs.Wrong.{withoutCap, shortX, insideOnly, orEqual, alwaysNone, alwaysDeadline, judgedOn, goesOn, refusedHolds, refusedBy16, listUntouched, pastLeft, roomIgnored, clearedOnRefusal, threeRows, afterNone, listF}
 
 -- whether the sheet holds, as a number

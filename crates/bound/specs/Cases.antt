@@ -9,7 +9,7 @@ use Rattle.basis.specs.Words.{both}
 use Rattle.basis.specs.Refusals.{accepted}
 use Rattle.sheet.specs.declared.row.Sheet.{Sheet}
 use Rattle.bound.specs.Bound.{Word, bound, none, unreached, isBound, Answer, boundsOf}
-use Rattle.bound.specs.Tables.{sheetA, sheetB, sheetC, sheetD, sheetE, sheetF}
+use Rattle.tables.specs.Tables.{sheetA, sheetB, sheetC, sheetD, sheetE, sheetF}
 
 -- A sheet, and the results of its rows.
 pub record Case : Type 0 where

@@ -1,7 +1,6 @@
 pub mod Quantities
 pub mod Test
 pub mod Bound
-pub mod Tables
 pub mod Cases
 pub mod Wrong
 pub mod Lists

@@ -14,7 +14,7 @@ use Rattle.bound.specs.Quantities.{slots, minus, lesser, on, together, l
 use Rattle.bound.specs.Test.{C, q, X, W, durationOf, amounts, room, Test, passes}
 use Rattle.bound.specs.Bound.{Word, bound, none, unreached, bounds, boundBy, resultOf, allUnreached, holds, Answer, boundsBy, boundsOf}
 use Rattle.bound.specs.Lists.{resultsLong, resultCell}
-use Rattle.bound.specs.Tables.{row, sheetOf}
+use Rattle.tables.specs.Tables.{row, sheetOf}
 
 -- ---- wrong tests
 

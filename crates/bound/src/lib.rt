@@ -1,4 +1,4 @@
-// The bound of each row of a sheet, and the fixed tables of sheets A to F.
+// The bound of each row of a sheet.
 mod bytes;
 mod inside;
 mod judge;
@@ -9,7 +9,6 @@ mod search;
 mod share;
 mod start;
 mod stretch;
-mod tables;
 mod test;
 
 pub use bytes::judge_bytes;
@@ -20,4 +19,3 @@ pub use results::Result;
 pub use results::Results;
 pub use results::bounds;
 pub use results::bounds_on;
-pub use tables::fixed_sheet;

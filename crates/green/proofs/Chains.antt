@@ -1,32 +1,31 @@
 -- Accepted slots one after another, each from the state that the one before it left; and that they are in time where the sheet holds.
 -- Assumes nothing.
-use Prim.Native.Nat.{ℕ, zero, suc, _+_, _-_, _≤_, _<_, min}
-use mathlib.Core.Path.{_≡_, refl, sym, ap, subst, _∙_}
-use mathlib.Core.Bool.{Bool, true, false}
+use Prim.Native.Nat.{ℕ, zero, suc, _+_, _≤_, _<_}
+use mathlib.Core.Path.{_≡_, refl, sym, ap, _∙_}
+use mathlib.Core.Bool.{true}
 use mathlib.Core.Logic.{_⊎_, inl, inr, ⊎-elim}
 use mathlib.Core.List.{List, [], _∷_, _++_}
 use native.Mathlib.Omega.{arith}
-use lib.ListN.{length, getD}
-use Rattle.basis.specs.Refusals.{Outcome, accepted}
+use lib.ListN.{getD}
+use Rattle.basis.specs.Refusals.{accepted}
 use Rattle.sheet.specs.Legal.{rowAt, Legal}
 use Rattle.sheet.specs.declared.row.Sheet.{Sheet}
 use Rattle.bound.specs.Test.{passes}
-use Rattle.bound.specs.Bound.{bound, valueOf, resultOf, holds}
+use Rattle.bound.specs.Bound.{holds}
 use Rattle.machine.specs.declared.state.State.{State}
-use Rattle.machine.specs.declared.state.RowState.{RowState}
+use Rattle.records.specs.declared.record.RowState.{RowState}
 use Rattle.machine.specs.States.{recordAt}
 use Rattle.machine.specs.Slot.{begun, runs, reached, code}
 use Rattle.machine.specs.Checks.{checkReleases}
 use Rattle.machine.specs.Answers.{given, nextState}
-use Rattle.machine.proofs.Codes.{four-says}
+use Rattle.records.proofs.Codes.{four-says}
 use Rattle.machine.proofs.Legals.{LegalState}
-use Rattle.machine.proofs.Records.{ended-else}
-use Rattle.green.specs.Model.{Moment, owed, age, Reached, slot}
+use Rattle.records.proofs.Records.{ended-else}
+use Rattle.green.specs.Model.{age, Reached, slot}
 use Rattle.green.specs.Calls.{Done}
-use Rattle.green.specs.Demand.{noSlot, releaseIn, codeIn, FinishedWithin, InTime}
 use Rattle.green.proofs.Sheets.{rowsOf, ranges, safe}
-use Rattle.green.proofs.Soundness.{within-bound, slot-within-bound}
-use Rattle.green.proofs.Slots.{momentOf, ran, slot-is, begin-remaining, released-so, reached-remaining, reached-since, next-record, next-since}
+use Rattle.green.proofs.Soundness.{slot-within-bound}
+use Rattle.green.proofs.Slots.{momentOf, ran, slot-is, reached-remaining, reached-since, next-record, next-since}
 use Rattle.green.proofs.Codes.{finished-code, going-code}
 
 -- an accepted slot from a state: what it was checked for, and the codes that it wrote

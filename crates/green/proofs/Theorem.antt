@@ -1,8 +1,8 @@
 -- Demand 3: on a legal sheet that holds, from a fresh machine, whatever calls follow, each job is finished within its row's bound and no deadline is missed.
 -- Assumes nothing.
 use Prim.Native.Nat.{ℕ, _+_, _-_, _≤_, _<_}
-use mathlib.Core.Path.{_≡_, refl, sym, ap, subst, _∙_}
-use mathlib.Core.Bool.{Bool, true}
+use mathlib.Core.Path.{_≡_, ap, _∙_}
+use mathlib.Core.Bool.{true}
 use mathlib.Core.List.{List}
 use native.Mathlib.Omega.{arith}
 use lib.ListN.{replicate, length-replicate}
@@ -10,20 +10,21 @@ use lib.IntN.{pos}
 use borrow.Author.Tests.{le-ltb}
 use Rattle.basis.specs.Limits.{mostRows}
 use Rattle.basis.proofs.Upto.{upto-below}
-use Rattle.sheet.specs.Legal.{rowAt, legal, Legal}
+use Rattle.sheet.specs.Legal.{rowAt, legal}
 use Rattle.sheet.specs.declared.row.Sheet.{Sheet}
 use Rattle.sheet.proofs.Legality.{legal-is}
 use Rattle.bound.specs.Test.{passes}
-use Rattle.bound.specs.Bound.{bound, valueOf, resultOf, holds}
+use Rattle.bound.specs.Bound.{valueOf, resultOf, holds}
 use Rattle.machine.specs.declared.state.State.{State}
-use Rattle.machine.specs.declared.state.RowState.{RowState}
-use Rattle.machine.specs.States.{noRecord, recordAt, freshAt, freshState}
+use Rattle.records.specs.declared.record.RowState.{RowState}
+use Rattle.records.specs.Records.{noRecord}
+use Rattle.machine.specs.States.{recordAt, freshAt, freshState}
 use Rattle.machine.specs.Answers.{fresh, marginOf}
 use Rattle.machine.proofs.Differences.{less-twice}
 use Rattle.green.specs.Model.{Reached}
 use Rattle.green.specs.Model as model
 use Rattle.green.specs.Calls.{Call, freshOf, history, stateAfterAll}
-use Rattle.green.specs.Demand.{InTime, NoJobIsLate}
+use Rattle.green.specs.Demand.{NoJobIsLate}
 use Rattle.green.proofs.Sheets.{rowsOf, ranges, safe}
 use Rattle.green.proofs.Soundness.{within-bound}
 use Rattle.green.proofs.Slots.{momentOf}

@@ -15,7 +15,7 @@ use crate::lists::answer_listed;
 
 // Kind 15, a number: the fixed sheet with that number.
 fn answer_fixed(case: &[u8], page: &mut [u8]) -> bool {
-    let sheet = bound::fixed_sheet(word(case, WORD) as usize);
+    let sheet = tables::fixed_sheet(word(case, WORD) as usize);
     let end = put_sheet(page, LENGTH, sheet);
     send(page, end, &case[..0])
 }

@@ -71,7 +71,7 @@ fn box_on(
 ) -> bool
     requires { ⌜ (from ≤ to) × (to ≤ length (now bytes)) ⌝ }
 {
-    let ran = machine::box_run(sheet_of(sheet), releases, &mut bytes[from..to]);
+    let ran = aboard::box_run(sheet_of(sheet), releases, &mut bytes[from..to]);
     let refusal = ran.refusal;
     let state = ran.state;
     let next = put_refusal(page, LENGTH, refusal);

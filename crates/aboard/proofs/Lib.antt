@@ -1,0 +1,4 @@
+pub mod Boxed
+pub mod Lending
+pub mod Found
+pub mod Same

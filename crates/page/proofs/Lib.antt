@@ -1,0 +1,3 @@
+pub mod Saying
+pub mod Digits
+pub mod Same

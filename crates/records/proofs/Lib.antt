@@ -1,0 +1,4 @@
+pub mod Records
+pub mod Codes
+pub mod Stepped
+pub mod Same

@@ -1,0 +1,4 @@
+pub mod Records
+pub mod Steps
+pub mod Checks
+pub mod Methods
