@@ -4,8 +4,8 @@
  * 0 the pointer may be NULL. A list that is written may not overlap any other, and *place and the other numbers that are written may not lie in a
  * list: the promises are for lists that are apart.
  *
- * Every function but giachimu_green answers the number of a refusal, or 0 where it is accepted, and writes the refusal's place, or 0. Beside a
- * refusal nothing else is written, save by giachimu_run, which says how many slots it did before the refused one.
+ * Every function but giachimu_green and giachimu_legal answers the number of a refusal, or 0 where it is accepted, and writes the refusal's place, or 0.
+ * Beside a refusal nothing else is written, save by giachimu_run and giachimu_box, which say how many slots they did before the refused one.
  *
  *   1  under four bytes, or the mark differs       9  bytes after the last row
  *   2  the sheet ends inside a field              10  the sheet's list is out of range, or has fewer rows than n
@@ -63,9 +63,26 @@ uint64_t giachimu_slot(const uint64_t *sheet, size_t sheet_count, uint64_t *stat
 uint64_t giachimu_run(const uint64_t *sheet, size_t sheet_count, uint64_t *state, size_t state_count, const uint64_t *releases, size_t releases_count,
                       uint8_t *codes, size_t codes_count, uint64_t *done, size_t *place);
 
+/* Slots one after another from the fresh state, by the box's own loop; the state after them is written, places past its last row are made 0. Refusals: 10, 15, 11, 15,
+ * then as a run; by the first two nothing is done. */
+uint64_t giachimu_box(const uint64_t *sheet, size_t sheet_count, uint64_t *state, size_t state_count, const uint64_t *releases, size_t releases_count,
+                      uint8_t *codes, size_t codes_count, uint64_t *done, size_t *place);
+
 /* The margin of a row: 1 in `job` and its margin where the row has a job; 0 in `job`, and no margin is written, where it has none. Refusals: 10, 16, 14. */
 uint64_t giachimu_margin(const uint64_t *sheet, size_t sheet_count, const uint64_t *state, size_t state_count, size_t row, uint64_t *job, int64_t *margin,
                          size_t *place);
+
+/* Whether a sheet's list is in the ranges: where it is not, the other functions refuse it by 10. */
+bool giachimu_legal(const uint64_t *sheet, size_t sheet_count);
+
+/* The worked sheets A to F, by 0 to 5, as a sheet's list; any other number is the sheet of zeros, which no function takes. Refusal: 15. */
+uint64_t giachimu_fixed(size_t number, uint64_t *sheet, size_t sheet_count, size_t *place);
+
+/* The number in groups of seven bits at a place of some bytes, and the place after it. Refusals: 2, 3. */
+uint64_t giachimu_number(const uint8_t *bytes, size_t bytes_count, size_t at, uint64_t *value, size_t *after, size_t *place);
+
+/* The same for a number from 1 to `most`. Refusals: 2, 3, 7, 8. */
+uint64_t giachimu_number_up_to(const uint8_t *bytes, size_t bytes_count, size_t at, uint64_t most, uint64_t *value, size_t *after, size_t *place);
 
 #ifdef __cplusplus
 }

@@ -44,6 +44,23 @@ static void show_run(const uint64_t *sheet) {
   printf("one slot more: %d %d\n", codes[0], codes[1]);
 }
 
+static void show_further(const uint64_t *sheet) {
+  static const uint64_t RELEASES[] = {1, 2, 0, 0, 1, 0, 0, 0, 1, 2, 0, 1};
+  uint64_t state[GIACHIMU_PAIRS_LONG], worked[GIACHIMU_SHEET_LONG], value = 0, done;
+  uint8_t codes[12];
+  size_t after = 0, place;
+  giachimu_number(SHEET, sizeof SHEET, 4, &value, &after, &place);
+  printf("the number at 4 is %llu, and the next is at %zu\n", (unsigned long long)value, after);
+  uint64_t number = giachimu_number_up_to(SHEET, sizeof SHEET, 4, 1, &value, &after, &place);
+  printf("a most of 1: refusal %llu at %zu\n", (unsigned long long)number, place);
+  giachimu_fixed(3, worked, GIACHIMU_SHEET_LONG, &place);
+  bool same = true;
+  for (size_t i = 0; i < GIACHIMU_SHEET_LONG; i++) same = same && worked[i] == sheet[i];
+  printf("legal: %d, sheet D: %d\n", giachimu_legal(sheet, GIACHIMU_SHEET_LONG), same);
+  number = giachimu_box(sheet, GIACHIMU_SHEET_LONG, state, GIACHIMU_PAIRS_LONG, RELEASES, 12, codes, sizeof codes, &done, &place);
+  printf("the box: %llu slots done, refusal %llu at %zu\n", (unsigned long long)done, (unsigned long long)number, place);
+}
+
 int main(void) {
   uint64_t sheet[GIACHIMU_SHEET_LONG];
   size_t place;
@@ -53,5 +70,6 @@ int main(void) {
   if (giachimu_read(SHEET, sizeof SHEET, sheet, GIACHIMU_SHEET_LONG, &place) != 0) return 1;
   show_bounds(sheet);
   show_run(sheet);
+  show_further(sheet);
   return 0;
 }

@@ -26,3 +26,12 @@ except Refused as refused:
     print(f"row 2: refusal {refused.number}")
 codes = giachimu.slot(processors, rows, state, [0, 0])
 print(f"one slot more: {codes[0]} {codes[1]}")
+value, after = giachimu.number(SHEET, 4)
+print(f"the number at 4 is {value}, and the next is at {after}")
+try:
+    giachimu.number_up_to(SHEET, 4, 1)
+except Refused as refused:
+    print(f"a most of 1: {refused}")
+print(f"legal: {int(giachimu.legal(processors, rows))}, sheet D: {int(giachimu.fixed(3) == (processors, rows))}")
+ran, _ = giachimu.boxed(processors, rows, [1, 2, 0, 0, 1, 0, 0, 0, 1, 2, 0, 1])
+print(f"the box: {len(ran.codes)} slots done, {ran.refusal}")

@@ -38,6 +38,7 @@ class Giachimu:
         self._library = ctypes.CDLL(path)
         self._library.giachimu_green.restype = ctypes.c_bool
         self._library.giachimu_green.argtypes = [ctypes.c_char_p, ctypes.c_size_t]
+        self._library.giachimu_legal.restype = ctypes.c_bool
 
     def _call(self, name, *arguments):
         """Calls a function with its place behind the arguments; the number and the place."""
@@ -67,8 +68,32 @@ class Giachimu:
         """Processors, and the rows."""
         numbers = _numbers([0] * (4 * MOST_ROWS + 2))
         self._ask("giachimu_read", sheet, _count(sheet), numbers, _count(numbers))
-        rows = [Row(*numbers[2 + 4 * row : 6 + 4 * row]) for row in range(numbers[1])]
-        return numbers[0], rows
+        return numbers[0], _rows(numbers)
+
+    def number(self, bytes_, at):
+        """The number at a place of some bytes, and the place after it."""
+        value, after = ctypes.c_uint64(), ctypes.c_size_t()
+        self._ask("giachimu_number", bytes_, _count(bytes_), ctypes.c_size_t(at), ctypes.byref(value), ctypes.byref(after))
+        return value.value, after.value
+
+    def number_up_to(self, bytes_, at, most):
+        """The same for a number from 1 to the most."""
+        value, after = ctypes.c_uint64(), ctypes.c_size_t()
+        self._ask(
+            "giachimu_number_up_to", bytes_, _count(bytes_), ctypes.c_size_t(at), ctypes.c_uint64(most), ctypes.byref(value), ctypes.byref(after)
+        )
+        return value.value, after.value
+
+    def fixed(self, number):
+        """Processors and rows of a worked sheet, A to F by 0 to 5; of no sheet by any other number."""
+        numbers = _numbers([0] * (4 * MOST_ROWS + 2))
+        self._ask("giachimu_fixed", ctypes.c_size_t(number), numbers, _count(numbers))
+        return numbers[0], _rows(numbers)
+
+    def legal(self, processors, rows):
+        """Whether a sheet is in the ranges."""
+        sheet = _sheet(processors, rows)
+        return self._library.giachimu_legal(sheet, _count(sheet))
 
     def label(self, sheet, row):
         """The label of a row."""
@@ -104,6 +129,16 @@ class Giachimu:
         slots = [list(codes[slot * len(rows) : (slot + 1) * len(rows)]) for slot in range(done.value)]
         return Ran(slots, Refused(number, place) if number else None)
 
+    def boxed(self, processors, rows, releases):
+        """Slots one after another from the fresh state, by the box's own loop: what came of them, and the state after them."""
+        sheet, list_, codes = _sheet(processors, rows), _numbers(releases), (ctypes.c_uint8 * len(releases))()
+        state, done = _numbers([0] * (2 * MOST_ROWS)), ctypes.c_uint64()
+        number, place = self._call(
+            "giachimu_box", sheet, _count(sheet), state, _count(state), list_, _count(list_), codes, _count(codes), ctypes.byref(done)
+        )
+        slots = [list(codes[slot * len(rows) : (slot + 1) * len(rows)]) for slot in range(done.value)]
+        return Ran(slots, Refused(number, place) if number else None), state
+
     def margin(self, processors, rows, state, row):
         """The margin of a row; None where it has no job."""
         sheet, job, margin = _sheet(processors, rows), ctypes.c_uint64(), ctypes.c_int64()
@@ -115,6 +150,10 @@ class Giachimu:
 
 def _count(of):
     return ctypes.c_size_t(len(of))
+
+
+def _rows(numbers):
+    return [Row(*numbers[2 + 4 * row : 6 + 4 * row]) for row in range(numbers[1])]
 
 
 def _numbers(values):

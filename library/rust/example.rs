@@ -2,7 +2,7 @@
 
 mod giachimu;
 
-use giachimu::{green, label, verdict, Outcome, Sheet};
+use giachimu::{green, label, number, number_up_to, verdict, Outcome, Sheet, State};
 
 const SHEET: &[u8] = b"GSH\x01\x02\x02\x04roll\x02\x02\x02\x01\x04trim\x01\x04\x04\x02";
 
@@ -35,4 +35,12 @@ fn main() {
     assert!(refused.number == 13 && refused.place == 1 && state == before);
     let codes = state.slot(&sheet, &[0, 0]).expect("no release is too soon");
     println!("one slot more: {} {}", codes[0] as u8, codes[1] as u8);
+    let (value, after) = number(SHEET, 4).expect("there is a number");
+    println!("the number at 4 is {value}, and the next is at {after}");
+    let refused = number_up_to(SHEET, 4, 1).expect_err("it is over the most");
+    println!("a most of 1: refusal {} at {}", refused.number, refused.place);
+    println!("legal: {}, sheet D: {}", sheet.legal() as u8, (Sheet::fixed(3) == sheet) as u8);
+    let (run, _) = State::boxed(&sheet, &[1, 2, 0, 0, 1, 0, 0, 0, 1, 2, 0, 1]);
+    let refusal = run.refusal.expect("the last slot releases too soon");
+    println!("the box: {} slots done, refusal {} at {}", run.done, refusal.number, refusal.place);
 }

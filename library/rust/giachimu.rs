@@ -13,6 +13,13 @@ extern "C" {
     #[rustfmt::skip]
     fn giachimu_run(sheet: *const u64, sheet_count: usize, state: *mut u64, state_count: usize, releases: *const u64, releases_count: usize, codes: *mut u8, codes_count: usize, done: *mut u64, place: *mut usize) -> u64;
     #[rustfmt::skip]
+    fn giachimu_box(sheet: *const u64, sheet_count: usize, state: *mut u64, state_count: usize, releases: *const u64, releases_count: usize, codes: *mut u8, codes_count: usize, done: *mut u64, place: *mut usize) -> u64;
+    fn giachimu_legal(sheet: *const u64, sheet_count: usize) -> bool;
+    fn giachimu_fixed(number: usize, sheet: *mut u64, sheet_count: usize, place: *mut usize) -> u64;
+    fn giachimu_number(bytes: *const u8, bytes_count: usize, at: usize, value: *mut u64, after: *mut usize, place: *mut usize) -> u64;
+    #[rustfmt::skip]
+    fn giachimu_number_up_to(bytes: *const u8, bytes_count: usize, at: usize, most: u64, value: *mut u64, after: *mut usize, place: *mut usize) -> u64;
+    #[rustfmt::skip]
     fn giachimu_margin(sheet: *const u64, sheet_count: usize, state: *const u64, state_count: usize, row: usize, job: *mut u64, margin: *mut i64, place: *mut usize) -> u64;
 }
 
@@ -107,15 +114,52 @@ pub fn label(bytes: &[u8], row: usize) -> Result<&[u8], Refusal> {
     answer(number, place, &bytes[start..start + length])
 }
 
+/// The number at a place of some bytes, and the place after it.
+pub fn number(bytes: &[u8], at: usize) -> Result<(u64, usize), Refusal> {
+    let (mut value, mut after, mut place) = (0, 0, 0);
+    // SAFETY: as above.
+    let number = unsafe { giachimu_number(bytes.as_ptr(), bytes.len(), at, &mut value, &mut after, &mut place) };
+    answer(number, place, (value, after))
+}
+
+/// The same for a number from 1 to the most.
+pub fn number_up_to(bytes: &[u8], at: usize, most: u64) -> Result<(u64, usize), Refusal> {
+    let (mut value, mut after, mut place) = (0, 0, 0);
+    // SAFETY: as above.
+    let number = unsafe { giachimu_number_up_to(bytes.as_ptr(), bytes.len(), at, most, &mut value, &mut after, &mut place) };
+    answer(number, place, (value, after))
+}
+
 impl Sheet {
     /// The sheet in some bytes.
     pub fn read(bytes: &[u8]) -> Result<Sheet, Refusal> {
         let (mut list, mut place) = ([0; 4 * MOST_ROWS + 2], 0);
         // SAFETY: as above.
         let number = unsafe { giachimu_read(bytes.as_ptr(), bytes.len(), list.as_mut_ptr(), list.len(), &mut place) };
+        answer(number, place, Sheet::listed(&list))
+    }
+
+    /// A worked sheet, A to F by 0 to 5; a sheet of zeros by any other number.
+    pub fn fixed(number: usize) -> Sheet {
+        let (mut list, mut place) = ([0; 4 * MOST_ROWS + 2], 0);
+        // SAFETY: as above.
+        let refused = unsafe { giachimu_fixed(number, list.as_mut_ptr(), list.len(), &mut place) };
+        assert_eq!(refused, 0, "there is room for every row");
+        Sheet::listed(&list)
+    }
+
+    /// The sheet of a list.
+    fn listed(list: &[u64]) -> Sheet {
         let rows = list[2..].chunks(4).take(list[1] as usize);
         let rows = rows.map(|row| Row { threads: row[0], separation: row[1], deadline: row[2], budget: row[3] });
-        answer(number, place, Sheet { processors: list[0], rows: rows.collect() })
+        Sheet { processors: list[0], rows: rows.collect() }
+    }
+
+    /// Whether the sheet is in the ranges.
+    pub fn legal(&self) -> bool {
+        let list = self.list();
+        // SAFETY: as above.
+        unsafe { giachimu_legal(list.as_ptr(), list.len()) }
     }
 
     /// The sheet's list of plain numbers.
@@ -173,6 +217,18 @@ impl State {
         };
         codes.truncate(done as usize * sheet.rows.len());
         Run { done, codes: codes.into_iter().map(code).collect(), refusal: answer(number, place, ()).err() }
+    }
+
+    /// Slots one after another from the fresh state, by the box's own loop: the state after them.
+    pub fn boxed(sheet: &Sheet, releases: &[u64]) -> (Run, State) {
+        let (list, mut codes, mut done, mut place) = (sheet.list(), vec![0; releases.len()], 0, 0);
+        let mut state = [0; 2 * MOST_ROWS];
+        // SAFETY: as above.
+        let number = unsafe {
+            giachimu_box(list.as_ptr(), list.len(), state.as_mut_ptr(), state.len(), releases.as_ptr(), releases.len(), codes.as_mut_ptr(), codes.len(), &mut done, &mut place)
+        };
+        codes.truncate(done as usize * sheet.rows.len());
+        (Run { done, codes: codes.into_iter().map(code).collect(), refusal: answer(number, place, ()).err() }, State(state))
     }
 
     /// The margin of a row; none where it has no job.

@@ -7,7 +7,7 @@ use crate::number::{number, refuse, up_to, Refusal};
 use crate::page::Page;
 use crate::reader::{label, read};
 use crate::rules::{broken, Rule};
-use crate::sheet::{fixed, Sheet, MOST_ROWS};
+use crate::sheet::{fixed, Sheet};
 use crate::text::verdict;
 
 /// What every number that is lent for an answer holds before the call.
@@ -50,12 +50,10 @@ impl Case {
             }
             Case::Sweep { bytes } => swept(bytes),
             Case::Legal { sheet } => Page::default().word(Sheet::handed(sheet).is_ok() as u64),
-            Case::BoxRun { sheet, releases, codes } => box_ran(sheet, releases, codes),
-            Case::Fixed { number } => {
+            Case::BoxRun(step) => box_ran(step),
+            Case::Fixed { number, list } => {
                 let sheet = fixed().get(usize::try_from(*number).unwrap_or(usize::MAX)).map(Sheet::list);
-                let mut list = sheet.unwrap_or_default();
-                list.resize(2 + 4 * MOST_ROWS, 0);
-                Page::default().words(&list)
+                filled(list, Ok(sheet.unwrap_or(vec![0, 0])))
             }
         };
         page.0
@@ -64,7 +62,7 @@ impl Case {
 
 /// A number's value and the place after it, or its refusal.
 fn found(answer: Result<(u64, usize), Refusal>) -> Page {
-    let (value, next) = answer.unwrap_or((0, 0));
+    let (value, next) = answer.unwrap_or((BEFORE, BEFORE as usize));
     Page::default().refusal(answer.err()).words(&[value, next as u64])
 }
 
@@ -131,19 +129,22 @@ fn ran(step: &Step) -> Page {
     Page::default().refusal(refusal).word(done).words(&state).bytes(&codes.bytes)
 }
 
-/// A run from the fresh state: the slots done, the state's numbers with zeros past them, and the bytes.
-fn box_ran(sheet: &[u64], releases: &[u64], codes: &Room) -> Page {
-    let (mut state, mut codes) = ([0; 2 * MOST_ROWS], codes.clone());
-    let (done, refusal) = match Sheet::handed(sheet) {
-        Ok(sheet) => {
-            let mut first = fresh(&sheet);
+/// A run from the fresh state, where there is room for it: the slots done, and the list with the state after them and the bytes.
+fn box_ran(step: &Step) -> Page {
+    let (mut state, mut codes) = (step.state.clone(), step.codes.clone());
+    let begun = Sheet::handed(&step.sheet).and_then(|sheet| {
+        let first = fresh(&sheet);
+        fill(&mut state, &listed(&first))?;
+        Ok((sheet, first))
+    });
+    let (done, refusal) = match begun {
+        Ok((sheet, mut first)) => {
             if broken(Rule::BoxNotReady) {
                 first.iter_mut().for_each(|record| record.since = 1);
             }
-            let ran = run(&sheet, &first, releases, codes.lent());
-            let numbers = listed(&ran.state);
-            state[..numbers.len()].copy_from_slice(&numbers);
-            (ran.done, ran.refusal)
+            let ran = run(&sheet, &first, &step.releases, codes.lent());
+            let short = fill(&mut state, &listed(&ran.state)).err();
+            (ran.done, ran.refusal.or(short))
         }
         Err(refusal) => (0, Some(refusal)),
     };

@@ -58,7 +58,7 @@ impl Room {
     }
 }
 
-/// What a slot or a run is asked with.
+/// What a slot or a run is asked with; of the box's own loop the state is only a list that is lent.
 #[derive(Clone, Debug)]
 pub struct Step {
     pub sheet: Vec<u64>,
@@ -83,8 +83,8 @@ pub enum Case {
     Green { bytes: Vec<u8> },
     Sweep { bytes: Vec<u8> },
     Legal { sheet: Vec<u64> },
-    BoxRun { sheet: Vec<u64>, releases: Vec<u64>, codes: Room },
-    Fixed { number: u64 },
+    BoxRun(Step),
+    Fixed { number: u64, list: Vec<u64> },
 }
 
 impl Page {
@@ -114,7 +114,7 @@ impl Case {
             Case::Green { .. } => Kind::Green,
             Case::Sweep { .. } => Kind::Sweep,
             Case::Legal { .. } => Kind::Legal,
-            Case::BoxRun { .. } => Kind::BoxRun,
+            Case::BoxRun(_) => Kind::BoxRun,
             Case::Fixed { .. } => Kind::Fixed,
         }
     }
@@ -128,13 +128,12 @@ impl Case {
             Case::Read { list, bytes } => page.list(list).bytes(bytes),
             Case::Label { row, bytes } => page.word(*row).bytes(bytes),
             Case::Bounds { sheet, list } | Case::Fresh { sheet, list } => page.list(sheet).list(list),
-            Case::Slot(step) | Case::Run(step) => page.step(step),
+            Case::Slot(step) | Case::Run(step) | Case::BoxRun(step) => page.step(step),
             Case::Margin { sheet, state, row } => page.list(sheet).list(state).word(*row),
             Case::Verdict { text, bytes } => page.room(text).word(text.bytes.len() as u64).bytes(&text.bytes).bytes(bytes),
             Case::Green { bytes } | Case::Sweep { bytes } => page.bytes(bytes),
             Case::Legal { sheet } => page.list(sheet),
-            Case::BoxRun { sheet, releases, codes } => page.list(sheet).list(releases).room(codes).bytes(&codes.bytes),
-            Case::Fixed { number } => page.word(*number),
+            Case::Fixed { number, list } => page.word(*number).list(list),
         };
         page.0
     }

@@ -1,14 +1,12 @@
 //! Jobs held to their bounds: every job of a run that finishes does so within its row's bound, and none is missed.
 
-use crate::case::{Case, Kind};
+use crate::case::{Case, Kind, Step};
 use crate::page::word_at;
 use crate::rules::{broken, Rule};
 use crate::sheet::at;
 
 /// Where the state begins in the answer to a run: after a refusal and the slots done.
 const STATE: usize = 24;
-/// The bytes of a state in the answer of the box.
-const BOX_STATE: usize = 512;
 
 /// What was seen of the jobs in rows that may have to wait: those whose bound is over their budget.
 #[derive(Default)]
@@ -21,15 +19,12 @@ pub struct Watch {
 impl Watch {
     /// Follows every job of a run through the codes of the answer; what is wrong, where a job is missed or late.
     pub fn judge(&mut self, case: &Case, bounds: &[u64], answer: &[u8]) -> Option<String> {
-        let (sheet, state, releases, codes, room) = match case {
-            Case::Run(step) => (&step.sheet, &step.state[..], &step.releases, STATE + 8 * step.state.len(), &step.codes),
-            Case::BoxRun { sheet, releases, codes } => (sheet, &[][..], releases, STATE + BOX_STATE, codes),
-            _ => panic!("only runs have jobs to follow"),
-        };
+        let (Case::Run(step) | Case::BoxRun(step)) = case else { panic!("only runs have jobs to follow") };
+        let Step { sheet, state, releases, codes: room } = step;
         if word_at(answer, 0) != Some(0) {
             return Some("the run is refused".to_string());
         }
-        let codes = &answer[codes + room.before..][..releases.len()];
+        let codes = &answer[STATE + 8 * state.len() + room.before..][..releases.len()];
         let n = bounds.len();
         let less = broken(Rule::BoundOneLess) as u64;
         let since = |k: usize| if case.kind() == Kind::Run { at(state, 2 * k + 1) as i64 } else { 0 };

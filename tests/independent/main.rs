@@ -30,8 +30,8 @@ use std::sync::atomic::{AtomicBool, Ordering::Relaxed};
 /// The seed where none is given.
 const SEED: u64 = 20_240_229;
 
-const USAGE: &str = "check STARTER FOLDER [--seed N] [--times K] [--break RULE], rules, or hand CASES ANSWERS
-  STARTER starts a program, FOLDER has probe, verdict and reference; --times makes so many times the random cases;
+const USAGE: &str = "check STARTER PROBE FOLDER [--seed N] [--times K] [--break RULE], rules, or hand CASES ANSWERS
+  STARTER starts a program, PROBE answers cases, FOLDER has verdict and reference; --times makes so many times the random cases;
   --break breaks one rule of this program and asks only what has to show it; rules prints their names;
   hand writes the cases worked by hand and their answers, in the bytes of the wire
 status: 0 where nothing differs, 1 at a difference, another where it cannot be told";
@@ -52,13 +52,13 @@ fn choice(flags: &[String]) -> Option<Choice> {
 }
 
 /// Everything compared; whether nothing differs.
-fn check(starter: &Path, folder: &Path, choice: Choice) -> bool {
+fn check(starter: &Path, program: &Path, folder: &Path, choice: Choice) -> bool {
     if choice.only.is_none() {
         hand::check();
     }
-    let (program, differs) = (folder.join("probe"), AtomicBool::new(false));
+    let differs = AtomicBool::new(false);
     let [first, mut second] = std::thread::scope(|scope| {
-        let (program, differs) = (&program, &differs);
+        let differs = &differs;
         let asked =
             [Half::Sheets, Half::Machine].map(|half| scope.spawn(move || probe::check(starter, program, choice, half, differs)));
         asked.map(|half| half.join().expect("a half of the comparison ends"))
@@ -87,9 +87,9 @@ fn main() -> ExitCode {
             std::fs::write(answers, kept.answers).expect("the answers can be written");
             return ExitCode::SUCCESS;
         }
-        [word, starter, folder, flags @ ..] if word == "check" => {
+        [word, starter, program, folder, flags @ ..] if word == "check" => {
             if let Some(choice) = choice(flags) {
-                return ExitCode::from(!check(Path::new(starter), Path::new(folder), choice) as u8);
+                return ExitCode::from(!check(Path::new(starter), Path::new(program), Path::new(folder), choice) as u8);
             }
         }
         _ => {}

@@ -6,7 +6,9 @@ use mathlib.Core.List.{List}
 use lib.ListN.{length}
 use lib.IntN.{ℤ}
 use borrow.Author.Tests.{eq-eqb}
-use Rattle.basis.specs.Refusals.{Outcome, accepted, refused, orElse, roomFor, handed}
+use Rattle.basis.specs.Refusals.{Outcome, accepted, refused, orElse, needed, roomFor, handed}
+use Rattle.basis.specs.Readers.{Step, ok, refuse}
+use Rattle.numbers.specs.Numbers.{number, upTo}
 use Rattle.reader.specs.Answers.{reading}
 use Rattle.sheet.specs.declared.row.Sheet.{Sheet}
 use Rattle.bound.specs.Bound.{boundsOf}
@@ -16,9 +18,12 @@ use Rattle.machine.specs.Answers.{Course, Told, no-job, margin-is, refused-by, 
 use Rattle.machine.specs.declared.state.State.{State}
 use Rattle.machine.proofs.Done.{Ends, all-done, stopped-at, run-ends, run-not-begun}
 use Rattle.dashboard.specs.Texts.{verdictText}
+use Rattle.sheet.specs.Legal.{legal}
 use Rattle.sheet.specs.Lists.{sheetIn, sheetLong}
+use Rattle.tables.specs.Tables.{fixedSheet}
 use Rattle.machine.specs.Lists.{stateLong, stateIn, freshOn, slotListed, slotIn, runIn}
 use Rattle.exports.specs.Answers.{told, verdictIn, fieldsIn, readIn, labelOutcome, labelAnswer, resultsIn, boundsIn, withTold, freshIn, slotOn, runOn, marginGiven, marginIn}
+use Rattle.exports.specs.Further.{stepTold, numberOn, upToOn, fixedIn, boxBy, boxOf, boxOn}
 
 -- what is handed over where a number other than 0 is told
 kept : {A : Type 0} (o : Outcome) (done found : A) → (told o .0 ≡ 0 → ⊥) → handed o done found .1 ≡ found
@@ -101,3 +106,30 @@ refused-margin-changes-nothing s list row lent n = go (margin (sheetIn s) (state
 pub refused-verdict-changes-nothing : (s text : List ℕ) (long : ℕ) → (verdictIn s text long .0 .0 ≡ 0 → ⊥) → verdictIn s text long .1 ≡ (text, long)
 unfolding verdictIn
 refused-verdict-changes-nothing s text long n = kept (roomFor (length (verdictText s)) (length text)) _ (text, long) n
+
+-- what reading a number leaves where a number other than 0 is told
+step-kept : (st : Step ℕ) (found : ℕ × ℕ) → (stepTold st found .0 .0 ≡ 0 → ⊥) → stepTold st found .1 ≡ found
+unfolding stepTold
+step-kept (ok value after) found n = absurd (n refl)
+step-kept (refuse k place) found n = refl
+
+-- A refused `giachimu_number` leaves both numbers.
+pub refused-number-changes-nothing : (s : List ℕ) (at : ℕ) (found : ℕ × ℕ) → (numberOn s at found .0 .0 ≡ 0 → ⊥) → numberOn s at found .1 ≡ found
+unfolding numberOn
+refused-number-changes-nothing s at found n = step-kept (number s at) found n
+
+-- So does a refused `giachimu_number_up_to`.
+pub refused-up-to-changes-nothing : (s : List ℕ) (at most : ℕ) (found : ℕ × ℕ) → (upToOn s at most found .0 .0 ≡ 0 → ⊥) → upToOn s at most found .1 ≡ found
+unfolding upToOn
+refused-up-to-changes-nothing s at most found n = step-kept (upTo most 7 8 s at) found n
+
+-- A refused `giachimu_fixed` leaves the list.
+pub refused-fixed-changes-nothing : (k : ℕ) (list : List ℕ) → (fixedIn k list .0 .0 ≡ 0 → ⊥) → fixedIn k list .1 ≡ list
+unfolding fixedIn fieldsIn
+refused-fixed-changes-nothing k list n = kept (roomFor (sheetLong (fixedSheet k .count)) (length list)) _ list n
+
+-- A `giachimu_box` whose sheet is out of range, or whose list has no room for a state, does no slot and leaves the list and the codes.
+pub unbegun-box-changes-nothing : (s list rel cs : List ℕ) (a b : ℕ) → orElse (needed (legal (sheetIn s)) 10) (roomFor (stateLong (sheetIn s .count)) (length list)) ≡ refused a b
+    → boxOn s list rel cs ≡ ((a, b), (0, (list, cs)))
+unfolding boxOn boxOf
+unbegun-box-changes-nothing s list rel cs a b e = ap (λ (o : Outcome). boxBy o (run (sheetIn s) (fresh (sheetIn s) .1) rel cs) list cs) e

@@ -1,10 +1,12 @@
 pub mod Back
 pub mod Bounds
+pub mod Boxed
 pub mod Calls
 pub mod Copied
 pub mod Fields
 pub mod Following
 pub mod Kept
 pub mod Meaning
+pub mod Numbered
 pub mod Same
 pub mod Texts

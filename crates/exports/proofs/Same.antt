@@ -8,6 +8,9 @@ use lib.IntN.{ℤ}
 use Rattle.reader.specs.Answers.{reading}
 use Rattle.green.specs.Demand.{NoJobIsLate}
 use Rattle.green.specs.Green.{greenOf}
+use Rattle.sheet.specs.Legal.{legal}
+use Rattle.sheet.specs.Lists.{sheetIn}
+use Rattle.exports.specs.Further.{numberOn, upToOn, fixedIn, boxOn}
 use Rattle.exports.specs.Answers.{verdictIn, readIn, labelAnswer, boundsIn, freshIn, slotOn, runOn, marginIn}
 
 -- `giachimu_read`: the number and the place, and the list.
@@ -45,3 +48,23 @@ verdict-same s text long a b e f = e ∙ sym f
 -- `giachimu_green`: yes or no.
 pub green-same : (s : List ℕ) (a b : Bool) → (a ≡ greenOf s) × (a ≡ true → NoJobIsLate (reading s .1)) → (b ≡ greenOf s) × (b ≡ true → NoJobIsLate (reading s .1)) → a ≡ b
 green-same s a b e f = e .0 ∙ sym (f .0)
+
+-- `giachimu_number`: the number and the place, the value and the place after it.
+pub number-same : (s : List ℕ) (at : ℕ) (found : ℕ × ℕ) (a b : (ℕ × ℕ) × (ℕ × ℕ)) → a ≡ numberOn s at found → b ≡ numberOn s at found → a ≡ b
+number-same s at found a b e f = e ∙ sym f
+
+-- `giachimu_number_up_to`: the same.
+pub number-up-to-same : (s : List ℕ) (at most : ℕ) (found : ℕ × ℕ) (a b : (ℕ × ℕ) × (ℕ × ℕ)) → a ≡ upToOn s at most found → b ≡ upToOn s at most found → a ≡ b
+number-up-to-same s at most found a b e f = e ∙ sym f
+
+-- `giachimu_legal`: yes or no.
+pub legal-same : (s : List ℕ) (a b : Bool) → a ≡ legal (sheetIn s) → b ≡ legal (sheetIn s) → a ≡ b
+legal-same s a b e f = e ∙ sym f
+
+-- `giachimu_fixed`: the number and the place, and the list.
+pub fixed-same : (k : ℕ) (list : List ℕ) (a b : (ℕ × ℕ) × List ℕ) → a ≡ fixedIn k list → b ≡ fixedIn k list → a ≡ b
+fixed-same k list a b e f = e ∙ sym f
+
+-- `giachimu_box`: the number and the place, the slots done, the list and the codes.
+pub box-same : (s list rel cs : List ℕ) (a b : (ℕ × ℕ) × (ℕ × (List ℕ × List ℕ))) → a ≡ boxOn s list rel cs → b ≡ boxOn s list rel cs → a ≡ b
+box-same s list rel cs a b e f = e ∙ sym f

@@ -12,7 +12,9 @@ const LONG_WALK: u64 = 300;
 /// Legal sheets, sheets out of range in one number, lists too short and too long, and the fixed sheets.
 pub fn all(cases: &mut dyn Cases, dice: &mut Dice, times: u64) {
     for number in (0..=40).chain([255, 256, 1 << 32, 1 << 63, u64::MAX]) {
-        cases.add("fixed sheets", Case::Fixed { number });
+        for length in (0..=16).chain([2 + 4 * MOST_ROWS, LONGEST_SHEET_LIST]) {
+            cases.add("fixed sheets", Case::Fixed { number, list: vec![7; length] });
+        }
     }
     for turn in 0..15_000 * times {
         let rows = dice.count();

@@ -7,7 +7,7 @@ use crate::case::{Case, Kind, Room, Step};
 use crate::dice::Dice;
 use crate::machine::{fresh, listed, slot, Record};
 use crate::random::Size;
-use crate::sheet::{Row, Sheet};
+use crate::sheet::{Row, Sheet, MOST_ROWS};
 
 /// The most releases of one run.
 const MOST_RELEASES: usize = 1_024;
@@ -78,7 +78,8 @@ fn chain(cases: &mut dyn Cases, dice: &mut Dice, sheet: &Sheet, bounds: &[u64], 
     }
     let [first, second] = lists;
     let room = |long: usize| Room { before: 0, long, bytes: vec![9; long] };
-    let boxed = Case::BoxRun { sheet: sheet.list(), codes: room(first.len()), releases: first };
+    let lent = vec![9; 2 * MOST_ROWS];
+    let boxed = Case::BoxRun(Step { sheet: sheet.list(), state: lent, codes: room(first.len()), releases: first });
     let step = Step { sheet: sheet.list(), state: listed(&between), codes: room(second.len()), releases: second };
     for (group, case) in [("jobs held to their bounds, the box", boxed), ("jobs held to their bounds, runs", Case::Run(step))] {
         cases.item(Item { group, case, bounds: Some(bounds.to_vec()) });

@@ -28,18 +28,13 @@ pub fn all(cases: &mut dyn Cases, dice: &mut Dice, times: u64) {
         let step = Step { sheet: dice.handed(&sheet), state: padded(dice, &start), codes, releases };
         let refused = faulty(dice, step.clone(), 4);
         if boxed {
-            cases.add("runs of the box", boxed_run(step));
-            cases.add("runs of the box, faults", boxed_run(refused));
+            cases.add("runs of the box", Case::BoxRun(step));
+            cases.add("runs of the box, faults", Case::BoxRun(refused));
         } else {
             cases.add("runs", Case::Run(step));
             cases.add("runs, faults", Case::Run(refused));
         }
     }
-}
-
-/// The same step asked of the box, which has a state of its own.
-fn boxed_run(step: Step) -> Case {
-    Case::BoxRun { sheet: step.sheet, releases: step.releases, codes: step.codes }
 }
 
 /// The releases of so many slots from a state; one in so many is likely refused.

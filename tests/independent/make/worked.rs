@@ -5,7 +5,7 @@ use crate::case::{Case, Room, Step};
 use crate::dice::Dice;
 use crate::hand::SHEET_C;
 use crate::machine::{fresh, listed};
-use crate::sheet::{fixed, Sheet};
+use crate::sheet::{fixed, Sheet, MOST_ROWS};
 
 /// The names of the groups.
 const BYTES: &str = "worked by hand, bytes";
@@ -43,7 +43,7 @@ fn bytes(cases: &mut dyn Cases) {
 
 /// Sheets A to F, and sheet F out of range.
 fn sheets(cases: &mut dyn Cases) {
-    (0..=6).for_each(|number| cases.add(SHEETS, Case::Fixed { number }));
+    (0..=6).for_each(|number| cases.add(SHEETS, Case::Fixed { number, list: vec![7; 2 + 4 * MOST_ROWS] }));
     let outside = Sheet::of(1, &[[1, 1, 2, 1]]);
     for sheet in fixed().into_iter().chain([outside]) {
         let (list, lent) = (sheet.list(), vec![7; 2 * sheet.rows.len() + 2]);
@@ -59,7 +59,11 @@ fn machines(cases: &mut dyn Cases) {
     for (sheet, releases) in [(&c, vec![1, 3, 0, 0, 1, 0, 0, 0]), (&b, vec![2, 2, 3, 0, 0, 0, 0, 0, 0, 0, 0, 0])] {
         let n = sheet.rows.len();
         let (list, state) = (sheet.list(), listed(&fresh(sheet)));
-        cases.add(MACHINES, Case::BoxRun { sheet: list.clone(), codes: room(releases.len()), releases: releases.clone() });
+        let lent = vec![7; 2 * n + 2];
+        cases.add(
+            MACHINES,
+            Case::BoxRun(Step { sheet: list.clone(), state: lent, codes: room(releases.len()), releases: releases.clone() }),
+        );
         let first = releases[..n].to_vec();
         cases.add(MACHINES, Case::Run(Step { sheet: list.clone(), state: state.clone(), codes: room(releases.len()), releases }));
         cases.add(MACHINES, Case::Slot(Step { sheet: list, state, codes: room(n), releases: first }));

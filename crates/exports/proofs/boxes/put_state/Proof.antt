@@ -1,0 +1,41 @@
+-- `put_state` meets its promise: the places so far are filled. Assumes nothing.
+use borrow.Author.Needs.{needs}
+use Prim.Native.Nat.{_≤_, _-_}
+use mathlib.Core.Path.{_≡_}
+use lib.ListN.{length}
+use Rattle.basis.specs.Upto.{upto}
+use Rattle.sheet.proofs.Filling.{fill-none, fill-more, fill-done}
+use Rattle.exports.specs.Further.{stateCell}
+use Rattle.exports.proofs.boxes.put_state.Statement.{statement}
+use Rattle.exports.proofs.boxes.put_state.Tie as tie
+
+abbrev Inv-loop : tie.InvT-loop
+Inv-loop list₀ state i₀ list i = (i ≤ length list₀) × (length list ≡ length list₀) × (list ≡ upto i (stateCell state) list₀)
+
+abbrev μ-loop : tie.MeasureT-loop
+μ-loop list₀ state i₀ list i = length list₀ - i
+
+loop-holds : tie.Need-loop-holds Inv-loop μ-loop
+loop-holds c = (search needs, search needs, search fill-none)
+
+loop-again : tie.Need-loop-again Inv-loop μ-loop
+loop-again c = (search needs, search needs, search fill-more)
+
+returns : tie.Need-returns Inv-loop μ-loop
+returns c = search fill-done
+
+pub put-state-spec : {M : Type 1} → statement M
+put-state-spec =
+    tie.close
+    (tie.spec
+    Inv-loop
+    μ-loop
+    loop-holds
+    (λ c κs. search needs)
+    (λ c. search needs)
+    (λ c. search needs)
+    (λ c. search needs)
+    (λ c. search needs)
+    loop-again
+    (λ c. search needs)
+    returns)

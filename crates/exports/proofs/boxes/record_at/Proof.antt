@@ -1,0 +1,15 @@
+-- `record_at` meets its promise. Assumes nothing.
+use borrow.Author.Needs.{needs}
+use Rattle.sheet.proofs.Cells.{unmapped}
+use Rattle.exports.proofs.Boxed.{record-past}
+use Rattle.exports.proofs.boxes.record_at.Statement.{statement}
+use Rattle.exports.proofs.boxes.record_at.Tie as tie
+
+pub record-at-spec : {M : Type 1} → statement M
+record-at-spec =
+    tie.close
+    (tie.spec
+    (λ c. search needs)
+    (λ c. search needs)
+    (λ c. search needs)
+    (λ c. search (record-past, unmapped)))

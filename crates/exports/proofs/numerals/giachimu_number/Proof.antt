@@ -1,0 +1,17 @@
+-- `giachimu_number` meets its promise. Assumes nothing.
+use borrow.Author.Needs.{needs}
+use Rattle.exports.proofs.Numbered.{number-refused, number-is}
+use Rattle.exports.proofs.numerals.giachimu_number.Statement.{statement}
+use Rattle.exports.proofs.numerals.giachimu_number.Tie as tie
+
+pub giachimu-number-spec : {M : Type 1} → statement M
+giachimu-number-spec =
+    tie.close
+    (tie.spec
+    (λ c κs. search needs)
+    (λ c. search needs)
+    (λ c κs. search needs)
+    (λ c. search needs)
+    (λ c κs. search needs)
+    (λ c. search number-refused)
+    (λ c. search number-is))

@@ -1,0 +1,17 @@
+-- `giachimu_number_up_to` meets its promise. Assumes nothing.
+use borrow.Author.Needs.{needs}
+use Rattle.exports.proofs.Numbered.{up-to-refused, up-to-is}
+use Rattle.exports.proofs.numerals.giachimu_number_up_to.Statement.{statement}
+use Rattle.exports.proofs.numerals.giachimu_number_up_to.Tie as tie
+
+pub giachimu-number-up-to-spec : {M : Type 1} → statement M
+giachimu-number-up-to-spec =
+    tie.close
+    (tie.spec
+    (λ c κs. search needs)
+    (λ c. search needs)
+    (λ c κs. search needs)
+    (λ c. search needs)
+    (λ c κs. search needs)
+    (λ c. search up-to-refused)
+    (λ c. search up-to-is))

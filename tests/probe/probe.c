@@ -1,0 +1,212 @@
+/* Answers a batch of cases, from standard input to standard output, by the library for other programs; what is lent for a number holds 7 before the call. */
+#include "../../library/giachimu.h"
+#include "wire.h"
+
+/* What every call but two tells first: the number of a refusal, and its place. */
+static void put_told(uint64_t number, size_t place) {
+  put_word(number);
+  put_word(place);
+}
+
+static list_t sheet, list, releases;
+static room_t room;
+
+/* Kinds 1 and 2: a place, a most for the second, and bytes; the number at that place. */
+static void answer_number(bool limited) {
+  size_t at = take_word(), count, after = 7, place = 7;
+  uint64_t most = limited ? take_word() : 0, value = 7;
+  const uint8_t *bytes = take_rest(&count);
+  uint64_t number = limited ? giachimu_number_up_to(bytes, count, at, most, &value, &after, &place) : giachimu_number(bytes, count, at, &value, &after, &place);
+  put_told(number, place);
+  put_word(value);
+  put_word(after);
+}
+
+/* Kind 3: a list and bytes; the sheet in the list. */
+static void answer_read(void) {
+  size_t count, place = 7;
+  take_list(&list);
+  const uint8_t *bytes = take_rest(&count);
+  uint64_t number = giachimu_read(bytes, count, list.at, list.count, &place);
+  put_told(number, place);
+  put_list(&list);
+}
+
+/* Kind 4: a row number and bytes; where the label lies, and its bytes. */
+static void answer_label(void) {
+  size_t row = take_word(), count, start = 7, length = 7, place = 7;
+  const uint8_t *bytes = take_rest(&count);
+  uint64_t number = giachimu_label(bytes, count, row, &start, &length, &place);
+  put_told(number, place);
+  put_word(start);
+  put_word(length);
+  if (number != 0) return;
+  if (start > count || length > count - start) stop("a label lies outside its bytes");
+  put_bytes(bytes + start, length);
+}
+
+/* Kind 5: a sheet's list and a list; the bounds in it. */
+static void answer_bounds(void) {
+  uint64_t holds = 7;
+  size_t place = 7;
+  take_list(&sheet);
+  take_list(&list);
+  uint64_t number = giachimu_bounds(sheet.at, sheet.count, list.at, list.count, &holds, &place);
+  put_told(number, place);
+  put_word(holds);
+  put_list(&list);
+}
+
+/* Kind 6: a sheet's list and a list; the fresh state in it. */
+static void answer_fresh(void) {
+  size_t place = 7;
+  take_list(&sheet);
+  take_list(&list);
+  uint64_t number = giachimu_fresh(sheet.at, sheet.count, list.at, list.count, &place);
+  put_told(number, place);
+  put_list(&list);
+}
+
+/* The releases of a step, and all the bytes that its code buffer lies in. */
+static void take_step(void) {
+  size_t before, lent_count;
+  take_list(&releases);
+  take_places(&before, &lent_count);
+  take_room(&room, left(), before, lent_count);
+}
+
+/* Kind 7: a sheet's and a state's list, and a step; the list and the bytes after one slot. */
+static void answer_slot(void) {
+  size_t place = 7;
+  take_list(&sheet);
+  take_list(&list);
+  take_step();
+  uint64_t number = giachimu_slot(sheet.at, sheet.count, list.at, list.count, releases.at, releases.count, room.lent, room.lent_count, &place);
+  put_told(number, place);
+  put_list(&list);
+  put_bytes(room.bytes, room.count);
+}
+
+/* Kind 8: the same; the slots done, and the list and the bytes after them. */
+static void answer_run(void) {
+  uint64_t done = 7;
+  size_t place = 7;
+  take_list(&sheet);
+  take_list(&list);
+  take_step();
+  uint64_t number = giachimu_run(sheet.at, sheet.count, list.at, list.count, releases.at, releases.count, room.lent, room.lent_count, &done, &place);
+  put_told(number, place);
+  put_word(done);
+  put_list(&list);
+  put_bytes(room.bytes, room.count);
+}
+
+/* Kind 9: a sheet's and a state's list, and a row number; its margin. */
+static void answer_margin(void) {
+  uint64_t job = 7;
+  int64_t margin = 7;
+  size_t place = 7;
+  take_list(&sheet);
+  take_list(&list);
+  size_t row = take_word();
+  uint64_t number = giachimu_margin(sheet.at, sheet.count, list.at, list.count, row, &job, &margin, &place);
+  put_told(number, place);
+  put_word(job);
+  put_word((uint64_t)margin);
+}
+
+/* Kind 10: where the buffer lies in its bytes, how many these are, the bytes, and a sheet's bytes; the verdict's text. */
+static void answer_verdict(void) {
+  size_t before, lent_count, count, length = 7, place = 7;
+  take_places(&before, &lent_count);
+  uint64_t long_room = take_word();
+  take_room(&room, long_room, before, lent_count);
+  const uint8_t *bytes = take_rest(&count);
+  uint64_t number = giachimu_verdict(bytes, count, room.lent, room.lent_count, &length, &place);
+  put_told(number, place);
+  put_word(length);
+  put_bytes(room.bytes, room.count);
+}
+
+/* Kind 11: bytes; whether no job is ever late. */
+static void answer_green(void) {
+  size_t count;
+  const uint8_t *bytes = take_rest(&count);
+  put_word(giachimu_green(bytes, count));
+}
+
+/* Kind 12: bytes; what reading them with each byte after them tells, a byte for its number and one for its place. */
+static void answer_sweep(void) {
+  static uint8_t longer[ROOM + 1];
+  uint64_t numbers[GIACHIMU_SHEET_LONG];
+  size_t count;
+  const uint8_t *bytes = take_rest(&count);
+  for (size_t i = 0; i < count; i++) longer[i] = bytes[i];
+  for (unsigned last = 0; last < 256; last++) {
+    size_t place = 7;
+    longer[count] = (uint8_t)last;
+    uint64_t number = giachimu_read(longer, count + 1, numbers, GIACHIMU_SHEET_LONG, &place);
+    put_byte((uint8_t)number);
+    put_byte((uint8_t)place);
+  }
+}
+
+/* Kind 13: a sheet's list; whether it is legal. */
+static void answer_legal(void) {
+  take_list(&sheet);
+  put_word(giachimu_legal(sheet.at, sheet.count));
+}
+
+/* Kind 14: a sheet's list, a list, and a step; the slots done by the box's own loop, and the list and the bytes after them. */
+static void answer_box(void) {
+  uint64_t done = 7;
+  size_t place = 7;
+  take_list(&sheet);
+  take_list(&list);
+  take_step();
+  uint64_t number = giachimu_box(sheet.at, sheet.count, list.at, list.count, releases.at, releases.count, room.lent, room.lent_count, &done, &place);
+  put_told(number, place);
+  put_word(done);
+  put_list(&list);
+  put_bytes(room.bytes, room.count);
+}
+
+/* Kind 15: a number and a list; the worked sheet with that number in the list. */
+static void answer_fixed(void) {
+  size_t place = 7;
+  size_t which = take_word();
+  take_list(&list);
+  uint64_t number = giachimu_fixed(which, list.at, list.count, &place);
+  put_told(number, place);
+  put_list(&list);
+}
+
+/* One case by its kind. */
+static void answer(uint64_t kind) {
+  switch (kind) {
+    case 1: answer_number(false); break;
+    case 2: answer_number(true); break;
+    case 3: answer_read(); break;
+    case 4: answer_label(); break;
+    case 5: answer_bounds(); break;
+    case 6: answer_fresh(); break;
+    case 7: answer_slot(); break;
+    case 8: answer_run(); break;
+    case 9: answer_margin(); break;
+    case 10: answer_verdict(); break;
+    case 11: answer_green(); break;
+    case 12: answer_sweep(); break;
+    case 13: answer_legal(); break;
+    case 14: answer_box(); break;
+    case 15: answer_fixed(); break;
+    default: stop("a case of no kind");
+  }
+}
+
+int main(void) {
+  while (next_case()) {
+    answer(take_word());
+    send_answer();
+  }
+  return 0;
+}
