@@ -9,4 +9,3 @@ pub mod Refused
 pub mod Reports
 pub mod Rooms
 pub mod Verdicts
-pub mod Starred

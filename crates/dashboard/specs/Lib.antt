@@ -5,4 +5,3 @@ pub mod Texts
 pub mod Longest
 pub mod Meaning
 pub mod Cases
-pub mod Starred

@@ -6,7 +6,7 @@ ghost use Rattle.exports.specs.Further.{stateCell, boxOn};
 use crate::telling::tell;
 use basis::MOST_ROWS;
 use basis::Refusal;
-use machine::RowState;
+use records::RowState;
 use machine::State;
 
 // Record k of a state, and zeros past the last.

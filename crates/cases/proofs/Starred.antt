@@ -4,7 +4,7 @@ use Rattle.basis.specs.Words.{Each}
 use Rattle.numbers.proofs.Cases.{case-I}
 use Rattle.bound.proofs.Worked.{cases-are-right}
 use Rattle.machine.proofs.Cases.{case-G, case-H}
-use Rattle.dashboard.specs.Starred.{Holds, starred}
+use Rattle.cases.specs.Starred.{Holds, starred}
 
 pub starred-cases-are-right : Each Holds starred
 starred-cases-are-right =
