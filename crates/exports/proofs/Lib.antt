@@ -8,3 +8,4 @@ pub mod Kept
 pub mod Meaning
 pub mod Same
 pub mod Texts
+pub mod Wrong

@@ -1,0 +1,20 @@
+-- A fault is shut out where one number, read off both answers, differs.
+-- Assumes nothing.
+use Prim.Native.Nat.{ℕ}
+use mathlib.Core.Path.{_≡_, sym, ap, _∙_}
+use mathlib.Core.Bool.{Bool}
+use Rattle.basis.specs.Words.{pick}
+use Rattle.basis.specs.Refusals.{Outcome, accepted, refused}
+use Rattle.basis.specs.Faults.{NoneMeets}
+
+-- the number that is read, and what it is of the faulty answer and of the promised one
+pub apart : {A : Type 0} (read : A → ℕ) (faulty promised : A) (m n : ℕ) → read faulty ≡ m → read promised ≡ n → (m ≡ n → ⊥) → NoneMeets faulty promised
+apart read faulty promised m n a b d answer e f = d (sym a ∙ ap read (sym e ∙ f) ∙ b)
+
+-- numbers to read: that of a refusal, 0 where nothing is refused, and 1 and 0 of a test
+abbrev pub numberOf : Outcome → ℕ
+numberOf accepted = 0
+numberOf (refused number place) = number
+
+abbrev pub bit : Bool → ℕ
+bit t = pick t 1 0
