@@ -2,3 +2,4 @@ pub mod Boxed
 pub mod Lending
 pub mod Found
 pub mod Same
+pub mod Wrong

@@ -24,3 +24,4 @@ pub mod Stored
 pub mod Told
 pub mod Turns
 pub mod Whole
+pub mod Wrong

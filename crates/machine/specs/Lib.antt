@@ -5,3 +5,4 @@ pub mod Answers
 pub mod Cases
 pub mod Methods
 pub mod Lists
+pub mod Wrong

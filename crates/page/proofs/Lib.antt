@@ -1,3 +1,4 @@
 pub mod Saying
 pub mod Digits
 pub mod Same
+pub mod Wrong

@@ -2,3 +2,4 @@ pub mod Records
 pub mod Steps
 pub mod Checks
 pub mod Methods
+pub mod Wrong
