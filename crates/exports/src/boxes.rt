@@ -6,8 +6,8 @@ ghost use Rattle.exports.specs.Further.{stateCell, boxOn};
 use crate::telling::tell;
 use basis::MOST_ROWS;
 use basis::Refusal;
-use records::RowState;
 use machine::State;
+use records::RowState;
 
 // Record k of a state, and zeros past the last.
 fn record_at(state: State, k: usize) -> RowState

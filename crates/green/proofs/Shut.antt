@@ -91,7 +91,7 @@ stuck-slots =
     (once-more (0 ∷ 0 ∷ []) (9 ∷ 9 ∷ []) _ Accepted refl
     (once-more (0 ∷ 0 ∷ []) (9 ∷ 9 ∷ []) _ Accepted refl no-more)))
 
-pub stuck-slots-are-late : InTime sheetD stuck → ⊥
+pub stuck-slots-are-late : InTime sheetD (sheetD .count) stuck → ⊥
 unfolding allOf sum begins groups upTo plain label entry entries body head sheet q X x W durationOf amountOf amounts room passes least boundBy judge resultsTo resultOf holds
 stuck-slots-are-late t = go (f .later) (f .within) (f .finished)
   where

@@ -146,10 +146,10 @@ module _ (h : Sheet) (t : State) (rel : List ℕ) (state : LegalState h t) (fine
   unfolding given
   next-remaining k l = subst (λ (s : RowState). s .remaining ≤ reached (given h t rel) k .remaining) (sym (next-record k l)) (ended-less (rowAt h k) (reached (given h t rel) k))
 
-  pub slot-is : Slot (rowsOf h) (momentOf t) (λ k. getD rel k 0) ran (momentOf (nextState h t rel))
+  pub slot-is : (n : ℕ) → n ≤ h .count → Slot (rowsOf h n) (momentOf t) (λ k. getD rel k 0) ran (momentOf (nextState h t rel))
   unfolding ran given
-  slot-is = record {
-    releases = released-so;
+  slot-is n within = record {
+    releases = λ i l. released-so i (omega arith);
     once = λ i l. at-most-one (runs (given h t rel) i);
     runs = λ i l. omega (arith, runs-with-job (free (given h t rel) i) (rowAt h i) (begin i), begin-remaining i);
     waits = λ k l j e.
@@ -159,6 +159,6 @@ module _ (h : Sheet) (t : State) (rel : List ℕ) (state : LegalState h t) (fine
           processors-are-kept (given h t rel) k,
           sum-same k (takenBy (given h t rel)) (λ i. ran i * rowAt h i .threads) (λ i g. taken-as (runs (given h t rel) i) (rowAt h i .threads)),
         );
-    ages = λ i l. next-since i l ∙ reached-since i l;
-    left = λ i l. omega (arith, next-remaining i l, reached-remaining i);
+    ages = λ i l. next-since i (omega arith) ∙ reached-since i (omega arith);
+    left = λ i l. omega (arith, next-remaining i (omega arith), reached-remaining i);
   }
