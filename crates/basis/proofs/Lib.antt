@@ -10,3 +10,4 @@ pub mod Tests
 pub mod Upto
 pub mod Words
 pub mod Workload
+pub mod Wrong

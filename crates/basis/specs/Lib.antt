@@ -4,3 +4,4 @@ pub mod Refusals
 pub mod Upto
 pub mod Readers
 pub mod Workload
+pub mod Wrong

@@ -12,3 +12,4 @@ pub mod Rooms
 pub mod Saying
 pub mod Verdicts
 pub mod Starred
+pub mod Wrong

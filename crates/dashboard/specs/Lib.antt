@@ -7,3 +7,4 @@ pub mod Longest
 pub mod Meaning
 pub mod Cases
 pub mod Starred
+pub mod Wrong

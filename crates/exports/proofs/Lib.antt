@@ -10,3 +10,4 @@ pub mod Meaning
 pub mod Numbered
 pub mod Same
 pub mod Texts
+pub mod WrongFurther

@@ -1,3 +1,4 @@
 pub mod Answers
 pub mod Following
 pub mod Further
+pub mod WrongFurther
