@@ -11,3 +11,4 @@ pub mod Upto
 pub mod Words
 pub mod Workload
 pub mod Faults
+pub mod Wrong

@@ -5,3 +5,4 @@ pub mod Upto
 pub mod Readers
 pub mod Workload
 pub mod Faults
+pub mod Wrong

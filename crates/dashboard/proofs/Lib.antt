@@ -9,3 +9,4 @@ pub mod Refused
 pub mod Reports
 pub mod Rooms
 pub mod Verdicts
+pub mod Wrong

@@ -5,3 +5,4 @@ pub mod Texts
 pub mod Longest
 pub mod Meaning
 pub mod Cases
+pub mod Wrong

@@ -1,6 +1,6 @@
 -- What the call of the box's own loop answers at each way out, and the list of a state that it writes.
 -- Assumes nothing.
-use Prim.Native.Nat.{ℕ, _+_, _*_, _/_, _%_, _≤_, _<_}
+use Prim.Native.Nat.{ℕ, _*_, _/_, _%_, _≤_, _<_}
 use mathlib.Core.Path.{_≡_, sym, ap, _∙_}
 use mathlib.Core.Bool.{Bool, true, false}
 use mathlib.Core.List.{List}
@@ -10,7 +10,7 @@ use borrow.Author.Tests.{lt-leb, le-leb, eq-eqb, ne-eqb}
 use mir.Syntax.{w64}
 use mir.Val.{Fits}
 use Rattle.basis.specs.Limits.{mostRows}
-use Rattle.basis.specs.Refusals.{Outcome, outcome}
+use Rattle.basis.specs.Refusals.{outcome}
 use Rattle.basis.specs.Upto.{pairCell}
 use Rattle.sheet.specs.Legal.{legal}
 use Rattle.sheet.specs.Lists.{filled, sheetIn}

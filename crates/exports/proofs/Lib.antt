@@ -11,3 +11,4 @@ pub mod Numbered
 pub mod Same
 pub mod Texts
 pub mod Wrong
+pub mod WrongFurther

@@ -5,3 +5,4 @@ pub mod Encoding
 pub mod Laws
 pub mod Reach
 pub mod Spelling
+pub mod Wrong

@@ -15,3 +15,4 @@ pub mod Reach
 pub mod Shown
 pub mod Spelling
 pub mod Taken
+pub mod Wrong

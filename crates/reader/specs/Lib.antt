@@ -4,3 +4,4 @@ pub mod Lists
 pub mod Longest
 pub mod Cases
 pub mod Steps
+pub mod Wrong

@@ -8,3 +8,4 @@ pub mod Places
 pub mod Ranges
 pub mod Same
 pub mod Stores
+pub mod Wrong

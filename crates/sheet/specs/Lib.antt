@@ -1,3 +1,4 @@
 pub mod Legal
 pub mod Values
 pub mod Lists
+pub mod Wrong

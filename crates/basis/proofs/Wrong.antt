@@ -1,0 +1,34 @@
+-- Wrong answers of this crate's promises are shut out.
+-- Assumes nothing.
+use Prim.Native.Nat.{ℕ}
+use mathlib.Core.Path.{_≡_, refl, sym, ap, _∙_}
+use mathlib.Core.Bool.{Bool, true, false}
+use lib.Dec.{eqb}
+use native.Mathlib.Omega.{arith}
+use borrow.Author.Tests.{eq-eqb}
+use Rattle.basis.specs.Words.{pick}
+use Rattle.basis.specs.Refusals.{accepted, isAccepted}
+use Rattle.basis.specs.Readers.{begins}
+use Rattle.basis.specs.Faults.{NoneMeets}
+use Rattle.basis.proofs.Faults.{values-apart, bit}
+use Rattle.basis.specs.Wrong.{everAccepted, everRefused, threeAtNone, byFirstByte, cutMark, twoByteMark, firstTwice, firstAlone}
+
+-- every call accepted: a refused one is not
+pub ever-accepted-is-wrong : NoneMeets (everAccepted threeAtNone) (isAccepted threeAtNone)
+unfolding everAccepted
+ever-accepted-is-wrong = values-apart (everAccepted threeAtNone) (isAccepted threeAtNone) bit refl
+
+-- every call refused: an accepted one is not
+pub ever-refused-is-wrong : NoneMeets (everRefused accepted) (isAccepted accepted)
+unfolding everRefused
+ever-refused-is-wrong = values-apart (everRefused accepted) (isAccepted accepted) bit refl
+
+-- a mark compared by its first byte: that byte twice would begin with 47 53
+pub by-first-byte-is-wrong : NoneMeets (byFirstByte 0x47 twoByteMark firstTwice) (begins twoByteMark firstTwice)
+unfolding byFirstByte begins
+by-first-byte-is-wrong = values-apart (byFirstByte 0x47 twoByteMark firstTwice) (begins twoByteMark firstTwice) bit refl
+
+-- a mark that may be cut off: its first byte alone would begin with 47 53
+pub cut-mark-is-wrong : NoneMeets (cutMark twoByteMark firstAlone) (begins twoByteMark firstAlone)
+unfolding cutMark begins
+cut-mark-is-wrong = values-apart (cutMark twoByteMark firstAlone) (begins twoByteMark firstAlone) bit refl

@@ -1,0 +1,176 @@
+-- No answer by a wrong rule of the reader or of the labels meets the promise of a function of this crate.
+-- Assumes nothing.
+use Prim.Native.Nat.{ℕ, _+_}
+use mathlib.Core.Path.{_≡_, refl, sym, ap, _∙_}
+use mathlib.Core.List.{List}
+use native.Mathlib.Omega.{arith}
+use lib.ListN.{getD}
+use denote.Ref.{RefT}
+use Rattle.basis.specs.Refusals.{Outcome, accepted, refused}
+use Rattle.basis.specs.Readers.{begins}
+use Rattle.basis.specs.Upto.{upto, pairCell}
+use Rattle.basis.specs.Faults.{NoAnswer, NoneMeets}
+use Rattle.basis.proofs.Faults.{told-apart, values-apart}
+use Rattle.numbers.specs.Numbers.{groups, upTo}
+use Rattle.sheet.specs.Lists.{rowCell, listCell}
+use Rattle.sheet.specs.declared.row.Sheet.{Sheet}
+use Rattle.reader.specs.Form.{plain, label, entry, entries, body, head, sheet, labelHead}
+use Rattle.reader.specs.Answers.{answer, reading, nowhere, labelIn, labelsIn, shown, part}
+use Rattle.reader.specs.Lists.{intoLists, readInto}
+use Rattle.reader.specs.Cases.{twoPumps}
+use Rattle.reader.specs.declared.row.Part.{Part}
+use Rattle.reader.specs.declared.labels.Parts.{Parts}
+use Rattle.reader.specs.Wrong.{rowsBy, formBy, rowBy, readBy, otherMark, anotherKind, bytesAfter, longDeadline, blankRead, sevenAndEight, anyBytes, anyLabel, labelByte, enoughFrom, cutLabel, cutAtStart, allAccepted, nothingRead, intoAnswer, listsAsTheyWere, numbersForLabels, firstLabel, startForLength, afterItsEnd, copied, firstForAll, noLabels, pumpsAndMore, lateRow, blankRow, oddLabel, shortLabel, roomForTwo, labelsForTwo}
+
+-- the number of a refusal, and its place
+by : Outcome → ℕ
+by accepted = 0
+by (refused k p) = k
+
+place : Outcome → ℕ
+place accepted = 0
+place (refused k p) = p
+
+number-of : Outcome × Sheet → ℕ
+number-of (o, h) = by o
+
+place-of : Outcome × Sheet → ℕ
+place-of (o, h) = place o
+
+count-of : Outcome × Sheet → ℕ
+count-of (o, h) = h .count
+
+-- another kind of file: 47 53 43 01 would be cut off after its mark
+pub another-kind-is-wrong : NoAnswer answer (readBy anotherKind otherMark) (reading otherMark)
+unfolding anotherKind formBy rowsBy entry label plain upTo groups begins entries body head sheet number-of by
+another-kind-is-wrong = told-apart answer _ _ number-of refl
+
+-- bytes after the last row: two pumps and a byte would be a sheet
+pub bytes-after-is-wrong : NoAnswer answer (readBy bytesAfter pumpsAndMore) (reading pumpsAndMore)
+unfolding bytesAfter formBy rowsBy entry label plain upTo groups begins entries body head sheet number-of by
+bytes-after-is-wrong = told-apart answer _ _ number-of refl
+
+-- a deadline over the separation
+pub long-deadline-is-wrong : NoAnswer answer (readBy longDeadline lateRow) (reading lateRow)
+unfolding longDeadline formBy rowsBy rowBy entry label plain upTo groups begins entries body head sheet number-of by
+long-deadline-is-wrong = told-apart answer _ _ number-of refl
+
+-- a blank budget read as 0
+pub blank-read-is-wrong : NoAnswer answer (readBy blankRead blankRow) (reading blankRow)
+unfolding blankRead formBy rowsBy rowBy entry label plain upTo groups begins entries body head sheet number-of by
+blank-read-is-wrong = told-apart answer _ _ number-of refl
+
+-- a blank budget refused by 8
+pub seven-and-eight-is-wrong : NoAnswer answer (readBy sevenAndEight blankRow) (reading blankRow)
+unfolding sevenAndEight formBy rowsBy rowBy entry label plain upTo groups begins entries body head sheet number-of by
+seven-and-eight-is-wrong = told-apart answer _ _ number-of refl
+
+-- a label byte of 7F
+pub label-byte-is-wrong : NoAnswer answer (readBy labelByte oddLabel) (reading oddLabel)
+unfolding labelByte formBy rowsBy rowBy anyLabel anyBytes entry label plain upTo groups begins entries body head sheet number-of by
+label-byte-is-wrong = told-apart answer _ _ number-of refl
+
+-- a label that is cut off, refused at 7 and not at 8
+pub cut-at-start-is-wrong : NoAnswer answer (readBy cutAtStart shortLabel) (reading shortLabel)
+unfolding cutAtStart formBy rowsBy rowBy cutLabel enoughFrom entry label plain upTo groups begins entries body head sheet place-of place
+cut-at-start-is-wrong = told-apart answer _ _ place-of refl
+
+-- every sheet accepted: a blank budget is not
+pub all-accepted-is-wrong : NoAnswer answer (allAccepted (reading blankRow)) (reading blankRow)
+unfolding allAccepted entry label plain upTo groups begins entries body head sheet number-of by
+all-accepted-is-wrong = told-apart answer _ _ number-of refl
+
+-- a sheet of zeros for what was read: two pumps are two rows
+pub nothing-read-is-wrong : NoAnswer answer (nothingRead (reading twoPumps)) (reading twoPumps)
+unfolding nothingRead entry label plain upTo groups begins entries body head sheet count-of
+nothing-read-is-wrong = told-apart answer _ _ count-of refl
+
+-- `read_into`: the same, and the number at a place of the first list and of the second
+into-by : Outcome × (List ℕ × List ℕ) → ℕ
+into-by (o, lists) = by o
+
+in-list : ℕ → Outcome × (List ℕ × List ℕ) → ℕ
+in-list i (o, (list, labels)) = getD list i 0
+
+in-labels : ℕ → Outcome × (List ℕ × List ℕ) → ℕ
+in-labels i (o, (list, labels)) = getD labels i 0
+
+-- bytes after the last row, read into lists
+pub bytes-after-into-is-wrong : NoAnswer intoAnswer (intoLists (readBy bytesAfter pumpsAndMore) pumpsAndMore roomForTwo labelsForTwo) (readInto pumpsAndMore roomForTwo labelsForTwo)
+unfolding bytesAfter formBy rowsBy intoLists readInto entry label plain upTo groups begins entries body head sheet into-by by
+bytes-after-into-is-wrong = told-apart intoAnswer _ _ into-by refl
+
+-- lists left as they were: two pumps are on four processors
+pub lists-as-they-were-is-wrong : NoAnswer intoAnswer (listsAsTheyWere twoPumps roomForTwo labelsForTwo) (readInto twoPumps roomForTwo labelsForTwo)
+unfolding listsAsTheyWere intoLists readInto upto listCell rowCell entry label plain upTo groups begins entries body head sheet in-list
+lists-as-they-were-is-wrong = told-apart intoAnswer _ _ (in-list 0) refl
+
+-- the sheet's numbers for the labels: the first of two pumps starts at 7
+pub numbers-for-labels-is-wrong : NoAnswer intoAnswer (numbersForLabels twoPumps roomForTwo labelsForTwo) (readInto twoPumps roomForTwo labelsForTwo)
+unfolding numbersForLabels intoLists readInto upto pairCell listCell rowCell labelIn labelHead entry label plain upTo groups begins entries body head sheet in-labels
+numbers-for-labels-is-wrong = told-apart intoAnswer _ _ (in-labels 0) refl
+
+-- `label_part`: where a part starts, and how long it is
+start-of : Part → ℕ
+start-of p = p .start
+
+long-of : Part → ℕ
+long-of p = p .long
+
+-- the first label for every row: the second of two pumps starts at 16
+pub first-label-is-wrong : NoneMeets (firstLabel twoPumps 1) (labelIn twoPumps 1)
+unfolding firstLabel labelIn labelHead entry label plain upTo groups begins entries body head sheet start-of
+first-label-is-wrong = values-apart _ _ start-of refl
+
+-- the start for the length: a pump is 4 bytes long
+pub start-for-length-is-wrong : NoneMeets (startForLength twoPumps 0) (labelIn twoPumps 0)
+unfolding startForLength labelIn labelHead entry label plain upTo groups begins entries body head sheet long-of
+start-for-length-is-wrong = values-apart _ _ long-of refl
+
+-- a row that there is not shows no label, and not that of a row that there is
+pub label-past-rows-is-wrong : NoneMeets (firstLabel twoPumps 2) (labelIn twoPumps 2)
+unfolding firstLabel labelIn labelHead entry label plain upTo groups begins entries body head sheet long-of
+label-past-rows-is-wrong = values-apart _ _ long-of refl
+
+-- `label`, of any lent bytes that are two pumps: the two labels are the same bytes, so the place tells them apart
+module _ (s : RefT (List ℕ)) (e : s .now ≡ twoPumps) where
+  first-starts : labelIn (s .now) 0 .start ≡ 7
+  unfolding labelIn labelHead entry label plain upTo groups begins entries body head sheet
+  first-starts = ap (λ (l : List ℕ). labelIn l 0 .start) e
+
+  first-is-long : labelIn (s .now) 0 .long ≡ 4
+  unfolding labelIn labelHead entry label plain upTo groups begins entries body head sheet
+  first-is-long = ap (λ (l : List ℕ). labelIn l 0 .long) e
+
+  second-starts : labelIn (s .now) 1 .start ≡ 16
+  unfolding labelIn labelHead entry label plain upTo groups begins entries body head sheet
+  second-starts = ap (λ (l : List ℕ). labelIn l 1 .start) e
+
+  pub first-label-shown-is-wrong : NoAnswer shown (part s (firstLabel (s .now) 1)) (part s (labelIn (s .now) 1))
+  unfolding firstLabel
+  first-label-shown-is-wrong r f g =
+      let z : labelIn (s .now) 0 .start + s .ptr .1 ≡ labelIn (s .now) 1 .start + s .ptr .1 = ap (λ (x : (ℕ × ℕ) × List ℕ). x .0 .1) (sym f ∙ g) in
+      absurd (omega (arith, first-starts, second-starts))
+
+  pub after-its-end-is-wrong : NoAnswer shown (part s (afterItsEnd (s .now) 0)) (part s (labelIn (s .now) 0))
+  unfolding afterItsEnd
+  after-its-end-is-wrong r f g =
+      let z : labelIn (s .now) 0 .start + labelIn (s .now) 0 .long + s .ptr .1 ≡ labelIn (s .now) 0 .start + s .ptr .1 = ap (λ (x : (ℕ × ℕ) × List ℕ). x .0 .1) (sym f ∙ g) in
+      absurd (omega (arith, first-is-long))
+
+  -- a copy: the same bytes in another block
+  pub copied-is-wrong : (i : ℕ) → NoAnswer shown (copied s (labelIn (s .now) i)) (part s (labelIn (s .now) i))
+  unfolding copied
+  copied-is-wrong i r f g = let z : s .ptr .0 + 1 ≡ s .ptr .0 = ap (λ (x : (ℕ × ℕ) × List ℕ). x .0 .0) (sym f ∙ g) in absurd (omega arith)
+
+-- `label_parts`
+second-start : List Part → ℕ
+second-start l = getD l 1 nowhere .start
+
+pub first-for-all-is-wrong : NoAnswer (λ (p : Parts). p .parts) (firstForAll twoPumps) (labelsIn twoPumps)
+unfolding firstForAll labelsIn upto labelIn labelHead entry label plain upTo groups begins entries body head sheet second-start
+first-for-all-is-wrong = told-apart (λ (p : Parts). p .parts) _ _ second-start refl
+
+pub no-labels-is-wrong : NoAnswer (λ (p : Parts). p .parts) (noLabels twoPumps) (labelsIn twoPumps)
+unfolding noLabels labelsIn upto labelIn labelHead entry label plain upTo groups begins entries body head sheet second-start
+no-labels-is-wrong = told-apart (λ (p : Parts). p .parts) _ _ second-start refl
