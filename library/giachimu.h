@@ -35,7 +35,7 @@ extern "C" {
 #define GIACHIMU_MOST_ROWS 32
 #define GIACHIMU_SHEET_LONG (4 * GIACHIMU_MOST_ROWS + 2)
 #define GIACHIMU_PAIRS_LONG (2 * GIACHIMU_MOST_ROWS)
-#define GIACHIMU_TEXT_LONG 1094
+#define GIACHIMU_TEXT_LONG 1084
 
 /* Whether the bytes are a sheet whose every row has a bound: then no job is ever late. */
 bool giachimu_green(const uint8_t *bytes, size_t bytes_count);

@@ -3,7 +3,7 @@ import ctypes
 from typing import NamedTuple
 
 MOST_ROWS = 32
-TEXT_LONG = 1094
+TEXT_LONG = 1084
 CODES = ("no job", "waited", "ran", "finished", "missed")
 
 

@@ -27,7 +27,7 @@ extern "C" {
 pub const MOST_ROWS: usize = 32;
 
 /// The bytes of the longest verdict.
-const TEXT_LONG: usize = 1094;
+const TEXT_LONG: usize = 1084;
 
 /// Why a call was refused: the number and the place of the table of refusals.
 #[derive(Clone, Copy, Debug, PartialEq, Eq)]

@@ -5,10 +5,11 @@ use mathlib.Core.Path.{_≡_, refl}
 use mathlib.Core.Bool.{Bool, true, false}
 use mathlib.Core.List.{List, _++_}
 use native.Mathlib.Omega.{arith}
-use native.Mathlib.Nat.{mul-le-mul-right}
 use lib.ListN.{length, drop, length-append, length-take}
 use lib.Seq.{take-all}
 use Rattle.basis.specs.Limits.{mostRows, longestLabel, mostSeparation}
+use Rattle.basis.specs.Words.{sum}
+use Rattle.basis.proofs.Sums.{sum-grows}
 use Rattle.basis.specs.Refusals.{accepted}
 use Rattle.reader.specs.Form.{Held, sheet}
 use Rattle.sheet.specs.Legal.{Legal}
@@ -38,7 +39,7 @@ unfolding decimal digits
 wide-separation = omega arith
 
 refusal-fits : 13 + 2 * mostDigits ≤ longestText
-unfolding longestText longestLine decimal digits
+unfolding longestText longestLine decimal digits sum
 refusal-fits = omega arith
 
 -- ---- a line
@@ -53,20 +54,20 @@ told-is-short (bound r) h = rw length-append (omega (arith, decimal-grows r most
 told-is-short none h = omega (arith, wide-separation)
 told-is-short unreached h = omega (arith, wide-separation)
 
-line-is-short : (row : ℕ) (label : List ℕ) (w : Word) → row < mostRows → length label ≤ longestLabel → Small w → length (line row label w) ≤ longestLine
+line-is-short : (row : ℕ) (label : List ℕ) (w : Word) → length label ≤ longestLabel → Small w → length (line row label w) ≤ longestLine row
 unfolding line head longestLine
-line-is-short row label w h l s = simp length-append (omega (arith, decimal-grows row mostRows (omega arith), told-is-short w s))
+line-is-short row label w l s = simp length-append (omega (arith, told-is-short w s))
 
-lines-are-short : (label : ℕ → List ℕ) (result : ℕ → Word) (n : ℕ) → n ≤ mostRows → ((i : ℕ) → i < n → length (label i) ≤ longestLabel) → ((i : ℕ) → i < n → Small (result i))
-    → length (lines label result n) ≤ n * longestLine
-unfolding lines
-lines-are-short label result zero m l s = omega arith
-lines-are-short label result (suc n) m l s =
+lines-are-short : (label : ℕ → List ℕ) (result : ℕ → Word) (n : ℕ) → ((i : ℕ) → i < n → length (label i) ≤ longestLabel) → ((i : ℕ) → i < n → Small (result i))
+    → length (lines label result n) ≤ sum n longestLine
+unfolding lines sum
+lines-are-short label result zero l s = omega arith
+lines-are-short label result (suc n) l s =
     rw length-append
     (omega (
       arith,
-      lines-are-short label result n (omega arith) (λ i k. l i (omega arith)) (λ i k. s i (omega arith)),
-      line-is-short n (label n) (result n) (omega arith) (l n (omega arith)) (s n (omega arith)),
+      lines-are-short label result n (λ i k. l i (omega arith)) (λ i k. s i (omega arith)),
+      line-is-short n (label n) (result n) (l n (omega arith)) (s n (omega arith)),
     ))
 
 -- ---- a sheet
@@ -83,8 +84,8 @@ module _ (label : ℕ → List ℕ) (h : Sheet) (fine : Legal h) where
   board-is-short : ((i : ℕ) → i < h .count → length (label i) ≤ longestLabel) → length (board label h) ≤ longestText
   unfolding board longestText
   board-is-short l =
-      let few : h .count * longestLine ≤ mostRows * longestLine = mul-le-mul-right longestLine (fine .most-rows) in
-      rw length-append (omega (arith, lines-are-short label (resultOf passes h) (h .count) (fine .most-rows) l small, ending-is-short (holds passes h)))
+      let few : sum (h .count) longestLine ≤ sum mostRows longestLine = sum-grows (h .count) mostRows longestLine (fine .most-rows) in
+      rw length-append (omega (arith, lines-are-short label (resultOf passes h) (h .count) l small, ending-is-short (holds passes h)))
 
 -- the labels of a sheet that was read
 rows-of : (s : List ℕ) → reading s .0 ≡ accepted → rowsRead (sheet s 0) ≡ reading s .1 .count
@@ -109,14 +110,13 @@ verdict-is-short s =
     (λ e. rw (accepted-prints-its-rows s e) (board-is-short (ownLabel s) (reading s .1) (legal-is (reading s .1) (accepted-is-legal s e .0)) (own-label-is-short s e)))
     (λ k p e. rw (refused-prints-one-line s k p e) (no-verdict-is-short k p))
 
--- which is 1,094 bytes at these limits
-pub longest-is-1094 : longestText ≡ 1094
-unfolding longestText longestLine decimal digits
-longest-is-1094 = refl
+-- which is 1,084 bytes at these limits
+pub longest-is-1084 : longestText ≡ 1084
+unfolding longestText longestLine decimal digits sum
+longest-is-1084 = refl
 
 pub longest-fits : longestText ≤ textSize
-unfolding longestText longestLine decimal digits
-longest-fits = omega arith
+longest-fits = omega (arith, longest-is-1084)
 
 -- ---- whole in a buffer of the size that the programs lend
 

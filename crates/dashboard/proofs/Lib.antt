@@ -10,3 +10,4 @@ pub mod Reports
 pub mod Rooms
 pub mod Verdicts
 pub mod Wrong
+pub mod Exact

@@ -14,7 +14,7 @@ use Rattle.reader.specs.Answers.{labelIn}
 use Rattle.reader.specs.Longest.{longestRow, longestSheet}
 use Rattle.bound.specs.Test.{q, X, x, W, durationOf, amountOf, amounts, room, passes}
 use Rattle.bound.specs.Bound.{least, boundBy, judge, resultsTo, resultOf, holds}
-use Rattle.bound.specs.Tables.{fixedSheet}
+use Rattle.tables.specs.Tables.{fixedSheet}
 use Rattle.dashboard.specs.Words.{digits, decimal, told, line, refusedBy, noVerdict}
 use Rattle.dashboard.specs.Words as words
 use Rattle.dashboard.specs.Labels.{ownLabel, numbered}

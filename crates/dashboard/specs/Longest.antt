@@ -1,19 +1,20 @@
 -- The longest text, and the buffers that a program lends.
-use Prim.Native.Nat.{ℕ, _+_, _*_}
+use Prim.Native.Nat.{ℕ, _+_}
 use mathlib.Core.List.{List}
 use lib.ListN.{length, replicate}
 use Rattle.basis.specs.Limits.{mostRows, longestLabel, mostSeparation}
+use Rattle.basis.specs.Words.{sum}
 use Rattle.reader.specs.Longest.{longestSheet}
 use Rattle.page.specs.Decimals.{decimal}
 use Rattle.dashboard.specs.Words.{space, newline, boundWord, holdsLine}
 
--- The most bytes of a row's line: a row number, the longest label, and a bound of as many digits as the largest separation.
-unfoldable pub longestLine : ℕ
-longestLine = length (decimal mostRows) + length space + longestLabel + length space + (length boundWord + length (decimal mostSeparation)) + length newline
+-- The most bytes of a row's line: its number, the longest label, and a bound of as many digits as the largest separation.
+unfoldable pub longestLine : ℕ → ℕ
+longestLine row = length (decimal row) + length space + longestLabel + length space + (length boundWord + length (decimal mostSeparation)) + length newline
 
 -- The most bytes of a verdict: the most rows, and the last line.
 unfoldable pub longestText : ℕ
-longestText = mostRows * longestLine + length holdsLine
+longestText = sum mostRows longestLine + length holdsLine
 
 -- How many bytes a program reads: one more than the longest sheet has.
 unfoldable pub inputSize : ℕ

@@ -8,7 +8,7 @@ use Rattle.reader.specs.Answers.{reading}
 use Rattle.sheet.specs.declared.row.Sheet.{Sheet}
 use Rattle.bound.specs.Test.{passes}
 use Rattle.bound.specs.Bound.{Word, bound, none, unreached, resultOf, holds}
-use Rattle.bound.specs.Tables.{fixedSheet}
+use Rattle.tables.specs.Tables.{fixedSheet}
 use Rattle.dashboard.specs.Words.{newline, ending, noVerdict}
 use Rattle.dashboard.specs.Labels.{ownLabel, numbered}
 use Rattle.dashboard.specs.Texts.{lines, board, fixedCount, letter, prefix, sections}
