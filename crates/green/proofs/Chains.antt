@@ -12,9 +12,8 @@ use Rattle.sheet.specs.Legal.{rowAt, Legal}
 use Rattle.sheet.specs.declared.row.Sheet.{Sheet}
 use Rattle.bound.specs.Test.{passes}
 use Rattle.bound.specs.Bound.{holds}
-use Rattle.machine.specs.declared.state.State.{State}
+use Rattle.machine.specs.States.{State, recordAt}
 use Rattle.records.specs.declared.record.RowState.{RowState}
-use Rattle.machine.specs.States.{recordAt}
 use Rattle.machine.specs.Slot.{begun, runs, reached, code}
 use Rattle.machine.specs.Checks.{checkReleases}
 use Rattle.machine.specs.Answers.{given, nextState}

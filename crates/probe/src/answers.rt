@@ -5,9 +5,9 @@ use crate::frame::put;
 use crate::frame::send;
 use basis::MOST_ROWS;
 use basis::Refusal;
-use machine::State;
 use numbers::Number;
 use sheet::Sheet;
+use states::State;
 
 // Puts two numbers.
 pub(crate) fn put_two(page: &mut [u8], at: usize, first: u64, second: u64) -> usize {
