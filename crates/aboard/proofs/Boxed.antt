@@ -12,11 +12,13 @@ use Rattle.basis.specs.Refusals.{Outcome, accepted, refused, outcome, isAccepte
 use Rattle.basis.specs.declared.refusal.Refusal.{Refusal}
 use Rattle.basis.specs.declared.refusal.Refusal.the-variants.{Accepted, Refused}
 use Rattle.sheet.specs.declared.row.Sheet.{Sheet}
-use Rattle.machine.specs.declared.state.State.{State}
-use Rattle.machine.specs.declared.start.Started.{Started}
+use Rattle.machine.specs.States as states
+use Rattle.states.specs.declared.state.State.{State}
+use Rattle.states.specs.declared.start.Started.{Started}
 use Rattle.aboard.specs.declared.lent.Begun.{Begun}
 use Rattle.machine.specs.Checks.{checkRun}
-use Rattle.machine.specs.Answers.{started, fresh, slot, entriesOf, behind, slotAt, Course, course, notBegun, run}
+use Rattle.states.specs.Values.{held, started}
+use Rattle.machine.specs.Answers.{fresh, slot, entriesOf, behind, slotAt, Course, course, notBegun, run}
 use Rattle.aboard.specs.Lent.{slottedIn, begun, beginning}
 use Rattle.machine.proofs.Answered.{run-list, run-buffer}
 use Rattle.machine.proofs.Courses.{room-for, goes-on, stops}
@@ -26,24 +28,24 @@ pub part-of : (at n : ℕ) (l : List ℕ) → take (at + n - at) (drop at l) ≡
 part-of at n l = let e : at + n - at ≡ n = omega arith in ap (λ (k : ℕ). take k (drop at l)) e
 
 -- `begin`
-module _ (h : Sheet) (rel : List ℕ) (room : ℕ) (s : Started) (es : started s ≡ fresh h) (c : Refusal) (e : outcome c ≡ checkRun h (s .state) rel room) where
+module _ (h : Sheet) (rel : List ℕ) (room : ℕ) (s : Started) (es : started s ≡ fresh h) (c : Refusal) (e : outcome c ≡ checkRun h (held (s .state)) rel room) where
   checked : (o : Outcome) → outcome c ≡ o → checkRun h (fresh h .1) rel room ≡ o
-  checked o f = ap (λ (x : Outcome × State). checkRun h (x .1) rel room) (sym es) ∙ sym e ∙ f
+  checked o f = ap (λ (x : Outcome × states.State). checkRun h (x .1) rel room) (sym es) ∙ sym e ∙ f
 
-  pub begin-refused : (a b : ℕ) → c ≡ Refused a b → ((refused a b, 0), s .state) ≡ beginning h rel room
+  pub begin-refused : (a b : ℕ) → c ≡ Refused a b → ((refused a b, 0), held (s .state)) ≡ beginning h rel room
   unfolding beginning
-  begin-refused a b f = rw (checked (refused a b) (ap outcome f)) (ap (λ (x : Outcome × State). ((refused a b, 0), x .1)) es)
+  begin-refused a b f = rw (checked (refused a b) (ap outcome f)) (ap (λ (x : Outcome × states.State). ((refused a b, 0), x .1)) es)
 
-  pub begin-accepted : c ≡ Accepted → ((accepted, length rel / h .count), s .state) ≡ beginning h rel room
+  pub begin-accepted : c ≡ Accepted → ((accepted, length rel / h .count), held (s .state)) ≡ beginning h rel room
   unfolding beginning
-  begin-accepted f = rw (checked accepted (ap outcome f)) (ap (λ (x : Outcome × State). ((accepted, length rel / h .count), x .1)) es)
+  begin-accepted f = rw (checked accepted (ap outcome f)) (ap (λ (x : Outcome × states.State). ((accepted, length rel / h .count), x .1)) es)
 
 -- what the loop begins with: room for its slots, nothing refused where there is a slot to do, and that its course is the run
 pub record Begins (h : Sheet) (rel cs : List ℕ) (b : Begun) : Type 0 where
   pub in-list : b .slots * h .count ≤ length rel
   pub in-buffer : b .slots * h .count ≤ length cs
   pub going : 0 < b .slots → outcome (b .refusal) ≡ accepted
-  pub whole : course h rel (notBegun (outcome (b .refusal)) (b .state) cs) (b .slots) ≡ run h (fresh h .1) rel cs
+  pub whole : course h rel (notBegun (outcome (b .refusal)) (held (b .state)) cs) (b .slots) ≡ run h (fresh h .1) rel cs
 
 pub begins : (h : Sheet) (rel cs : List ℕ) (b : Begun) → begun b ≡ beginning h rel (length cs) → Begins h rel cs b
 unfolding beginning run course
@@ -84,33 +86,33 @@ place-of n j slots rel cs now l a b e f g =
 
 -- a slot of the loop, on its own entries and on the buffer from its place on, is slot j of the list
 pub slot-at-is : (h : Sheet) (t : State) (rel cs : List ℕ) (j : ℕ) (list : List ℕ) → list ≡ entriesOf (h .count) j rel
-    → (y : Refusal) (u : State) (zs : List ℕ) → slottedIn y u zs ≡ slot h t list (take (length cs - j * h .count) (drop (j * h .count) cs))
-    → slottedIn y u (putMid (j * h .count) (length cs - j * h .count) cs zs) ≡ slotAt h t rel cs j
+    → (y : Refusal) (u : State) (zs : List ℕ) → slottedIn y u zs ≡ slot h (held t) list (take (length cs - j * h .count) (drop (j * h .count) cs))
+    → slottedIn y u (putMid (j * h .count) (length cs - j * h .count) cs zs) ≡ slotAt h (held t) rel cs j
 unfolding slotAt
 slot-at-is h t rel cs j list el y u zs e =
     let a = j * h .count in
     let rest : take (length cs - a) (drop a cs) ≡ drop a cs = take-all (length cs - a) (drop a cs) (omega (arith, length-drop a cs)) in
     let over : zs ++ drop (length cs - a) (drop a cs) ≡ zs = ap (λ (l : List ℕ). zs ++ l) (drop-of-length-le (drop a cs) {i = length cs - a} (omega (arith, length-drop a cs))) ∙ append-nil zs in
-    ap (λ (l : List ℕ). (outcome y, (u, take a cs ++ l))) over ∙ ap (behind (take a cs)) (e ∙ ap₂ (slot h t) el rest)
+    ap (λ (l : List ℕ). (outcome y, (held u, take a cs ++ l))) over ∙ ap (behind (take a cs)) (e ∙ ap₂ (slot h (held t)) el rest)
 
 -- the loop after j slots: nothing was refused where there is one more to do
 pub record Going (h : Sheet) (rel cs₀ : List ℕ) (first : Course) (slots j : ℕ) (x : Refusal) (t : State) (cs : List ℕ) : Type 0 where
   pub within : j ≤ slots
   pub long : length cs ≡ length cs₀
-  pub so-far : course h rel first j ≡ record { done = j; outcome = outcome x; state = t; codes = cs }
+  pub so-far : course h rel first j ≡ record { done = j; outcome = outcome x; state = held t; codes = cs }
   pub going : j < slots → outcome x ≡ accepted
 
-pub box-begins : (h : Sheet) (rel cs : List ℕ) (b : Begun) → Begins h rel cs b → Going h rel cs (notBegun (outcome (b .refusal)) (b .state) cs) (b .slots) 0 (b .refusal) (b .state) cs
+pub box-begins : (h : Sheet) (rel cs : List ℕ) (b : Begun) → Begins h rel cs b → Going h rel cs (notBegun (outcome (b .refusal)) (held (b .state)) cs) (b .slots) 0 (b .refusal) (b .state) cs
 unfolding course
 box-begins h rel cs b g = record { within = omega arith; long = refl; so-far = refl; going = g .going }
 
 module _ (h : Sheet) (rel cs₀ : List ℕ) (first : Course) (slots j : ℕ) (x : Refusal) (t : State) (cs : List ℕ) (g : Going h rel cs₀ first slots j x t cs) where
-  pub box-ends : slots ≤ j → _≡_ {A = Course} (record { done = j; outcome = outcome x; state = t; codes = cs }) (course h rel first slots)
+  pub box-ends : slots ≤ j → _≡_ {A = Course} (record { done = j; outcome = outcome x; state = held t; codes = cs }) (course h rel first slots)
   box-ends l = let e : j ≡ slots = omega (arith, g .within) in sym (g .so-far) ∙ ap (course h rel first) e
 
-  module _ (l : j < slots) (y : Refusal) (u : State) (ds : List ℕ) (e : slottedIn y u ds ≡ slotAt h t rel cs j) where
-    here : course h rel first j ≡ record { done = j; outcome = accepted; state = t; codes = cs }
-    here = g .so-far ∙ ap (λ (o : Outcome). record { done = j; outcome = o; state = t; codes = cs }) (g .going l)
+  module _ (l : j < slots) (y : Refusal) (u : State) (ds : List ℕ) (e : slottedIn y u ds ≡ slotAt h (held t) rel cs j) where
+    here : course h rel first j ≡ record { done = j; outcome = accepted; state = held t; codes = cs }
+    here = g .so-far ∙ ap (λ (o : Outcome). record { done = j; outcome = o; state = held t; codes = cs }) (g .going l)
 
     pub box-goes-on : length ds ≡ length cs → isAccepted (outcome y) ≡ true → Going h rel cs₀ first slots (j + 1) y u ds
     box-goes-on m a = go y refl a
@@ -120,14 +122,14 @@ module _ (h : Sheet) (rel cs₀ : List ℕ) (first : Course) (slots j : ℕ) (x 
             record {
               within = omega arith;
               long = m ∙ g .long;
-              so-far = goes-on h rel first j t cs here y u ds e f ∙ ap (λ (o : Outcome). record { done = j + 1; outcome = o; state = u; codes = ds }) (sym (ap outcome f));
+              so-far = goes-on h rel first j (held t) cs here y (held u) ds e f ∙ ap (λ (o : Outcome). record { done = j + 1; outcome = o; state = held u; codes = ds }) (sym (ap outcome f));
               going = λ _. ap outcome f;
             }
         go (Refused k p) f a = let z : _≡_ {A = ℕ} 0 1 = cc in absurd (omega arith)
 
-    pub box-stops : isAccepted (outcome y) ≡ false → _≡_ {A = Course} (record { done = j; outcome = outcome y; state = u; codes = ds }) (course h rel first slots)
+    pub box-stops : isAccepted (outcome y) ≡ false → _≡_ {A = Course} (record { done = j; outcome = outcome y; state = held u; codes = ds }) (course h rel first slots)
     box-stops a = go y refl a
       where
-        go : (z : Refusal) → y ≡ z → isAccepted (outcome z) ≡ false → _≡_ {A = Course} (record { done = j; outcome = outcome y; state = u; codes = ds }) (course h rel first slots)
+        go : (z : Refusal) → y ≡ z → isAccepted (outcome z) ≡ false → _≡_ {A = Course} (record { done = j; outcome = outcome y; state = held u; codes = ds }) (course h rel first slots)
         go Accepted f a = let z : _≡_ {A = ℕ} 0 1 = cc in absurd (omega arith)
-        go (Refused k p) f a = ap (λ (o : Refusal). record { done = j; outcome = outcome o; state = u; codes = ds }) f ∙ stops h rel first j t cs here y u ds e slots k p l f
+        go (Refused k p) f a = ap (λ (o : Refusal). record { done = j; outcome = outcome o; state = held u; codes = ds }) f ∙ stops h rel first j (held t) cs here y (held u) ds e slots k p l f

@@ -36,9 +36,9 @@ use Rattle.basis.proofs.refusal.Refusal.Laws as Re′
 use Rattle.sheet.specs.declared.row.Sheet.{Sheet}
 use Rattle.sheet.proofs.row.Sheet as Sh
 use Rattle.sheet.proofs.row.Sheet.Laws as Sh′
-use Rattle.machine.specs.declared.state.State.{State}
-use Rattle.machine.proofs.state.State as St
-use Rattle.machine.proofs.state.State.Laws as St′
+use Rattle.states.specs.declared.state.State.{State}
+use Rattle.states.proofs.state.State as St
+use Rattle.states.proofs.state.State.Laws as St′
 
 -- the machine values
 abbrev pub stv : State → Val

@@ -15,8 +15,7 @@ use Rattle.tables.specs.Tables.{sheetC}
 use Rattle.records.specs.Records.{legalRecord, isZero}
 use Rattle.records.specs.Steps.{released, fits, freeBelow, worked, older, aged, missed, ended, codeOf}
 use Rattle.records.specs.Checks.{checkRow}
-use Rattle.machine.specs.declared.state.State.{State}
-use Rattle.machine.specs.States.{recordAt}
+use Rattle.machine.specs.States.{State, recordAt}
 use Rattle.machine.specs.States as states
 use Rattle.machine.specs.Slot.{freeAt}
 use Rattle.machine.specs.Checks.{checkReleases, checkState, checkRoom, checkSlot, checkRun}

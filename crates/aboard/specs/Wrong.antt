@@ -3,8 +3,7 @@ use Prim.Native.Nat.{ℕ}
 use mathlib.Core.List.{List}
 use Rattle.basis.specs.Refusals.{Outcome, accepted}
 use Rattle.sheet.specs.declared.row.Sheet.{Sheet}
-use Rattle.machine.specs.declared.state.State.{State}
-use Rattle.machine.specs.States.{noState}
+use Rattle.machine.specs.States.{State, noState}
 use Rattle.machine.specs.Answers.{fresh, nextState, slot, Course, notBegun, course, run}
 
 -- An accepted slot leaves the lent state as found.

@@ -2,17 +2,18 @@
 ghost use mathlib.Core.Path.{_≡_};
 ghost use Prim.Native.Nat.{_+_, _≤_};
 ghost use lib.ListN.{length, take, drop};
-ghost use Rattle.machine.specs.Answers.{slot, fresh, ran, run};
+ghost use Rattle.machine.specs.Answers.{slot, fresh, run};
+ghost use Rattle.states.specs.Values.{held, ran};
 ghost use Rattle.aboard.specs.Lent.{slottedIn, begun, beginning};
 use basis::Refusal;
-use machine::Ran;
-use machine::State;
-use machine::fresh;
 use sheet::Sheet;
+use states::Ran;
+use states::State;
+use states::fresh;
 
 // One slot of a state that is lent: a refused slot leaves it as found.
 pub fn slot_in(state: &mut State, sheet: Sheet, releases: &[u64], codes: &mut [u8]) -> Refusal
-    ensures { λ r. ⌜ slottedIn r (now (state .exit)) (now (codes .exit)) ≡ slot sheet (now (state .entry)) (now (releases .entry)) (now (codes .entry)) ⌝ }
+    ensures { λ r. ⌜ slottedIn r (now (state .exit)) (now (codes .exit)) ≡ slot sheet (held (now (state .entry))) (now (releases .entry)) (now (codes .entry)) ⌝ }
 {
     let slotted = (*state).slot(sheet, releases, codes);
     *state = slotted.state;

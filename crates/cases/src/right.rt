@@ -4,13 +4,14 @@ ghost use Rattle.reader.specs.Answers.{reading};
 ghost use Rattle.reader.specs.Answers as readers;
 ghost use Rattle.bound.specs.Bound.{boundsOf};
 ghost use Rattle.bound.specs.Bound as bounds;
-ghost use Rattle.machine.specs.Answers.{slotted, slot, ran, run};
+ghost use Rattle.machine.specs.Answers.{slot, run};
+ghost use Rattle.states.specs.Values.{held, slotted, ran};
 use bound::Results;
-use machine::Ran;
-use machine::Slotted;
-use machine::State;
 use reader::Reading;
 use sheet::Sheet;
+use states::Ran;
+use states::Slotted;
+use states::State;
 
 // The bounds of a sheet.
 fn bounds_of(sheet: Sheet) -> Results
@@ -39,7 +40,7 @@ fn read_of(bytes: &[u8]) -> Reading
 
 // One slot.
 fn slot_of(state: State, sheet: Sheet, releases: &[u64], codes: &mut [u8]) -> Slotted
-    ensures { λ r. ⌜ slotted r (now (codes .exit)) ≡ slot sheet state (now (releases .entry)) (now (codes .entry)) ⌝ }
+    ensures { λ r. ⌜ slotted r (now (codes .exit)) ≡ slot sheet (held state) (now (releases .entry)) (now (codes .entry)) ⌝ }
 {
     let told = state.slot(sheet, releases, codes);
     let refusal = told.refusal;
@@ -52,7 +53,7 @@ fn slot_of(state: State, sheet: Sheet, releases: &[u64], codes: &mut [u8]) -> Sl
 
 // A run.
 fn run_of(state: State, sheet: Sheet, releases: &[u64], codes: &mut [u8]) -> Ran
-    ensures { λ r. ⌜ ran r (now (codes .exit)) ≡ run sheet state (now (releases .entry)) (now (codes .entry)) ⌝ }
+    ensures { λ r. ⌜ ran r (now (codes .exit)) ≡ run sheet (held state) (now (releases .entry)) (now (codes .entry)) ⌝ }
 {
     let told = state.run(sheet, releases, codes);
     let done = told.done;

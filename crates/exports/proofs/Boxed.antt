@@ -16,13 +16,13 @@ use Rattle.sheet.specs.Legal.{legal}
 use Rattle.sheet.specs.Lists.{filled, sheetIn}
 use Rattle.sheet.specs.declared.row.Sheet.{Sheet}
 use Rattle.sheet.proofs.Legality.{legal-is}
-use Rattle.machine.specs.declared.state.State.{State}
 use Rattle.records.specs.declared.record.RowState.{RowState}
-use Rattle.machine.specs.declared.runs.Ran.{Ran}
+use Rattle.states.specs.declared.runs.Ran.{Ran}
+use Rattle.states.specs.Values.{ran}
 use Rattle.records.specs.Records.{noRecord}
-use Rattle.machine.specs.States.{recordAt}
+use Rattle.machine.specs.States.{State, recordAt}
 use Rattle.machine.specs.Lists.{stateLong}
-use Rattle.machine.specs.Answers.{Course, fresh, ran, run}
+use Rattle.machine.specs.Answers.{Course, fresh, run}
 use Rattle.exports.specs.Answers.{told}
 use Rattle.exports.specs.Further.{stateCell, courseTold, boxOf, boxOn}
 

@@ -14,7 +14,7 @@ use Rattle.reader.specs.Answers.{reading}
 use Rattle.sheet.specs.Legal.{legal}
 use Rattle.sheet.specs.Lists.{sheetIn}
 use Rattle.sheet.specs.declared.row.Sheet.{Sheet}
-use Rattle.machine.specs.declared.state.State.{State}
+use Rattle.machine.specs.States.{State}
 use Rattle.machine.specs.Answers.{fresh, slot}
 use Rattle.machine.specs.Lists.{stateLong, stateIn, freshOn, slotIn, runIn}
 use Rattle.machine.proofs.Listed.{InTable, sheet-not-legal, list-not-whole, over-budget, too-soon, no-such-row, short-buffer, state-not-legal, Listed, slot-refusals}

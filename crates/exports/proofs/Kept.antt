@@ -15,7 +15,7 @@ use Rattle.bound.specs.Bound.{boundsOf}
 use Rattle.bound.specs.Lists.{resultsLong}
 use Rattle.machine.specs.Checks.{checkSlot, checkRun}
 use Rattle.machine.specs.Answers.{Course, Told, no-job, margin-is, refused-by, fresh, nextState, nextCodes, slot, notBegun, course, run, margin}
-use Rattle.machine.specs.declared.state.State.{State}
+use Rattle.machine.specs.States.{State}
 use Rattle.machine.proofs.Done.{Ends, all-done, stopped-at, run-ends, run-not-begun}
 use Rattle.dashboard.specs.Texts.{verdictText}
 use Rattle.sheet.specs.Legal.{legal}

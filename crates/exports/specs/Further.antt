@@ -10,8 +10,7 @@ use Rattle.sheet.specs.Legal.{legal}
 use Rattle.sheet.specs.Lists.{filled, sheetIn}
 use Rattle.sheet.specs.declared.row.Sheet.{Sheet}
 use Rattle.tables.specs.Tables.{fixedSheet}
-use Rattle.machine.specs.declared.state.State.{State}
-use Rattle.machine.specs.States.{recordAt}
+use Rattle.machine.specs.States.{State, recordAt}
 use Rattle.machine.specs.Lists.{stateLong}
 use Rattle.machine.specs.Answers.{Course, fresh, run}
 use Rattle.exports.specs.Answers.{told, fieldsIn}

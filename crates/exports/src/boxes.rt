@@ -2,16 +2,17 @@
 ghost use mathlib.Core.Path.{_≡_};
 ghost use Rattle.sheet.specs.Lists.{filled};
 ghost use Rattle.machine.specs.States.{recordAt};
+ghost use Rattle.states.specs.Values.{held};
 ghost use Rattle.exports.specs.Further.{stateCell, boxOn};
 use crate::telling::tell;
 use basis::MOST_ROWS;
 use basis::Refusal;
-use machine::State;
 use records::RowState;
+use states::State;
 
 // Record k of a state, and zeros past the last.
 fn record_at(state: State, k: usize) -> RowState
-    ensures { λ r. ⌜ r ≡ recordAt state k ⌝ }
+    ensures { λ r. ⌜ r ≡ recordAt (held state) k ⌝ }
 {
     if k < MOST_ROWS {
         return state.rows[k];
@@ -24,7 +25,7 @@ fn record_at(state: State, k: usize) -> RowState
 
 // The number at a place of a state's list.
 fn cell_of(state: State, at: usize) -> u64
-    ensures { λ r. ⌜ r ≡ stateCell state at ⌝ }
+    ensures { λ r. ⌜ r ≡ stateCell (held state) at ⌝ }
 {
     let s = record_at(state, at / 2);
     if at % 2 == 0 {
@@ -35,7 +36,7 @@ fn cell_of(state: State, at: usize) -> u64
 
 // Makes a list the list of a state; places past its records are made zero.
 fn put_state(list: &mut [u64], state: State)
-    ensures { λ _. ⌜ now (list .exit) ≡ filled (stateCell state) (now (list .entry)) ⌝ }
+    ensures { λ _. ⌜ now (list .exit) ≡ filled (stateCell (held state)) (now (list .entry)) ⌝ }
 {
     let mut i: usize = 0;
     while i < list.len() {

@@ -9,9 +9,8 @@ use lib.ListN.{getD}
 use Rattle.basis.specs.Refusals.{accepted}
 use Rattle.sheet.specs.Legal.{rowAt, Legal}
 use Rattle.sheet.specs.declared.row.Sheet.{Sheet}
-use Rattle.machine.specs.declared.state.State.{State}
+use Rattle.machine.specs.States.{State, recordAt}
 use Rattle.records.specs.declared.record.RowState.{RowState}
-use Rattle.machine.specs.States.{recordAt}
 use Rattle.machine.specs.Slot.{begun, runs, reached, code}
 use Rattle.machine.specs.Checks.{checkReleases}
 use Rattle.machine.specs.Answers.{given, nextState}

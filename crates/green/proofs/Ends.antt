@@ -11,8 +11,7 @@ use Rattle.sheet.specs.Legal.{rowAt, Legal}
 use Rattle.sheet.specs.declared.row.Sheet.{Sheet}
 use Rattle.bound.specs.Test.{passes}
 use Rattle.bound.specs.Bound.{Word, bound, valueOf, resultOf}
-use Rattle.machine.specs.declared.state.State.{State}
-use Rattle.machine.specs.States.{recordAt}
+use Rattle.machine.specs.States.{State, recordAt}
 use Rattle.machine.specs.Answers.{nextState}
 use Rattle.green.specs.Model.{owed, age, Reached}
 use Rattle.green.specs.Calls.{Done}

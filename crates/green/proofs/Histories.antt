@@ -12,7 +12,7 @@ use lib.Seq.{getD-take, length-take-le, take-append-le, drop-append-le, drop-at,
 use Rattle.basis.specs.Refusals.{Outcome, accepted, refused, isAccepted, handed}
 use Rattle.basis.proofs.Upto.{upto-below, length-upto}
 use Rattle.sheet.specs.declared.row.Sheet.{Sheet}
-use Rattle.machine.specs.declared.state.State.{State}
+use Rattle.machine.specs.States.{State}
 use Rattle.machine.specs.Slot.{code}
 use Rattle.machine.specs.Checks.{checkSlot, checkRun}
 use Rattle.machine.specs.Answers.{given, nextState, nextCodes, slot, Course, notBegun, entriesOf, behind, slotAt, followed, onward, course, runBy, run}

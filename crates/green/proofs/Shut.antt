@@ -26,6 +26,7 @@ use Rattle.machine.specs.States as states
 use Rattle.machine.specs.Slot.{freeAt}
 use Rattle.machine.specs.Checks.{checkReleases, checkState, checkRoom, checkSlot, checkRun}
 use Rattle.machine.specs.Answers.{fresh, given, nextState, nextCodes, slot, slotAt, onward, course, run}
+use Rattle.states.specs.declared.state.State.{State as Value}
 use Rattle.green.specs.Calls.{Done, freshOf, runDone, history}
 use Rattle.green.specs.Demand.{codeIn, FinishedWithin, InTime}
 use Rattle.green.specs.Green.{greenOf}
@@ -82,14 +83,18 @@ pub finished-is-no-miss : ((j k : ℕ) → j < 4 → k < 2 → codeIn (history s
 unfolding history runDone fresh given nextState nextCodes slot slotAt onward course run checkRow checkReleases checkState checkRoom checkSlot checkRun released fits freeBelow freeAt worked older aged missed ended codeOf freshState legalState legalRecord isZero states.legalAt legal legalAt legalRow firstOf upto allOf
 finished-is-no-miss none = none 0 0 (omega arith) (omega arith) refl
 
+-- the value of the state after a slot of sheet D from fresh
+abbrev after : List ℕ → Value
+after releases = record { rows = nextState sheetD (freshOf sheetD) releases .rows }
+
 -- slots that each begin with the state that the first one found are not in time
 pub stuck-slots : StuckSlots sheetD (freshOf sheetD) stuck
 unfolding fresh given nextState nextCodes slot slotAt onward course run checkRow checkReleases checkState checkRoom checkSlot checkRun released fits freeBelow freeAt worked older aged missed ended codeOf freshState legalState legalRecord isZero states.legalAt legal legalAt legalRow firstOf upto allOf
 stuck-slots =
-    once-more (0 ∷ 2 ∷ []) (9 ∷ 9 ∷ []) _ Accepted refl
-    (once-more (0 ∷ 0 ∷ []) (9 ∷ 9 ∷ []) _ Accepted refl
-    (once-more (0 ∷ 0 ∷ []) (9 ∷ 9 ∷ []) _ Accepted refl
-    (once-more (0 ∷ 0 ∷ []) (9 ∷ 9 ∷ []) _ Accepted refl no-more)))
+    once-more {after = after (0 ∷ 2 ∷ [])} (0 ∷ 2 ∷ []) (9 ∷ 9 ∷ []) _ Accepted refl
+    (once-more {after = after (0 ∷ 0 ∷ [])} (0 ∷ 0 ∷ []) (9 ∷ 9 ∷ []) _ Accepted refl
+    (once-more {after = after (0 ∷ 0 ∷ [])} (0 ∷ 0 ∷ []) (9 ∷ 9 ∷ []) _ Accepted refl
+    (once-more {after = after (0 ∷ 0 ∷ [])} (0 ∷ 0 ∷ []) (9 ∷ 9 ∷ []) _ Accepted refl no-more)))
 
 pub stuck-slots-are-late : InTime sheetD (sheetD .count) stuck → ⊥
 unfolding allOf sum begins groups upTo plain label entry entries body head sheet q X x W durationOf amountOf amounts room passes least boundBy judge resultsTo resultOf holds

@@ -19,9 +19,8 @@ use Rattle.sheet.specs.Legal.{rowAt}
 use Rattle.sheet.specs.declared.row.Row.{Row}
 use Rattle.sheet.specs.declared.row.Sheet.{Sheet}
 use Rattle.records.specs.declared.record.RowState.{RowState}
-use Rattle.machine.specs.declared.state.State.{State}
+use Rattle.machine.specs.States.{State, recordAt}
 use Rattle.records.specs.Records.{noRecord}
-use Rattle.machine.specs.States.{recordAt}
 use Rattle.machine.specs.Slot.{begun, free, runs, reached, next}
 use Rattle.records.specs.Steps.{released, fits, worked, older, aged, missed, ended}
 use Rattle.machine.specs.Checks.{checkAt, checkReleases}

@@ -17,10 +17,9 @@ use Rattle.sheet.proofs.Legality.{legal-is}
 use Rattle.bound.specs.Test.{passes}
 use Rattle.bound.specs.Bound.{isBound, valueOf, resultOf, holds}
 use Rattle.bound.proofs.Judging.{passes-local, bound-all}
-use Rattle.machine.specs.declared.state.State.{State}
+use Rattle.machine.specs.States.{State, recordAt, freshAt, freshState}
 use Rattle.records.specs.declared.record.RowState.{RowState}
 use Rattle.records.specs.Records.{noRecord}
-use Rattle.machine.specs.States.{recordAt, freshAt, freshState}
 use Rattle.machine.specs.Answers.{fresh, marginOf}
 use Rattle.machine.proofs.Differences.{less-twice}
 use Rattle.green.specs.Model.{Reached}

@@ -4,7 +4,7 @@ use mathlib.Core.List.{List, [], _∷_, _++_}
 use lib.ListN.{length, getD, take}
 use Rattle.basis.specs.Refusals.{Outcome, accepted, refused}
 use Rattle.sheet.specs.declared.row.Sheet.{Sheet}
-use Rattle.machine.specs.declared.state.State.{State}
+use Rattle.machine.specs.States.{State}
 use Rattle.machine.specs.Answers.{fresh, slot, Course, run, entriesOf}
 
 -- A call: one slot or a run, with any release list and any room for codes.

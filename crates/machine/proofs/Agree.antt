@@ -9,9 +9,8 @@ use Rattle.basis.specs.Refusals.{Outcome, accepted}
 use Rattle.basis.proofs.Upto.{upto-below}
 use Rattle.basis.proofs.Refusals.{handed-outcome}
 use Rattle.sheet.specs.declared.row.Sheet.{Sheet}
-use Rattle.machine.specs.declared.state.State.{State}
+use Rattle.machine.specs.States.{State, recordAt}
 use Rattle.records.specs.Records.{noRecord}
-use Rattle.machine.specs.States.{recordAt}
 use Rattle.records.specs.Steps.{released, ended}
 use Rattle.machine.specs.Slot.{freeAt, Given, begun, free, runs, reached, next, code}
 use Rattle.machine.specs.Checks.{checkSlot}

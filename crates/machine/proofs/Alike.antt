@@ -20,9 +20,8 @@ use Rattle.sheet.specs.Legal as sheets
 use Rattle.sheet.specs.declared.row.Row.{Row}
 use Rattle.sheet.specs.declared.row.Sheet.{Sheet}
 use Rattle.records.specs.declared.record.RowState.{RowState}
-use Rattle.machine.specs.declared.state.State.{State}
+use Rattle.machine.specs.States.{State, noState, recordAt, stateOf, freshAt, freshState, legalAt, legalState}
 use Rattle.records.specs.Records.{noRecord, legalRecord}
-use Rattle.machine.specs.States.{noState, recordAt, stateOf, freshAt, freshState, legalAt, legalState}
 use Rattle.machine.specs.Slot.{next, code}
 use Rattle.records.specs.Checks.{checkRow}
 use Rattle.machine.specs.Checks.{checkAt, checkReleases, checkState, checkRoom, checkSlot, checkRun, checkMargin}

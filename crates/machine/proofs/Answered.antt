@@ -17,8 +17,7 @@ use Rattle.basis.proofs.First.{both-accepted}
 use Rattle.basis.proofs.Refusals.{needed-holds}
 use Rattle.sheet.specs.Legal.{legal}
 use Rattle.sheet.specs.declared.row.Sheet.{Sheet}
-use Rattle.machine.specs.declared.state.State.{State}
-use Rattle.machine.specs.States.{legalState}
+use Rattle.machine.specs.States.{State, legalState}
 use Rattle.machine.specs.Checks.{checkReleases, checkState, checkRoom, checkSlot, checkRun}
 use Rattle.machine.specs.Answers.{nextState, nextCodes, slot, notBegun, course, run, Course}
 use Rattle.machine.proofs.Checked.{Ready, ready}

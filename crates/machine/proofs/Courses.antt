@@ -16,8 +16,7 @@ use Rattle.basis.specs.declared.refusal.Refusal.{Refusal}
 use Rattle.basis.specs.declared.refusal.Refusal.the-variants.{Accepted, Refused}
 use Rattle.sheet.specs.Legal.{legal}
 use Rattle.sheet.specs.declared.row.Sheet.{Sheet}
-use Rattle.machine.specs.declared.state.State.{State}
-use Rattle.machine.specs.States.{legalState}
+use Rattle.machine.specs.States.{State, legalState}
 use Rattle.machine.specs.Checks.{checkReleases, checkState, checkRoom, checkSlot}
 use Rattle.machine.specs.Answers.{nextState, nextCodes, slot, entriesOf, behind, slotAt, Course, followed, onward, course}
 

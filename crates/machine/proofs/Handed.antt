@@ -22,9 +22,8 @@ use Rattle.sheet.specs.declared.row.Sheet.{Sheet}
 use Rattle.sheet.proofs.Legality.{legal-is}
 use Rattle.sheet.specs.Lists.{numberAt}
 use Rattle.sheet.proofs.Filling.{length-filled}
-use Rattle.machine.specs.declared.state.State.{State}
+use Rattle.machine.specs.States.{State, stateOf, recordAt, freshAt, freshState, legalState}
 use Rattle.machine.specs.declared.places.Done.{Done}
-use Rattle.machine.specs.States.{stateOf, recordAt, freshAt, freshState, legalState}
 use Rattle.machine.specs.Checks.{checkSlot, checkRun}
 use Rattle.machine.specs.Answers.{fresh, nextState, nextCodes, slot, Course, notBegun, course, run}
 use Rattle.machine.specs.Lists.{stateLong, stateIn, putState, cleared, freshOn, slotListed, slotIn, runIn, ranIn, courseIn}

@@ -14,8 +14,7 @@ use Rattle.sheet.specs.declared.row.Row.{Row}
 use Rattle.sheet.specs.declared.row.Sheet.{Sheet}
 use Rattle.sheet.proofs.Legality.{legal-is}
 use Rattle.records.specs.declared.record.RowState.{RowState}
-use Rattle.machine.specs.declared.state.State.{State}
-use Rattle.machine.specs.States.{recordAt}
+use Rattle.machine.specs.States.{State, recordAt}
 use Rattle.records.specs.Steps.{released, worked, aged, missed, ended, codeOf}
 use Rattle.machine.specs.Slot.{begun, runs}
 use Rattle.records.specs.Checks.{checkRow}

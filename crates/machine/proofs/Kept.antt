@@ -17,9 +17,8 @@ use Rattle.sheet.specs.Legal.{rowAt, Legal, LegalRow}
 use Rattle.sheet.specs.declared.row.Row.{Row}
 use Rattle.sheet.specs.declared.row.Sheet.{Sheet}
 use Rattle.records.specs.declared.record.RowState.{RowState}
-use Rattle.machine.specs.declared.state.State.{State}
+use Rattle.machine.specs.States.{State, recordAt, freshAt, freshState}
 use Rattle.records.specs.Records.{noRecord, isZero}
-use Rattle.machine.specs.States.{recordAt, freshAt, freshState}
 use Rattle.records.specs.Steps.{released, worked, aged, ended}
 use Rattle.machine.specs.Slot.{begun, runs, next}
 use Rattle.records.specs.Checks.{checkRow}

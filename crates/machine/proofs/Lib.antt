@@ -15,7 +15,6 @@ pub mod Kept
 pub mod Laws
 pub mod Legals
 pub mod Listed
-pub mod Lists
 pub mod Moves
 pub mod Placement
 pub mod Ranges
@@ -23,5 +22,4 @@ pub mod Same
 pub mod Stored
 pub mod Told
 pub mod Turns
-pub mod Whole
 pub mod Wrong

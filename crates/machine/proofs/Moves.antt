@@ -22,10 +22,9 @@ use Rattle.sheet.specs.declared.row.Row.{Row}
 use Rattle.sheet.specs.declared.row.Sheet.{Sheet}
 use Rattle.sheet.proofs.Legality.{legal-is}
 use Rattle.records.specs.declared.record.RowState.{RowState}
-use Rattle.machine.specs.declared.state.State.{State}
+use Rattle.machine.specs.States.{State, stateOf, recordAt, legalState}
 use Rattle.records.specs.declared.steps.Placed.{Placed}
 use Rattle.machine.specs.declared.places.Done.{Done}
-use Rattle.machine.specs.States.{stateOf, recordAt, legalState}
 use Rattle.machine.specs.Slot.{freeAt, free, next, code}
 use Rattle.records.specs.Checks.{checkRow}
 use Rattle.machine.specs.Checks.{checkAt, checkReleases, checkState, checkSlot, checkRun}

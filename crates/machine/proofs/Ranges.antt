@@ -13,8 +13,7 @@ use Rattle.sheet.specs.Legal.{rowAt, LegalRow}
 use Rattle.sheet.specs.declared.row.Row.{Row}
 use Rattle.sheet.specs.declared.row.Sheet.{Sheet}
 use Rattle.records.specs.declared.record.RowState.{RowState}
-use Rattle.machine.specs.declared.state.State.{State}
-use Rattle.machine.specs.States.{recordAt}
+use Rattle.machine.specs.States.{State, recordAt}
 use Rattle.machine.specs.Checks.{checkMargin}
 use Rattle.machine.specs.Answers.{no-job, margin-is, marginOf, marginAt, margin}
 use Rattle.machine.proofs.Differences.{less, less-twice}

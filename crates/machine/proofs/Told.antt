@@ -22,8 +22,7 @@ use Rattle.sheet.specs.declared.row.Row.{Row}
 use Rattle.sheet.specs.declared.row.Sheet.{Sheet}
 use Rattle.sheet.proofs.Legality.{legal-is}
 use Rattle.records.specs.declared.record.RowState.{RowState}
-use Rattle.machine.specs.declared.state.State.{State}
-use Rattle.machine.specs.States.{recordAt, legalState}
+use Rattle.machine.specs.States.{State, recordAt, legalState}
 use Rattle.machine.specs.Checks.{checkState, checkMargin}
 use Rattle.machine.specs.Answers.{Told, no-job, margin-is, refused-by, marginOf, marginAt, margin}
 use Rattle.machine.specs.Lists.{recordIn, stateLong, stateIn}

@@ -13,19 +13,19 @@ use Rattle.basis.specs.Faults.{NoneMeets}
 use Rattle.basis.proofs.Faults.{apart, numberOf}
 use Rattle.sheet.specs.Legal.{legalRow, legalAt, legal}
 use Rattle.sheet.specs.Lists.{filled, rowIn, sheetIn}
+use Rattle.sheet.specs.declared.row.Sheet.{Sheet}
 use Rattle.tables.specs.Tables.{sheetB, sheetC, sheetF}
 use Rattle.records.specs.Records.{legalRecord, isZero}
 use Rattle.records.specs.Steps.{released, fits, freeBelow, worked, older, aged, missed, ended, codeOf}
 use Rattle.records.specs.Checks.{checkRow}
 use Rattle.records.specs.Wrong.{thirteenFirst, stopsAtUnfit}
-use Rattle.machine.specs.declared.state.State.{State}
-use Rattle.machine.specs.States.{recordAt}
+use Rattle.machine.specs.States.{State, recordAt}
 use Rattle.machine.specs.States as states
 use Rattle.machine.specs.Slot.{freeAt}
 use Rattle.machine.specs.Checks.{checkReleases, checkState, checkRoom, checkSlot, checkRun, checkMargin}
 use Rattle.machine.specs.Answers.{fresh, given, nextState, nextCodes, slot, Course, slotAt, onward, course, run, Told, no-job, margin-is, refused-by, marginOf, marginAt, margin}
 use Rattle.machine.specs.Lists.{recordIn, zeroAt, zeroFrom, stateIn, putRecord, putTo, putState, freshOn, slotIn, runIn}
-use Rattle.machine.specs.Wrong.{freshWithJobs, freshTooYoung, freeToUnfit, slotToUnfit, slotOfAll, slotMissedFirst, slotUntouched, slotUnreleased, slotCodesAlways, slotThirteenFirst, runOfFirst, runMadeUp, runUntouched, roomFirst, anyState, zeroForNone, sinceLeftOut, marginOfFirst, freshKept, freshRoomless, slotListKept, slotCodesKept, runListKept, runListMadeUp, listC, freshListC, busyC}
+use Rattle.machine.specs.Wrong.{freshWithJobs, freshTooYoung, freeToUnfit, slotToUnfit, slotOfAll, slotMissedFirst, slotUntouched, slotUnreleased, slotCodesAlways, checkThirteenFirst, anyReleases, slotThirteenFirst, runOfFirst, runMadeUp, runUntouched, roomFirst, anyState, zeroForNone, sinceLeftOut, marginOfFirst, freshKept, freshRoomless, slotListKept, slotCodesKept, runListKept, runListMadeUp, listC, freshListC, busyC}
 
 -- ---- what is read off an answer: a number of a record, a code, the refusal's number
 
@@ -44,6 +44,14 @@ codeAfter k x = getD (x .1 .1) k 0
 abbrev refusedAfter : Outcome × (State × List ℕ) → ℕ
 refusedAfter x = numberOf (x .0)
 
+-- ---- a slot and a run shut a rule out on a sheet, a state, releases and a code buffer
+
+abbrev pub SlotShutsOut : (Sheet → State → List ℕ → List ℕ → Outcome × (State × List ℕ)) → Sheet → State → List ℕ → List ℕ → Type 0
+SlotShutsOut faulty h t releases codes = NoneMeets (faulty h t releases codes) (slot h t releases codes)
+
+abbrev pub RunShutsOut : (Sheet → State → List ℕ → List ℕ → Course) → Sheet → State → List ℕ → List ℕ → Type 0
+RunShutsOut faulty h t releases codes = NoneMeets (faulty h t releases codes) (run h t releases codes)
+
 -- ---- `fresh`
 
 pub fresh-with-jobs-is-shut-out : NoneMeets (freshWithJobs sheetC) (fresh sheetC)
@@ -57,56 +65,66 @@ fresh-too-young-is-shut-out = apart (sinceOf 1) _ _ 1 4 refl refl (λ e. omega a
 -- ---- `slot`
 
 -- case H, the first slot: row 1 does not fit, and row 2 does
-pub slot-to-unfit-is-shut-out : NoneMeets (slotToUnfit sheetB (fresh sheetB .1) (2 ∷ 2 ∷ 3 ∷ []) (9 ∷ 9 ∷ 9 ∷ [])) (slot sheetB (fresh sheetB .1) (2 ∷ 2 ∷ 3 ∷ []) (9 ∷ 9 ∷ 9 ∷ []))
+pub slot-to-unfit-is-shut-out : SlotShutsOut slotToUnfit sheetB (fresh sheetB .1) (2 ∷ 2 ∷ 3 ∷ []) (9 ∷ 9 ∷ 9 ∷ [])
 unfolding slotToUnfit freeToUnfit stopsAtUnfit allOf firstOf upto legalRow legalAt legal states.freshState legalRecord isZero states.legalAt states.legalState released fits freeBelow freeAt worked older aged missed ended codeOf checkRow checkReleases checkState checkRoom checkSlot fresh given nextState nextCodes slot
 slot-to-unfit-is-shut-out = apart (codeAfter 2) _ _ 1 2 refl refl (λ e. omega arith)
 
 -- the same slot: row 1 waits
-pub slot-of-all-is-shut-out : NoneMeets (slotOfAll sheetB (fresh sheetB .1) (2 ∷ 2 ∷ 3 ∷ []) (9 ∷ 9 ∷ 9 ∷ [])) (slot sheetB (fresh sheetB .1) (2 ∷ 2 ∷ 3 ∷ []) (9 ∷ 9 ∷ 9 ∷ []))
+pub slot-of-all-is-shut-out : SlotShutsOut slotOfAll sheetB (fresh sheetB .1) (2 ∷ 2 ∷ 3 ∷ []) (9 ∷ 9 ∷ 9 ∷ [])
 unfolding slotOfAll allOf firstOf upto legalRow legalAt legal states.freshState legalRecord isZero states.legalAt states.legalState released fits freeBelow freeAt worked older aged missed ended codeOf checkRow checkReleases checkState checkRoom checkSlot fresh given nextState nextCodes slot
 slot-of-all-is-shut-out = apart (codeAfter 1) _ _ 2 1 refl refl (λ e. omega arith)
 
 -- sheet F: a job finishes in the slot in which since reaches its deadline
-pub slot-missed-first-is-shut-out : NoneMeets (slotMissedFirst sheetF (fresh sheetF .1) (1 ∷ []) (9 ∷ [])) (slot sheetF (fresh sheetF .1) (1 ∷ []) (9 ∷ []))
+pub slot-missed-first-is-shut-out : SlotShutsOut slotMissedFirst sheetF (fresh sheetF .1) (1 ∷ []) (9 ∷ [])
 unfolding slotMissedFirst allOf firstOf upto legalRow legalAt legal states.freshState legalRecord isZero states.legalAt states.legalState released fits freeBelow freeAt worked older aged missed ended codeOf checkRow checkReleases checkState checkRoom checkSlot fresh given nextState nextCodes slot
 slot-missed-first-is-shut-out = apart (codeAfter 0) _ _ 4 3 refl refl (λ e. omega arith)
 
 -- case G, the first slot: row 1 is released for 3
-pub slot-untouched-is-shut-out : NoneMeets (slotUntouched sheetC (fresh sheetC .1) (1 ∷ 3 ∷ []) (9 ∷ 9 ∷ [])) (slot sheetC (fresh sheetC .1) (1 ∷ 3 ∷ []) (9 ∷ 9 ∷ []))
+pub slot-untouched-is-shut-out : SlotShutsOut slotUntouched sheetC (fresh sheetC .1) (1 ∷ 3 ∷ []) (9 ∷ 9 ∷ [])
 unfolding slotUntouched allOf firstOf upto legalRow legalAt legal states.freshState legalRecord isZero states.legalAt states.legalState released fits freeBelow freeAt worked older aged missed ended codeOf checkRow checkReleases checkState checkRoom checkSlot fresh given nextState nextCodes slot
 slot-untouched-is-shut-out = apart (leftAfter 1) _ _ 0 3 refl refl (λ e. omega arith)
 
-pub slot-unreleased-is-shut-out : NoneMeets (slotUnreleased sheetC (fresh sheetC .1) (1 ∷ 3 ∷ []) (9 ∷ 9 ∷ [])) (slot sheetC (fresh sheetC .1) (1 ∷ 3 ∷ []) (9 ∷ 9 ∷ []))
+pub slot-unreleased-is-shut-out : SlotShutsOut slotUnreleased sheetC (fresh sheetC .1) (1 ∷ 3 ∷ []) (9 ∷ 9 ∷ [])
 unfolding slotUnreleased allOf firstOf upto legalRow legalAt legal states.freshState legalRecord isZero states.legalAt states.legalState released fits freeBelow freeAt worked older aged missed ended codeOf checkRow checkReleases checkState checkRoom checkSlot fresh given nextState nextCodes slot
 slot-unreleased-is-shut-out = apart (codeAfter 0) _ _ 0 3 refl refl (λ e. omega arith)
 
 -- a release of 2 in row 0 is over its budget
-pub slot-codes-always-is-shut-out : NoneMeets (slotCodesAlways sheetC (fresh sheetC .1) (2 ∷ 0 ∷ []) (9 ∷ 9 ∷ [])) (slot sheetC (fresh sheetC .1) (2 ∷ 0 ∷ []) (9 ∷ 9 ∷ []))
+pub slot-codes-always-is-shut-out : SlotShutsOut slotCodesAlways sheetC (fresh sheetC .1) (2 ∷ 0 ∷ []) (9 ∷ 9 ∷ [])
 unfolding slotCodesAlways allOf firstOf upto legalRow legalAt legal states.freshState legalRecord isZero states.legalAt states.legalState released fits freeBelow freeAt worked older aged missed ended codeOf checkRow checkReleases checkState checkRoom checkSlot fresh given nextState nextCodes slot
 slot-codes-always-is-shut-out = apart (codeAfter 1) _ _ 0 9 refl refl (λ e. omega arith)
 
 -- and one slot after the last it is too soon as well
-pub slot-thirteen-first-is-shut-out : NoneMeets (slotThirteenFirst sheetC busyC (2 ∷ 0 ∷ []) (9 ∷ 9 ∷ [])) (slot sheetC busyC (2 ∷ 0 ∷ []) (9 ∷ 9 ∷ []))
-unfolding slotThirteenFirst thirteenFirst allOf firstOf upto legalRow legalAt legal legalRecord isZero states.legalAt states.legalState checkRow checkReleases checkState checkRoom checkSlot slot
+pub slot-thirteen-first-is-shut-out : SlotShutsOut slotThirteenFirst sheetC busyC (2 ∷ 0 ∷ []) (9 ∷ 9 ∷ [])
+unfolding slotThirteenFirst checkThirteenFirst thirteenFirst allOf firstOf upto legalRow legalAt legal legalRecord isZero states.legalAt states.legalState checkRow checkReleases checkState checkRoom checkSlot slot
 slot-thirteen-first-is-shut-out = apart refusedAfter _ _ 13 12 refl refl (λ e. omega arith)
 
 -- ---- `run`
 
 -- the first two slots of case G: row 1 runs in the second
-pub run-of-first-is-shut-out : NoneMeets (runOfFirst sheetC (fresh sheetC .1) (1 ∷ 3 ∷ 0 ∷ 0 ∷ []) (9 ∷ 9 ∷ 9 ∷ 9 ∷ [])) (run sheetC (fresh sheetC .1) (1 ∷ 3 ∷ 0 ∷ 0 ∷ []) (9 ∷ 9 ∷ 9 ∷ 9 ∷ []))
+pub run-of-first-is-shut-out : RunShutsOut runOfFirst sheetC (fresh sheetC .1) (1 ∷ 3 ∷ 0 ∷ 0 ∷ []) (9 ∷ 9 ∷ 9 ∷ 9 ∷ [])
 unfolding runOfFirst allOf firstOf upto legalRow legalAt legal states.freshState legalRecord isZero states.legalAt states.legalState released fits freeBelow freeAt worked older aged missed ended codeOf checkRow checkReleases checkState checkRoom checkSlot checkRun fresh given nextState nextCodes slot slotAt onward course run
 run-of-first-is-shut-out = apart (λ (c : Course). getD (c .codes) 3 0) _ _ 9 2 refl refl (λ e. omega arith)
 
 -- a second release of row 0, one slot after the first, is refused
-pub run-made-up-is-shut-out : NoneMeets (runMadeUp sheetC (fresh sheetC .1) (1 ∷ 0 ∷ 1 ∷ 0 ∷ []) (9 ∷ 9 ∷ 9 ∷ 9 ∷ [])) (run sheetC (fresh sheetC .1) (1 ∷ 0 ∷ 1 ∷ 0 ∷ []) (9 ∷ 9 ∷ 9 ∷ 9 ∷ []))
+pub run-made-up-is-shut-out : RunShutsOut runMadeUp sheetC (fresh sheetC .1) (1 ∷ 0 ∷ 1 ∷ 0 ∷ []) (9 ∷ 9 ∷ 9 ∷ 9 ∷ [])
 unfolding runMadeUp allOf firstOf upto legalRow legalAt legal states.freshState legalRecord isZero states.legalAt states.legalState released fits freeBelow freeAt worked older aged missed ended codeOf checkRow checkReleases checkState checkRoom checkSlot checkRun fresh given nextState nextCodes slot slotAt onward course run
 run-made-up-is-shut-out = apart (λ (c : Course). c .done) _ _ 2 1 refl refl (λ e. omega arith)
 
-pub run-untouched-is-shut-out : NoneMeets (runUntouched sheetC (fresh sheetC .1) (1 ∷ 3 ∷ 0 ∷ 0 ∷ []) (9 ∷ 9 ∷ 9 ∷ 9 ∷ [])) (run sheetC (fresh sheetC .1) (1 ∷ 3 ∷ 0 ∷ 0 ∷ []) (9 ∷ 9 ∷ 9 ∷ 9 ∷ []))
+pub run-untouched-is-shut-out : RunShutsOut runUntouched sheetC (fresh sheetC .1) (1 ∷ 3 ∷ 0 ∷ 0 ∷ []) (9 ∷ 9 ∷ 9 ∷ 9 ∷ [])
 unfolding runUntouched allOf firstOf upto legalRow legalAt legal states.freshState legalRecord isZero states.legalAt states.legalState released fits freeBelow freeAt worked older aged missed ended codeOf checkRow checkReleases checkState checkRoom checkSlot checkRun fresh given nextState nextCodes slot slotAt onward course run
 run-untouched-is-shut-out = apart (λ (c : Course). recordAt (c .state) 1 .remaining) _ _ 0 2 refl refl (λ e. omega arith)
 
--- ---- `check_run`
+-- ---- the checks of a slot
+
+pub check-thirteen-first-is-shut-out : NoneMeets (checkThirteenFirst sheetC busyC (2 ∷ 0 ∷ []) 2) (checkSlot sheetC busyC (2 ∷ 0 ∷ []) 2)
+unfolding checkThirteenFirst thirteenFirst allOf firstOf upto legalRow legalAt legal legalRecord isZero states.legalAt states.legalState checkRow checkReleases checkState checkRoom checkSlot
+check-thirteen-first-is-shut-out = apart numberOf _ _ 13 12 refl refl (λ e. omega arith)
+
+pub any-releases-is-shut-out : NoneMeets (anyReleases sheetC busyC (2 ∷ 0 ∷ []) 2) (checkSlot sheetC busyC (2 ∷ 0 ∷ []) 2)
+unfolding anyReleases allOf firstOf upto legalRow legalAt legal legalRecord isZero states.legalAt states.legalState checkRow checkReleases checkState checkRoom checkSlot
+any-releases-is-shut-out = apart numberOf _ _ 0 12 refl refl (λ e. omega arith)
+
+-- ---- the checks of a run
 
 -- a list of three entries for two rows, and room for none
 pub room-first-is-shut-out : NoneMeets (roomFirst sheetC (fresh sheetC .1) (0 ∷ 0 ∷ 0 ∷ []) 0) (checkRun sheetC (fresh sheetC .1) (0 ∷ 0 ∷ 0 ∷ []) 0)
@@ -118,7 +136,7 @@ pub any-state-is-shut-out : NoneMeets (anyState sheetC states.noState [] 0) (che
 unfolding anyState allOf upto legalRow legalAt legal legalRecord isZero states.legalAt states.legalState checkState checkRoom checkRun
 any-state-is-shut-out = apart numberOf _ _ 0 16 refl refl (λ e. omega arith)
 
--- ---- `margin`, and `margin_on`, whose promise is the same margin of the sheet and the state in lists
+-- ---- the margin
 
 -- 0 for no job, one more than a margin that is not negative, and 99 else
 abbrev marginRead : Told → ℕ

@@ -4,26 +4,18 @@ use mathlib.Core.List.{List, _++_}
 use lib.ListN.{length, getD, take, drop}
 use lib.IntN.{ℤ, pos, _-ℤ_}
 use Rattle.basis.specs.Words.{pick}
-use Rattle.basis.specs.Refusals.{Outcome, accepted, refused, outcome, isAccepted, needed, handed}
+use Rattle.basis.specs.Refusals.{Outcome, accepted, refused, isAccepted, needed, handed}
 use Rattle.basis.specs.Upto.{upto}
 use Rattle.sheet.specs.Legal.{rowAt, legal}
 use Rattle.sheet.specs.declared.row.Row.{Row}
 use Rattle.sheet.specs.declared.row.Sheet.{Sheet}
 use Rattle.records.specs.declared.record.RowState.{RowState}
-use Rattle.machine.specs.declared.state.State.{State}
-use Rattle.machine.specs.declared.start.Started.{Started}
-use Rattle.machine.specs.declared.slots.Slotted.{Slotted}
-use Rattle.machine.specs.declared.runs.Ran.{Ran}
+use Rattle.machine.specs.States.{State, noState, freshState, stateOf, recordAt}
 use Rattle.machine.specs.declared.margins.Margin.{Margin}
 use Rattle.machine.specs.declared.margins.Margin.the-variants as margin-variants
-use Rattle.machine.specs.States.{noState, freshState, stateOf, recordAt}
 use Rattle.records.specs.Records.{hasJob}
 use Rattle.machine.specs.Slot.{Given, next, code}
 use Rattle.machine.specs.Checks.{checkSlot, checkRun, checkMargin}
-
--- The answer of `fresh`: the outcome, and the state beside it.
-abbrev pub started : Started → Outcome × State
-started r = (outcome (r .refusal), r .state)
 
 -- Fresh checks 10; beside a refusal all records are zero.
 unfoldable pub fresh : Sheet → Outcome × State
@@ -42,10 +34,6 @@ nextState h t releases = stateOf (upto (h .count) (next (given h t releases)) (t
 unfoldable pub nextCodes : Sheet → State → List ℕ → List ℕ → List ℕ
 nextCodes h t releases codes = upto (h .count) (code (given h t releases)) codes
 
--- The answer of `slot`: the outcome, the state, and the code buffer after it.
-abbrev pub slotted : Slotted → List ℕ → Outcome × (State × List ℕ)
-slotted r codes = (outcome (r .refusal), (r .state, codes))
-
 -- One slot: where it is refused, the state is handed back as it came and no code is written.
 unfoldable pub slot : Sheet → State → List ℕ → List ℕ → Outcome × (State × List ℕ)
 slot h t releases codes =
@@ -57,10 +45,6 @@ pub record Course : Type 0 where
   pub outcome : Outcome
   pub state : State
   pub codes : List ℕ
-
--- The answer of `run`, with the code buffer after it.
-abbrev pub ran : Ran → List ℕ → Course
-ran r codes = record { done = r .done; outcome = outcome (r .refusal); state = r .state; codes = codes }
 
 -- Nothing is done: the state and the code buffer are as they came.
 abbrev pub notBegun : Outcome → State → List ℕ → Course

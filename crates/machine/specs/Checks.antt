@@ -8,8 +8,7 @@ use Rattle.basis.specs.Refusals.{Outcome, orElse, firstOf, needed, roomFor}
 use Rattle.sheet.specs.Legal.{rowAt, legal}
 use Rattle.sheet.specs.declared.row.Sheet.{Sheet}
 use Rattle.records.specs.Checks.{checkRow}
-use Rattle.machine.specs.declared.state.State.{State}
-use Rattle.machine.specs.States.{recordAt, legalState}
+use Rattle.machine.specs.States.{State, recordAt, legalState}
 
 -- The check of row k's release.
 abbrev pub checkAt : Sheet → State → List ℕ → ℕ → Outcome

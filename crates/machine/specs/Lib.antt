@@ -3,6 +3,5 @@ pub mod Slot
 pub mod Checks
 pub mod Answers
 pub mod Cases
-pub mod Methods
 pub mod Lists
 pub mod Wrong

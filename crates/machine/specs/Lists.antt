@@ -11,9 +11,8 @@ use Rattle.basis.specs.Upto.{upto}
 use Rattle.sheet.specs.Lists.{numberAt, filled}
 use Rattle.sheet.specs.declared.row.Sheet.{Sheet}
 use Rattle.records.specs.declared.record.RowState.{RowState}
-use Rattle.machine.specs.declared.state.State.{State}
+use Rattle.machine.specs.States.{State, noState, stateOf, recordAt}
 use Rattle.machine.specs.declared.places.Done.{Done}
-use Rattle.machine.specs.States.{noState, stateOf, recordAt}
 use Rattle.machine.specs.Answers.{Course, fresh, slot, run}
 
 -- The numbers of a record.

@@ -11,7 +11,10 @@ use Rattle.sheet.specs.Legal.{rowAt}
 use Rattle.sheet.specs.declared.row.Sheet.{Sheet}
 use Rattle.records.specs.declared.record.RowState.{RowState}
 use Rattle.records.specs.Records.{noRecord, legalRecord, isZero}
-use Rattle.machine.specs.declared.state.State.{State}
+
+-- The state of a box: a record for each row.
+pub record State : Type 0 where
+  pub rows : List RowState
 
 -- The state of these records.
 abbrev pub stateOf : List RowState → State

@@ -15,8 +15,7 @@ use Rattle.records.specs.declared.record.RowState.{RowState}
 use Rattle.records.specs.Records.{noRecord, hasJob}
 use Rattle.records.specs.Steps.{fits, worked, aged, ended, codeOf}
 use Rattle.records.specs.Wrong.{rec, thirteenFirst, stopsAtUnfit}
-use Rattle.machine.specs.declared.state.State.{State}
-use Rattle.machine.specs.States.{noState, stateOf, recordAt, freshState}
+use Rattle.machine.specs.States.{State, noState, stateOf, recordAt, freshState}
 use Rattle.machine.specs.Slot.{Given, begun, runs, reached, next}
 use Rattle.machine.specs.Checks.{checkState, checkRoom, checkSlot, checkMargin}
 use Rattle.machine.specs.Answers.{given, nextState, nextCodes, slot, Course, notBegun, course, run, Told, no-job, margin-is, marginAt, marginBy, margin}
@@ -82,14 +81,22 @@ unfoldable pub slotCodesAlways : Sheet → State → List ℕ → List ℕ → O
 slotCodesAlways h t releases codes =
     handed (checkSlot h t releases (length codes)) (nextState h t releases, nextCodes h t releases codes) (t, nextCodes h t releases codes)
 
+-- The checks of a slot, but 13 comes before 12.
+unfoldable pub checkThirteenFirst : Sheet → State → List ℕ → ℕ → Outcome
+checkThirteenFirst h t releases room =
+    orElse (checkState h t)
+    (orElse (checkRoom (eqb (length releases) (h .count)) (length releases) room)
+    (firstOf (h .count) (λ k. thirteenFirst (rowAt h k) (recordAt t k) (getD releases k 0) k)))
+
+-- The checks of a slot, but the releases are not looked at.
+unfoldable pub anyReleases : Sheet → State → List ℕ → ℕ → Outcome
+anyReleases h t releases room =
+    orElse (checkState h t) (checkRoom (eqb (length releases) (h .count)) (length releases) room)
+
 -- 13 comes before 12.
 unfoldable pub slotThirteenFirst : Sheet → State → List ℕ → List ℕ → Outcome × (State × List ℕ)
 slotThirteenFirst h t releases codes =
-    handed
-    (orElse (checkState h t)
-    (orElse (checkRoom (eqb (length releases) (h .count)) (length releases) (length codes))
-    (firstOf (h .count) (λ k. thirteenFirst (rowAt h k) (recordAt t k) (getD releases k 0) k))))
-    (nextState h t releases, nextCodes h t releases codes) (t, codes)
+    handed (checkThirteenFirst h t releases (length codes)) (nextState h t releases, nextCodes h t releases codes) (t, codes)
 
 -- ---- a run
 

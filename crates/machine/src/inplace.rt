@@ -160,7 +160,7 @@ pub(crate) fn check_state_in(sheet: &[u64], list: &[u64]) -> Refusal
 }
 
 // 10, 16, 11, 15, then the releases.
-pub(crate) fn check_slot_in(sheet: &[u64], list: &[u64], releases: &[u64], room: usize) -> Refusal
+pub fn check_slot_in(sheet: &[u64], list: &[u64], releases: &[u64], room: usize) -> Refusal
     ensures { λ r. ⌜ outcome r ≡ checkSlot (sheetIn (now (sheet .entry))) (stateIn (now (list .entry))) (now (releases .entry)) room ⌝ }
 {
     let first = check_state_in(sheet, list);
@@ -178,7 +178,7 @@ pub(crate) fn check_slot_in(sheet: &[u64], list: &[u64], releases: &[u64], room:
 }
 
 // 10, 16, 11, 15 over the whole list.
-pub(crate) fn check_run_in(sheet: &[u64], list: &[u64], releases: &[u64], room: usize) -> Refusal
+pub fn check_run_in(sheet: &[u64], list: &[u64], releases: &[u64], room: usize) -> Refusal
     ensures { λ r. ⌜ outcome r ≡ checkRun (sheetIn (now (sheet .entry))) (stateIn (now (list .entry))) (now (releases .entry)) room ⌝ }
 {
     let refusal = check_state_in(sheet, list);

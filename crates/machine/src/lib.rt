@@ -1,22 +1,17 @@
-// The slot machine: its state, the fresh state, one slot, a run of slots, and the margin of a row.
+// The slot machine on lent lists: the fresh state, one slot, a run of slots, and the margin of a row.
 mod inplace;
 mod margins;
 mod places;
-mod runs;
 mod sheets;
-mod slots;
 mod start;
-mod state;
-mod steps;
 
+pub use inplace::check_run_in;
+pub use inplace::check_slot_in;
 pub use inplace::run_on;
 pub use inplace::slot_on;
 pub use margins::Margin;
 pub use margins::margin_on;
 pub use places::Done;
-pub use runs::Ran;
-pub use slots::Slotted;
-pub use start::Started;
-pub use start::fresh;
+pub use places::RECORD_WIDE;
+pub use places::STATE_LONG;
 pub use start::fresh_on;
-pub use state::State;

@@ -9,15 +9,11 @@ ghost use Rattle.machine.specs.Lists.{stateIn};
 ghost use Rattle.machine.specs.Answers.{told, marginAt, margin};
 use crate::inplace::check_state_in;
 use crate::places::record_in;
-use crate::places::state_list;
-use crate::sheets::listed;
 use crate::sheets::row_inside;
 use crate::sheets::rows_in;
-use crate::state::State;
 use basis::Refusal;
 use records::RowState;
 use sheet::Row;
-use sheet::Sheet;
 
 // What is told of a row's margin.
 pub enum Margin {
@@ -72,16 +68,5 @@ pub fn margin_on(sheet: &[u64], list: &[u64], row: usize) -> Margin
             let s = record_in(list, row);
             margin_of(numbers, s)
         }
-    }
-}
-
-impl State {
-    // The margin of a row: D - since - remaining.
-    pub fn margin(self, sheet: Sheet, row: usize) -> Margin
-        ensures { λ r. ⌜ told r ≡ margin sheet self row ⌝ }
-    {
-        let rows = listed(sheet);
-        let list = state_list(self);
-        margin_on(&rows, &list, row)
     }
 }

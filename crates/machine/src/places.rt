@@ -6,10 +6,9 @@ ghost use lib.ListN.{length};
 ghost use Rattle.basis.specs.Limits.{mostRows};
 ghost use Rattle.sheet.specs.Legal.{legal};
 ghost use Rattle.sheet.specs.Lists.{sheetIn};
-ghost use Rattle.machine.specs.States.{noState, legalState};
+ghost use Rattle.machine.specs.States.{legalState};
 ghost use Rattle.machine.specs.Lists.{recordIn, putRecord, stateLong, zeroFrom, stateIn};
 use crate::sheets::row_inside;
-use crate::state::State;
 use basis::MOST_ROWS;
 use basis::Refusal;
 use records::RowState;
@@ -93,45 +92,4 @@ pub(crate) fn is_legal_in(sheet: &[u64], list: &[u64], n: usize) -> bool
         }
     }
     is_zero_from(list, long)
-}
-
-// The list of a state, with room for every record.
-pub(crate) fn state_list(state: State) -> [u64; STATE_LONG]
-    ensures { λ r. ⌜ stateIn r ≡ state ⌝ }
-{
-    let mut list = [0u64; STATE_LONG];
-    let mut i: usize = 0;
-    while i < MOST_ROWS {
-        let s = state.rows[i];
-        put_record(&mut list, i, s);
-        i += 1;
-    }
-    list
-}
-
-// The state of which every record is zero.
-fn zeros() -> State
-    ensures { λ r. ⌜ r ≡ noState ⌝ }
-{
-    let none = RowState {
-        remaining: 0,
-        since: 0,
-    };
-    let rows = [none; MOST_ROWS];
-    State { rows }
-}
-
-// The state in a list with room for every record and no more.
-pub(crate) fn state_of(list: &[u64]) -> State
-    requires { ⌜ length (now list) ≡ stateLong mostRows ⌝ }
-    ensures { λ r. ⌜ r ≡ stateIn (now (list .entry)) ⌝ }
-{
-    let mut state = zeros();
-    let mut i: usize = 0;
-    while i < MOST_ROWS {
-        let s = record_in(list, i);
-        state.rows[i] = s;
-        i += 1;
-    }
-    state
 }

@@ -1,4 +1,4 @@
-// A sheet in a list of plain numbers: what is read of it, and a sheet that is put into one.
+// A sheet in a list of plain numbers: what is read of it.
 ghost use mathlib.Core.Path.{_≡_};
 ghost use Prim.Native.Nat.{_+_, _≤_, _<_};
 ghost use lib.ListN.{length};
@@ -6,8 +6,6 @@ ghost use Rattle.basis.specs.Limits.{mostRows};
 ghost use Rattle.sheet.specs.Legal.{rowAt};
 ghost use Rattle.sheet.specs.Lists.{sheetIn, sheetLong};
 use sheet::Row;
-use sheet::SHEET_LONG;
-use sheet::Sheet;
 
 // The processors of the sheet in a list.
 pub(crate) fn processors_in(sheet: &[u64]) -> u64
@@ -35,13 +33,4 @@ pub(crate) fn row_inside(sheet: &[u64], k: usize) -> Row
         deadline: sheet[at + 4],
         budget: sheet[at + 5],
     }
-}
-
-// The list of a sheet, with room for every row.
-pub(crate) fn listed(sheet: Sheet) -> [u64; SHEET_LONG]
-    ensures { λ r. ⌜ sheetIn r ≡ sheet ⌝ }
-{
-    let mut list = [0u64; SHEET_LONG];
-    sheet::put_sheet(&mut list, sheet);
-    list
 }

@@ -1,4 +1,4 @@
-// The fresh state of a sheet, in a list and by value.
+// The fresh state of a sheet, in a list.
 ghost use mathlib.Core.Path.{_≡_};
 ghost use mathlib.Core.Bool.{true};
 ghost use Prim.Native.Nat.{_≤_};
@@ -7,25 +7,13 @@ ghost use Rattle.basis.specs.Refusals.{outcome};
 ghost use Rattle.sheet.specs.Legal.{legal};
 ghost use Rattle.sheet.specs.Lists.{sheetIn};
 ghost use Rattle.machine.specs.States.{freshAt};
-ghost use Rattle.machine.specs.Answers.{started, fresh};
 ghost use Rattle.machine.specs.Lists.{stateLong, putTo, freshOn};
 use crate::places::RECORD_WIDE;
-use crate::places::STATE_LONG;
 use crate::places::put_record;
-use crate::places::state_of;
-use crate::sheets::listed;
 use crate::sheets::row_inside;
 use crate::sheets::rows_in;
-use crate::state::State;
 use basis::Refusal;
 use records::RowState;
-use sheet::Sheet;
-
-// What `fresh` answers: accepted with the state, or refused with all records zero.
-pub struct Started {
-    pub refusal: Refusal,
-    pub state: State,
-}
 
 // Makes the records of n rows fresh: each without a job, T slots since release.
 fn put_fresh(sheet: &[u64], list: &mut [u64], n: usize)
@@ -59,15 +47,4 @@ pub fn fresh_on(sheet: &[u64], list: &mut [u64]) -> Refusal
         return Refusal::Accepted;
     }
     Refusal::Refused(10, 0)
-}
-
-// The fresh state of a sheet.
-pub fn fresh(sheet: Sheet) -> Started
-    ensures { λ r. ⌜ started r ≡ fresh sheet ⌝ }
-{
-    let rows = listed(sheet);
-    let mut list = [0u64; STATE_LONG];
-    let refusal = fresh_on(&rows, &mut list);
-    let state = state_of(&list);
-    Started { refusal, state }
 }

@@ -10,8 +10,7 @@ use lib.ListN.{length, length-append}
 use lib.Dec.{ltb}
 use borrow.Author.Tests.{lt-ltb, le-ltb, ltb-true, ltb-false}
 use Rattle.basis.specs.Words.{pick}
-use Rattle.page.specs.Decimals.{digits, decimal, mostDigits}
-use Rattle.page.specs.Decimals.{valueAfter, value}
+use Rattle.page.specs.Decimals.{digits, decimal, mostDigits, valueAfter, value}
 use Rattle.page.specs.Pages.{Page, said}
 use Rattle.page.proofs.Saying.{two-said}
 

@@ -46,8 +46,8 @@ use Rattle.sheet.proofs.row.Sheet as Sh
 use Rattle.sheet.proofs.row.Sheet.Laws as Sh′
 use Rattle.aboard.specs.declared.lent.Begun.{Begun}
 use Rattle.aboard.specs.Lent.{begun, beginning}
-use Rattle.machine.proofs.state.State as St
-use Rattle.machine.proofs.state.State.Laws as St′
+use Rattle.states.proofs.state.State as St
+use Rattle.states.proofs.state.State.Laws as St′
 use Rattle.aboard.proofs.lent.Begun as Be
 use Rattle.aboard.proofs.lent.Begun.Laws as Be′
 use Rattle.aboard.proofs.lent.begin.Symbol as begin-def

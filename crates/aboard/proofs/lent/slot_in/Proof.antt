@@ -44,16 +44,17 @@ use Rattle.basis.proofs.refusal.Refusal.Laws as Re′
 use Rattle.sheet.specs.declared.row.Sheet.{Sheet}
 use Rattle.sheet.proofs.row.Sheet as Sh
 use Rattle.sheet.proofs.row.Sheet.Laws as Sh′
-use Rattle.machine.specs.declared.state.State.{State}
-use Rattle.machine.specs.declared.slots.Slotted.{Slotted}
-use Rattle.machine.specs.Answers.{slotted, slot}
-use Rattle.machine.proofs.state.State as St
-use Rattle.machine.proofs.state.State.Laws as St′
-use Rattle.machine.proofs.slots.Slotted as Sl
-use Rattle.machine.proofs.slots.Slotted.Laws as Sl′
-use Rattle.machine.proofs.state.State.slot.Symbol as slot-def
-use Rattle.machine.proofs.state.State.slot.Symbol.{name as #slot}
-use Rattle.machine.proofs.state.State.slot.Met as slot-thm
+use Rattle.states.specs.declared.state.State.{State}
+use Rattle.states.specs.declared.slots.Slotted.{Slotted}
+use Rattle.states.specs.Values.{held, slotted}
+use Rattle.machine.specs.Answers.{slot}
+use Rattle.states.proofs.state.State as St
+use Rattle.states.proofs.state.State.Laws as St′
+use Rattle.states.proofs.slots.Slotted as Sl
+use Rattle.states.proofs.slots.Slotted.Laws as Sl′
+use Rattle.states.proofs.state.State.slot.Symbol as slot-def
+use Rattle.states.proofs.state.State.slot.Symbol.{name as #slot}
+use Rattle.states.proofs.state.State.slot.Met as slot-thm
 use Rattle.aboard.proofs.lent.slot_in.Key.{name as #slot-in}
 use Rattle.aboard.proofs.lent.slot_in as slot-in
 use Rattle.aboard.proofs.lent.slot_in.Statement as stated
@@ -84,7 +85,7 @@ module _ {M : Type 1} (𝓤 : URA M) (H : Heap 𝓤) (A : Atoms 𝓤) (W : Given
   abbrev Left : Slotted → List ℕ → List (Item 𝓤)
   Left r zs = ‵ (fobs γ (St.the-row .coded .code (r .state))) ∷ ‵ (fbor κ (Body (memory St.the-row) b o γ)) ∷ ‵ (flft κ q) ∷ tokens 𝓤 H A W mem run p ∷ ‵ (finally u8 (cs .name) zs) ∷ []
 
-  exits : (r : Slotted) (zs : List ℕ) → slotted r zs ≡ slot h t (rel .now) (cs .now) → length zs ≡ length (cs .now) → IsRefusal (r .refusal) → ent 𝓤 (⋆ 𝓤 H A (Left r zs)) (Post (rev (r .refusal)))
+  exits : (r : Slotted) (zs : List ℕ) → slotted r zs ≡ slot h (held t) (rel .now) (cs .now) → length zs ≡ length (cs .now) → IsRefusal (r .refusal) → ent 𝓤 (⋆ 𝓤 H A (Left r zs)) (Post (rev (r .refusal)))
   exits r zs e l is =
       qed W (Left r zs) ∵
       suffices ! _ (ends-at 𝓤 H A slot-in.ended stayed (slot-in.clauses 𝓤 H A mem run) W (((κ, (κ₁, (κ₂, tt))), (q, (q₁, (q₂, tt))), tt, args, vals), tt) (rev (r .refusal)) (r .refusal) (r .state, (tt, (tt, (zs, tt)))) (tt, (tt, (tt, (l, tt))))) $
@@ -147,4 +148,4 @@ slot-in-spec 𝓤 H 𝓜 𝓖 𝓡 =
     entered 𝓤 H (tripleOf 𝓤 H (𝓖 .A) slot-in.signature (slot-in.spec 𝓤 H (𝓖 .A) (𝓜 .mem) (𝓡 .run)))
     (tables 𝓤 H 𝓜 𝓡 code.env .C) (tables 𝓤 H 𝓜 𝓡 code.env .Λ) #slot-in code.function (code.unfolded 𝓤 H 𝓜 𝓡)
     (slot-in-meets 𝓤 H (𝓖 .A) (givenOf 𝓤 H 𝓜 𝓖) (𝓜 .mem) (𝓡 .run) (tablesOf 𝓤 H 𝓜 (tables 𝓤 H 𝓜 𝓡 code.env))
-    (cited 𝓤 H (BySlot 𝓤 H (𝓖 .A) (𝓜 .mem) (𝓡 .run)) 𝓜 𝓡 code.env #slot slot-def.routine code.calls-machine·state·State·slot (slot-thm.met 𝓤 H 𝓜 𝓖 𝓡)))
+    (cited 𝓤 H (BySlot 𝓤 H (𝓖 .A) (𝓜 .mem) (𝓡 .run)) 𝓜 𝓡 code.env #slot slot-def.routine code.calls-states·state·State·slot (slot-thm.met 𝓤 H 𝓜 𝓖 𝓡)))

@@ -5,12 +5,13 @@ use mathlib.Core.Path.{_≡_}
 use lib.ListN.{length}
 use Rattle.basis.specs.Upto.{upto}
 use Rattle.sheet.proofs.Filling.{fill-none, fill-more, fill-done}
+use Rattle.states.specs.Values.{held}
 use Rattle.exports.specs.Further.{stateCell}
 use Rattle.exports.proofs.boxes.put_state.Statement.{statement}
 use Rattle.exports.proofs.boxes.put_state.Tie as tie
 
 abbrev Inv-loop : tie.InvT-loop
-Inv-loop list₀ state i₀ list i = (i ≤ length list₀) × (length list ≡ length list₀) × (list ≡ upto i (stateCell state) list₀)
+Inv-loop list₀ state i₀ list i = (i ≤ length list₀) × (length list ≡ length list₀) × (list ≡ upto i (stateCell (held state)) list₀)
 
 abbrev μ-loop : tie.MeasureT-loop
 μ-loop list₀ state i₀ list i = length list₀ - i

@@ -30,14 +30,15 @@ use borrow.Table.Owned.{mut-slice-lawful}
 use Rattle.basis.specs.declared.refusal.Refusal.{Refusal}
 use Rattle.sheet.specs.declared.row.Sheet.{Sheet}
 use Rattle.sheet.proofs.row.Sheet as Sh
-use Rattle.machine.specs.declared.state.State.{State}
-use Rattle.machine.specs.declared.runs.Ran.{Ran}
+use Rattle.states.specs.declared.state.State.{State}
+use Rattle.states.specs.declared.runs.Ran.{Ran}
 use Rattle.aboard.specs.declared.lent.Begun.{Begun}
-use Rattle.machine.specs.Answers.{fresh, ran, run as the-run}
-use Rattle.machine.proofs.state.State as St
-use Rattle.machine.proofs.state.State.Laws as St′
-use Rattle.machine.proofs.runs.Ran as Ra
-use Rattle.machine.proofs.runs.Ran.Laws as Ra′
+use Rattle.machine.specs.Answers.{fresh, run as the-run}
+use Rattle.states.specs.Values.{ran}
+use Rattle.states.proofs.state.State as St
+use Rattle.states.proofs.state.State.Laws as St′
+use Rattle.states.proofs.runs.Ran as Ra
+use Rattle.states.proofs.runs.Ran.Laws as Ra′
 use Rattle.aboard.proofs.Lending.{shv, IsState, IsRefusal, codesAt}
 use Rattle.aboard.proofs.lent.box_run as box-run
 use Rattle.aboard.proofs.lent.box_run.Code.Mir as mir-code

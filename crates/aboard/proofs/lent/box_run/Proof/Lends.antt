@@ -28,10 +28,11 @@ use Rattle.basis.specs.declared.refusal.Refusal.{Refusal}
 use Rattle.basis.proofs.refusal.Refusal as Re
 use Rattle.sheet.proofs.row.Sheet as Sh
 use Rattle.sheet.proofs.row.Sheet.Laws as Sh′
-use Rattle.machine.specs.declared.state.State.{State}
+use Rattle.states.specs.declared.state.State.{State}
 use Rattle.machine.specs.Answers.{slot}
+use Rattle.states.specs.Values.{held}
 use Rattle.aboard.specs.Lent.{slottedIn}
-use Rattle.machine.proofs.state.State as St
+use Rattle.states.proofs.state.State as St
 use Rattle.aboard.proofs.lent.slot_in as slot-in
 use Rattle.aboard.proofs.Lending.{shv, IsSheet, answers}
 use Rattle.aboard.proofs.lent.box_run.Proof.Calls.{Passed, lv, releasesOwn}
@@ -73,7 +74,7 @@ module _ {M : Type 1} (𝓤 : URA M) (H : Heap 𝓤) (A : Atoms 𝓤) (W : Given
       owned ! Sh.the-row (Is Sh.the-row) (LL.makes Sh.the-type Sh′.the-plain 𝓤 H A) h _ g $ fjoin ! $ move ! (2 ∷ 0 ∷ []) $ fjoin ! $ move ! (1 ∷ 0 ∷ []) $ join ! $ frame ! $ done !
 
   abbrev pub Told : Answer → Type 0
-  Told x = slottedIn (x .0) (stateOf x) (codesOf x) ≡ slot h (state .now) (list .now) (codes .now)
+  Told x = slottedIn (x .0) (stateOf x) (codesOf x) ≡ slot h (held (state .now)) (list .now) (codes .now)
 
   -- [the tokens; the answer; the last values]
   abbrev pub told : Val → Answer → Item 𝓤

@@ -18,14 +18,15 @@ use Rattle.basis.specs.Refusals.{outcome}
 use Rattle.basis.specs.declared.refusal.Refusal.{Refusal}
 use Rattle.basis.proofs.refusal.Refusal.Laws as Re′
 use Rattle.sheet.proofs.row.Sheet.Laws as Sh′
-use Rattle.machine.specs.declared.state.State.{State}
-use Rattle.machine.specs.declared.runs.Ran.{Ran}
+use Rattle.states.specs.declared.state.State.{State}
+use Rattle.states.specs.declared.runs.Ran.{Ran}
 use Rattle.aboard.specs.declared.lent.Begun.{Begun}
 use Rattle.machine.specs.Answers.{notBegun}
-use Rattle.machine.proofs.state.State as St
-use Rattle.machine.proofs.state.State.Laws as St′
-use Rattle.machine.proofs.runs.Ran as Ra
-use Rattle.machine.proofs.runs.Ran.Laws as Ra′
+use Rattle.states.specs.Values.{held as holds}
+use Rattle.states.proofs.state.State as St
+use Rattle.states.proofs.state.State.Laws as St′
+use Rattle.states.proofs.runs.Ran as Ra
+use Rattle.states.proofs.runs.Ran.Laws as Ra′
 use Rattle.aboard.proofs.lent.Begun as Be
 use Rattle.aboard.proofs.lent.Begun.Laws as Be′
 use Rattle.aboard.proofs.Boxed.{Going}
@@ -55,7 +56,7 @@ pub record Turn (p : Passed) (b : Begun) : Type 0 where
   pub refusal : Refusal
   pub state : State
   pub codes : List ℕ
-  pub going : Going (p .h) (p .rel .now) (p .cs .now) (notBegun (outcome (b .refusal)) (b .state) (p .cs .now)) (b .slots) done refusal state codes
+  pub going : Going (p .h) (p .rel .now) (p .cs .now) (notBegun (outcome (b .refusal)) (holds (b .state)) (p .cs .now)) (b .slots) done refusal state codes
   pub is-refusal : IsRefusal refusal
   pub is-state : IsState state
 

@@ -37,10 +37,10 @@ use borrow.Rule.Slice.PartMut.{midOf, keptM, putMid, same-len-mid, sl-relent-bac
 use Rattle.basis.proofs.refusal.Refusal as Re
 use Rattle.basis.proofs.refusal.Refusal.Laws as Re′
 use Rattle.basis.proofs.refusal.Refusal.is_accepted.Symbol.{name as #is-accepted}
-use Rattle.machine.specs.declared.state.State.{State}
+use Rattle.states.specs.declared.state.State.{State}
 use Rattle.aboard.specs.declared.lent.Begun.{Begun}
-use Rattle.machine.proofs.state.State as St
-use Rattle.machine.proofs.state.State.Laws as St′
+use Rattle.states.proofs.state.State as St
+use Rattle.states.proofs.state.State.Laws as St′
 use Rattle.aboard.proofs.lent.Begun as Be
 use Rattle.aboard.proofs.lent.entries.Symbol.{name as #entries}
 use Rattle.aboard.proofs.lent.slot_in.Symbol.{name as #slot-in}

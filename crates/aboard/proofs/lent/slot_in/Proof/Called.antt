@@ -24,12 +24,13 @@ use denote.Triple.Statement.{Contract}
 use denote.Triple.Clauses.{lasts}
 use Rattle.sheet.specs.declared.row.Sheet.{Sheet}
 use Rattle.sheet.proofs.row.Sheet as Sh
-use Rattle.machine.specs.declared.state.State.{State}
-use Rattle.machine.specs.declared.slots.Slotted.{Slotted}
-use Rattle.machine.specs.Answers.{slotted, slot as the-slot}
-use Rattle.machine.proofs.state.State as St
-use Rattle.machine.proofs.slots.Slotted as Sl
-use Rattle.machine.proofs.state.State.slot as slot
+use Rattle.states.specs.declared.state.State.{State}
+use Rattle.states.specs.declared.slots.Slotted.{Slotted}
+use Rattle.states.specs.Values.{held, slotted}
+use Rattle.machine.specs.Answers.{slot as the-slot}
+use Rattle.states.proofs.state.State as St
+use Rattle.states.proofs.slots.Slotted as Sl
+use Rattle.states.proofs.state.State.slot as slot
 use Rattle.aboard.proofs.Lending.{stv, shv, answers}
 
 abbrev pub BySlot : {M : Type 1} (𝓤 : URA M) (H : Heap 𝓤) (A : Atoms 𝓤) (mem : Memory → SProp 𝓤) (run : Routine → Fun 𝓤) → Contract 𝓤
@@ -81,7 +82,7 @@ module _ {M : Type 1} (𝓤 : URA M) (H : Heap 𝓤) (A : Atoms 𝓤) (W : Given
   goes-slot = qed W (tokens ∷ ‵ (St.the-row .own t (stv t ∷ [])) ∷ ‵ others ∷ []) ∵ move ! (1 ∷ 2 ∷ []) $ fjoin ! $ move ! (1 ∷ 0 ∷ []) $ join ! $ frame ! $ done !
 
   abbrev pub Told : Answer → Type 0
-  Told x = slotted (x .0) (codesOf x) ≡ the-slot h t (rel .now) (cs .now)
+  Told x = slotted (x .0) (codesOf x) ≡ the-slot h (held t) (rel .now) (cs .now)
 
   -- [the tokens; the answer; the last values]
   abbrev pub told : Val → Answer → Item 𝓤

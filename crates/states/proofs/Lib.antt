@@ -1,0 +1,4 @@
+pub mod Turns
+pub mod Whole
+pub mod Listing
+pub mod Same

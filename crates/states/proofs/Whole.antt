@@ -1,0 +1,79 @@
+-- Releases, placement and ageing are the slot: of all rows one step after another.
+-- Assumes nothing.
+use Prim.Native.Nat.{ℕ, _≤_, _<_}
+use mathlib.Core.Path.{_≡_, refl, ap, ap₂, _∙_}
+use mathlib.Core.List.{List}
+use lib.ListN.{length, getD}
+use native.Mathlib.Nat.{le-refl}
+use native.Mathlib.Omega.{arith}
+use Rattle.basis.specs.Limits.{mostRows}
+use Rattle.basis.proofs.Upto.{length-upto, upto-below, upto-agree, upto-over}
+use Rattle.sheet.specs.Legal.{rowAt}
+use Rattle.sheet.specs.declared.row.Sheet.{Sheet}
+use Rattle.machine.specs.States.{State, stateOf, recordAt}
+use Rattle.records.specs.declared.steps.Placed.{Placed}
+use Rattle.records.specs.declared.steps.Aged.{Aged}
+use Rattle.records.specs.Records.{noRecord}
+use Rattle.records.specs.Steps.{worked}
+use Rattle.machine.specs.Slot.{begun, free, runs, next, code}
+use Rattle.machine.specs.Answers.{given, nextState, nextCodes}
+use Rattle.states.specs.Methods.{releasedAt, releasedState, placedAt, placedRecord, placedCode, placedState, placedCodes, agedAt, agedRecord, agedCode, agedState, agedCodes}
+use Rattle.records.specs.Methods.{placedRow, agedRow}
+use Rattle.records.proofs.Stepped.{row-code}
+use Rattle.machine.proofs.Placement.{free-agrees}
+
+-- after releases, after placement, and the codes so far
+abbrev begunState : Sheet → State → List ℕ → State
+begunState h t rel = releasedState h t rel
+
+abbrev workedState : Sheet → State → List ℕ → State
+workedState h t rel = placedState h (begunState h t rel)
+
+abbrev codesSoFar : Sheet → State → List ℕ → List ℕ → List ℕ
+codesSoFar h t rel cs = placedCodes h (begunState h t rel) cs
+
+module _ (h : Sheet) (t : State) (rel cs : List ℕ) (held : h .count ≤ length (t .rows)) (room : h .count ≤ length cs) where
+  u-at : (k : ℕ) → k < h .count → recordAt (begunState h t rel) k ≡ begun (given h t rel) k
+  unfolding releasedState given
+  u-at k l = upto-below (h .count) (releasedAt t rel) (t .rows) noRecord k l held
+
+  placed-at : (k : ℕ) → k < h .count → placedAt h (begunState h t rel) k ≡ placedRow (rowAt h k) (begun (given h t rel) k) (free (given h t rel) k)
+  unfolding given
+  placed-at k l = ap₂ (placedRow (rowAt h k)) (u-at k l) (free-agrees (h .processors) (rowAt h) (rowAt h) (recordAt (begunState h t rel)) (begun (given h t rel)) k (λ i b. refl) (λ i b. u-at i (omega arith)))
+
+  v-at : (k : ℕ) → k < h .count → recordAt (workedState h t rel) k ≡ worked (runs (given h t rel) k) (begun (given h t rel) k)
+  unfolding placedState releasedState given placedRow
+  v-at k l =
+      upto-below (h .count) (placedRecord h (begunState h t rel)) (begunState h t rel .rows) noRecord k l (rw length-upto held)
+      ∙ ap (λ (x : Placed). x .after) (placed-at k l)
+
+  ds-at : (k : ℕ) → k < h .count → getD (codesSoFar h t rel cs) k 0 ≡ placedRow (rowAt h k) (begun (given h t rel) k) (free (given h t rel) k) .code
+  unfolding placedCodes
+  ds-at k l = upto-below (h .count) (placedCode h (begunState h t rel)) cs 0 k l room ∙ ap (λ (x : Placed). x .code) (placed-at k l)
+
+  aged-at : (k : ℕ) → k < h .count → agedAt h (workedState h t rel) (codesSoFar h t rel cs) k ≡ agedRow (rowAt h k) (worked (runs (given h t rel) k) (begun (given h t rel) k)) (placedRow (rowAt h k) (begun (given h t rel) k) (free (given h t rel) k) .code)
+  aged-at k l = ap₂ (agedRow (rowAt h k)) (v-at k l) (ds-at k l)
+
+  state-is : agedState h (workedState h t rel) (codesSoFar h t rel cs) ≡ nextState h t rel
+  unfolding agedState placedState releasedState nextState given agedRow
+  state-is =
+      ap stateOf
+      (upto-agree (h .count) (agedRecord h (workedState h t rel) (codesSoFar h t rel cs)) (next (given h t rel)) (workedState h t rel .rows) (λ k l. ap (λ (x : Aged). x .after) (aged-at k l))
+      ∙ upto-over (h .count) (h .count) (next (given h t rel)) (placedRecord h (begunState h t rel)) (begunState h t rel .rows) noRecord (le-refl (h .count)) (rw length-upto held)
+      ∙ upto-over (h .count) (h .count) (next (given h t rel)) (releasedAt t rel) (t .rows) noRecord (le-refl (h .count)) held)
+
+  codes-are : agedCodes h (workedState h t rel) (codesSoFar h t rel cs) ≡ nextCodes h t rel cs
+  unfolding agedCodes placedCodes nextCodes given
+  codes-are =
+      upto-agree (h .count) (agedCode h (workedState h t rel) (codesSoFar h t rel cs)) (code (given h t rel)) (codesSoFar h t rel cs)
+      (λ k l. ap (λ (x : Aged). x .code) (aged-at k l) ∙ row-code (free (given h t rel) k) (rowAt h k) (begun (given h t rel) k))
+      ∙ upto-over (h .count) (h .count) (code (given h t rel)) (placedCode h (begunState h t rel)) cs 0 (le-refl (h .count)) room
+
+-- what the three methods give, one after another
+module _ (h : Sheet) (t : State) (rel cs : List ℕ) (u v : State) (ds : List ℕ) (held : length (t .rows) ≡ mostRows) (some : h .count ≤ mostRows) (room : h .count ≤ length cs)
+    (eu : u ≡ releasedState h t rel) (ev : v ≡ placedState h u) (ed : ds ≡ placedCodes h u cs) where
+  pub next-state : (w : State) → w ≡ agedState h v ds → w ≡ nextState h t rel
+  next-state w ew = let same : agedState h v ds ≡ agedState h (workedState h t rel) (codesSoFar h t rel cs) = cc in ew ∙ same ∙ state-is h t rel cs (omega arith) room
+
+  pub next-codes : (es : List ℕ) → es ≡ agedCodes h v ds → es ≡ nextCodes h t rel cs
+  next-codes es ee = let same : agedCodes h v ds ≡ agedCodes h (workedState h t rel) (codesSoFar h t rel cs) = cc in ee ∙ same ∙ codes-are h t rel cs (omega arith) room

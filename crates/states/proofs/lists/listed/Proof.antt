@@ -1,0 +1,12 @@
+-- `listed` meets its promise: the sheet comes back. Assumes nothing.
+use borrow.Author.Needs.{needs}
+use Rattle.sheet.proofs.Cells.{unmapped}
+use Rattle.states.proofs.Listing.{sheet-in-list}
+use Rattle.states.proofs.lists.listed.Statement.{statement}
+use Rattle.states.proofs.lists.listed.Tie as tie
+
+returns : tie.Need-returns
+returns c = search (needs, sheet-in-list, unmapped)
+
+pub listed-spec : {M : Type 1} → statement M
+listed-spec = tie.close (tie.spec (λ c. search needs) (λ c κs. search needs) returns)

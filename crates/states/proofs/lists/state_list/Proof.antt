@@ -1,0 +1,53 @@
+-- `state_list` meets its promise. Assumes nothing.
+use borrow.Author.Needs.{needs}
+use Prim.Native.Nat.{_≤_, _-_}
+use mathlib.Core.Path.{_≡_, refl}
+use lib.ListN.{length, replicate}
+use Rattle.basis.specs.Limits.{mostRows}
+use Rattle.sheet.proofs.Cells.{unmapped}
+use Rattle.machine.specs.States.{recordAt}
+use Rattle.machine.specs.Lists.{stateLong, putTo}
+use Rattle.machine.proofs.Stored.{put-none}
+use Rattle.states.specs.Values.{held}
+use Rattle.states.proofs.Listing.{list-more, both-stored, state-in-list}
+use Rattle.states.proofs.lists.state_list.Statement.{statement}
+use Rattle.states.proofs.lists.state_list.Tie as tie
+
+abbrev Inv-loop : tie.InvT-loop
+Inv-loop state list₀ i₀ list i =
+    (i ≤ mostRows)
+    × (length list ≡ stateLong mostRows)
+    × (list ≡ putTo i (recordAt (held state)) list₀)
+    × (list₀ ≡ replicate (stateLong mostRows) 0)
+
+abbrev μ-loop : tie.MeasureT-loop
+μ-loop state list₀ i₀ list i = mostRows - i
+
+loop-holds : tie.Need-loop-holds Inv-loop μ-loop
+loop-holds c = (search needs, search needs, search put-none, refl)
+
+loop-again : tie.Need-loop-again Inv-loop μ-loop
+loop-again c = (search needs, search both-stored, search list-more, search needs)
+
+returns : tie.Need-returns Inv-loop μ-loop
+returns c = search (state-in-list, unmapped)
+
+pub state-list-spec : {M : Type 1} → statement M
+state-list-spec =
+    tie.close
+    (tie.spec
+    Inv-loop
+    μ-loop
+    loop-holds
+    (λ c. search needs)
+    (λ c. search needs)
+    (λ c. search needs)
+    (λ c. search needs)
+    (λ c. search needs)
+    (λ c. search needs)
+    (λ c. search needs)
+    (λ c. search needs)
+    (λ c. search needs)
+    (λ c. search needs)
+    loop-again
+    returns)

@@ -1,0 +1,49 @@
+-- `state_of` meets its promise. Assumes nothing.
+use borrow.Author.Needs.{needs}
+use Prim.Native.Nat.{_≤_, _-_}
+use mathlib.Core.Path.{_≡_, refl}
+use lib.ListN.{length}
+use Rattle.basis.specs.Limits.{mostRows}
+use Rattle.basis.specs.Upto.{upto}
+use Rattle.machine.specs.Lists.{stateLong, recordIn}
+use Rattle.states.proofs.Listing.{records-more, records-done}
+use Rattle.states.proofs.lists.state_of.Statement.{statement}
+use Rattle.states.proofs.lists.state_of.Tie as tie
+
+abbrev Inv-loop : tie.InvT-loop
+Inv-loop list state₀ i₀ state i = (i ≤ mostRows) × (length list ≡ stateLong mostRows) × (state .rows ≡ upto i (recordIn list) (state₀ .rows))
+
+abbrev μ-loop : tie.MeasureT-loop
+μ-loop list state₀ i₀ state i = mostRows - i
+
+loop-holds : tie.Need-loop-holds Inv-loop μ-loop
+unfolding upto
+loop-holds c = (search needs, search needs, refl)
+
+loop-again : tie.Need-loop-again Inv-loop μ-loop
+unfolding recordIn
+loop-again c = (search needs, search needs, search records-more)
+
+returns : tie.Need-returns Inv-loop μ-loop
+returns c = search records-done
+
+pub state-of-spec : {M : Type 1} → statement M
+state-of-spec =
+    tie.close
+    (tie.spec
+    Inv-loop
+    μ-loop
+    (λ c κs. search needs)
+    loop-holds
+    (λ c. search needs)
+    (λ c. search needs)
+    (λ c. search needs)
+    (λ c. search needs)
+    (λ c. search needs)
+    (λ c. search needs)
+    (λ c. search needs)
+    (λ c. search needs)
+    (λ c. search needs)
+    (λ c. search needs)
+    loop-again
+    returns)

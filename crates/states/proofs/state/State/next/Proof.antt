@@ -1,0 +1,16 @@
+-- `next` meets its promise: releases, placement and ageing one after another are the slot. Assumes nothing.
+use borrow.Author.Needs.{needs}
+use Rattle.sheet.proofs.Cells.{unmapped}
+use Rattle.states.proofs.Whole.{next-state, next-codes}
+use Rattle.states.proofs.state.State.next.Statement.{statement}
+use Rattle.states.proofs.state.State.next.Tie as tie
+
+pub next-spec : {M : Type 1} → statement M
+next-spec =
+    tie.close
+    (tie.spec
+    (λ c κs. search needs)
+    (λ c κs. search needs)
+    (λ c κs. search needs)
+    (λ c. search needs)
+    (λ c. (search (next-state, unmapped), search (next-codes, unmapped))))

@@ -1,0 +1,22 @@
+-- `run` meets its promise. Assumes nothing.
+use borrow.Author.Needs.{needs}
+use Rattle.states.proofs.Listing.{run-by-list}
+use Rattle.states.proofs.state.State.run.Statement.{statement}
+use Rattle.states.proofs.state.State.run.Tie as tie
+
+returns : tie.Need-returns
+returns c = search run-by-list
+
+pub run-spec : {M : Type 1} → statement M
+run-spec =
+    tie.close
+    (tie.spec
+    (λ c κs. search needs)
+    (λ c κs. search needs)
+    (λ c. search needs)
+    (λ c. search needs)
+    (λ c κs. search needs)
+    (λ c. search needs)
+    (λ c κs. search needs)
+    (λ c. search needs)
+    returns)
