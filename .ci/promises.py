@@ -4,14 +4,15 @@
 Of the table of public functions it asks that each public function of a crate stands there once, that it has no `requires` and one `ensures`, that this `ensures` names each
 definition listed beside it, imported from a file that is listed and has the definition, and that the type of each law listed names each of these definitions twice, once for each of
 the two answers that it makes equal. A law, like every theorem of the other tables, is a name with a clause of its own in a file that is listed, so no field of a record is taken for
-one. Of every table it asks that each row has all its cells, and that each file listed is there and has one of the names beside it; and of the table of wrong answers that there are two theorems
-at least for each public function that a row names, each of which names a definition of its promise.
+one. Of every table it asks that each row has all its cells, and that each file listed is there and has one of the names beside it; and of the table of wrong answers that it has
+two theorems at least for each public function, each of which names a definition of that function's promise.
 """
 import os
 import re
 import sys
 
 PAGE = "docs/PROMISES.md"
+SHUT_OUT = ("-is-shut-out", "-is-wrong")
 NAME = r"[^\s(){};,.]+"
 
 
@@ -197,16 +198,14 @@ class Page:
 
     def __init__(self, sources):
         self.sources, self.faults, self.functions, self.theory = sources, [], {}, sources.theory
-        self.wrong, self.ruled_out = set(), []
+        self.wrong = {}
         for section, cells, width in tables(sources):
             self.row(section, cells, width)
         found = [(f"{crate}::{name}", head, scope) for crate in crates(sources) for name, head, scope in public_functions(sources, crate)]
         for full, head, scope in found:
             self.function(full, head, scope)
         self.count = len(found)
-        for functions, theorems, files in self.ruled_out:
-            self.theorems(functions, theorems, files)
-        for full in (self.functions.keys() | self.wrong) - {full for full, _, _ in found}:
+        for full in (self.functions.keys() | self.wrong.keys()) - {full for full, _, _ in found}:
             self.fault(f"{PAGE} names {full}, which is no public function")
         if "\n## Exceptions\n" not in sources.text(PAGE):
             self.fault(f"{PAGE} has no section Exceptions")
@@ -234,11 +233,9 @@ class Page:
             if not any(self.theory(path).has(name) for name in names):
                 self.fault(f"{where}: {path} has none of the names beside it")
         if section == "Wrong answers":
-            theorems = [name for name in names if name.endswith("-is-wrong")]
-            self.wrong.update(listed(cells[0]))
-            self.ruled_out.append((listed(cells[0]), theorems, files))
-            if len(theorems) < 2 * len(listed(cells[0])):
-                self.fault(f"{where} has not two theorems for each function")
+            types = [self.theory(path).signature(name) for path in files for name in names if name.endswith(SHUT_OUT)]
+            for function in listed(cells[0]):
+                self.wrong.setdefault(function, []).extend(filter(None, types))
         if section == "Public functions":
             functions = listed(cells[0])
             if len(functions) != 1 or functions[0] in self.functions:
@@ -266,14 +263,8 @@ class Page:
                 self.fault(f"{full}: {name} of its ensures is imported from {file}, which is not beside it or has no such definition")
             for law in laws:
                 self.law(full, law, name, file, files)
-
-    def theorems(self, functions, theorems, files):
-        """Each theorem about a wrong answer names a definition of the promise of one of the functions."""
-        promised = {name for full in functions if full in self.functions for name in self.functions[full][0]}
-        for theorem in theorems:
-            types = [self.theory(path).signature(theorem) or "" for path in files]
-            if not any(promised & set(spaced(signature)) for signature in types):
-                self.fault(f"{PAGE}: {theorem} names no definition of the promise of {' or '.join(functions)}")
+        if sum(bool(set(definitions) & set(spaced(signature))) for signature in self.wrong.get(full, [])) < 2:
+            self.fault(f"{full}: the table of wrong answers has not two theorems that name a definition of its promise")
 
     def law(self, full, law, name, file, files):
         """A law of equal answers names the definition, from the same file, once for each of two answers."""
@@ -298,7 +289,7 @@ def main():
     page = Page(Sources(root))
     for fault in page.faults:
         print("promises:", fault)
-    print(f"promises: {page.count} public functions, {len(page.wrong)} of them in the table of wrong answers, {len(page.faults)} faults")
+    print(f"promises: {page.count} public functions, {len(page.faults)} faults")
     sys.exit(1 if page.faults else 0)
 
 

@@ -1,16 +1,17 @@
-/* How many lengths each search tries: every length in turn, the paper's iteration, and the search that skips.
- * counts: the families.   counts climb SEED CLIMBS: the worst sheet that random climbs on the count come to. */
+/* How many lengths each search tries: every length in turn, the paper's iteration, and the search that skips, with the stretches that it tries too.
+ * counts: the families.   counts climb SEED CLIMBS: the worst sheet that random climbs on the count come to, and the time that it takes here. */
 #include <stdio.h>
 #include <stdlib.h>
 #include <string.h>
+#include <time.h>
 
 #include "sheets.h"
 
 static uint64_t count(const sheet_t *sheet, search_t *search) {
   uint64_t bounds[MOST_ROWS];
-  lengths_tried = 0;
+  lengths_tried = stretches_tried = 0;
   plain_bounds(sheet, search, bounds);
-  return lengths_tried;
+  return lengths_tried + stretches_tried;
 }
 
 static void show(const sheet_t *sheet) {
@@ -30,7 +31,8 @@ static void line(const char *name, sheet_t sheet) {
     printf("- | - | ");
   else
     printf("%llu | %llu | ", (unsigned long long)count(&sheet, walking_bound), (unsigned long long)count(&sheet, paper_bound));
-  printf("%llu |\n", (unsigned long long)count(&sheet, skipping_bound));
+  count(&sheet, skipping_bound);
+  printf("%llu + %llu |\n", (unsigned long long)lengths_tried, (unsigned long long)stretches_tried);
 }
 
 static sheet_t any_sheet(uint64_t *seed, uint64_t most_rows) {
@@ -96,22 +98,47 @@ static void change(sheet_t *sheet, uint64_t *seed) {
   }
 }
 
+/* A change by one of a short row, for sheets that are full to the brim. */
+static void nudge(sheet_t *sheet, uint64_t *seed) {
+  row_t *row = &sheet->rows[roll(seed, sheet->count)];
+  if (row->separation > 200) return;
+  row->separation += roll(seed, 3);
+  row->separation -= row->separation > 1;
+  row->budget += roll(seed, 3);
+  row->budget -= row->budget > 1;
+  if (row->budget > row->separation) row->budget = row->separation;
+  row->deadline = row->separation;
+}
+
+/* A climb from a sheet: 1,500 changes, each kept where it does not lower the count, or fewer where the lengths of all come to 100 million. */
+static uint64_t climbed(sheet_t *sheet, uint64_t *seed, void (*changed)(sheet_t *, uint64_t *)) {
+  uint64_t tried = count(sheet, skipping_bound), all = tried;
+  for (int step = 0; step < 1500 && all < 100000000; step++) {
+    sheet_t other = *sheet;
+    changed(&other, seed);
+    if (roll(seed, 2)) changed(&other, seed);
+    uint64_t with = count(&other, skipping_bound);
+    all += with;
+    if (with >= tried) *sheet = other, tried = with;
+  }
+  return tried;
+}
+
+/* Climbs from random sheets and from ones that are full to the brim, by turns. */
 static void climb(uint64_t seed, uint64_t climbs) {
   uint64_t most = 0;
   sheet_t worst = {0};
   for (uint64_t i = 0; i < climbs; i++) {
-    sheet_t sheet = any_sheet(&seed, 8);
-    uint64_t tried = count(&sheet, skipping_bound);
-    for (int step = 0; step < 1500; step++) {
-      sheet_t other = sheet;
-      change(&other, &seed);
-      if (roll(&seed, 2)) change(&other, &seed);
-      uint64_t with = count(&other, skipping_bound);
-      if (with >= tried) sheet = other, tried = with;
-    }
+    bool full = i % 2 == 1;
+    uint64_t rows = 3 + roll(&seed, 18);
+    sheet_t sheet = full ? brim(&seed, rows, 10 + roll(&seed, 71), rows + 1 + roll(&seed, MOST_ROWS - rows), MOST_SEPARATION) : any_sheet(&seed, 8);
+    uint64_t tried = climbed(&sheet, &seed, full ? nudge : change);
     if (tried > most) most = tried, worst = sheet;
   }
-  printf("%llu lengths: ", (unsigned long long)most);
+  clock_t start = clock();
+  count(&worst, skipping_bound);
+  printf("T to %d: %llu + %llu, %.3f s in C here: ", MOST_SEPARATION, (unsigned long long)lengths_tried, (unsigned long long)stretches_tried,
+         (double)(clock() - start) / CLOCKS_PER_SEC);
   show(&worst);
 }
 
@@ -129,5 +156,12 @@ int main(int arguments, char **words) {
   line("climb 1: two short rows that nearly fill a processor", nearly_saturated(MOST_ROWS, MOST_SEPARATION));
   line("climb 2: two of three processors taken", two_taken());
   line("climb 3: a long wide row beside one that always runs", long_beside_always(MOST_ROWS, MOST_SEPARATION));
+  uint64_t seed = 77;
+  static const uint64_t BRIMS[][2] = {{3, 10}, {5, 10}, {15, 80}, {20, 40}, {28, 80}};
+  for (size_t i = 0; i < sizeof BRIMS / sizeof BRIMS[0]; i++) {
+    char name[40];
+    snprintf(name, sizeof name, "brim: %llu rows about %llu slots", (unsigned long long)BRIMS[i][0], (unsigned long long)BRIMS[i][1]);
+    line(name, brim(&seed, BRIMS[i][0], BRIMS[i][1], MOST_ROWS, MOST_SEPARATION));
+  }
   return 0;
 }

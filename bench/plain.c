@@ -1,6 +1,6 @@
 #include "plain.h"
 
-uint64_t lengths_tried;
+uint64_t lengths_tried, stretches_tried;
 
 static uint64_t smaller(uint64_t a, uint64_t b) { return a < b ? a : b; }
 
@@ -97,15 +97,43 @@ uint64_t paper_bound(const sheet_t *sheet, const uint64_t *bounds, size_t k) {
   return 0;
 }
 
+/* A row's share of so many slots, in 256ths and at most the window. */
+static uint64_t share(const row_t *row, uint64_t span, uint64_t window) { return smaller(256 * (span * row->budget) / row->separation, 256 * window); }
+
+/* Amounts are whole: 256ths that come to more than all but one of the room fill it. */
+static bool reaches(uint64_t sum, uint64_t room) { return 256 * room < sum + 256; }
+
 /* No length up to the deadline passes where the shares of the rows above leave no room in it. */
-static bool leaves_room(const sheet_t *sheet, const uint64_t *bounds, size_t k, uint64_t q) {
+static bool no_room(const sheet_t *sheet, const uint64_t *bounds, size_t k, uint64_t q) {
   uint64_t length = sheet->rows[k].deadline, window = length - sheet->rows[k].budget + 1, sum = 0;
   for (size_t i = 0; i < k; i++) {
     const row_t *row = &sheet->rows[i];
-    uint64_t span = length + bounds[i] - row->budget;
-    sum += smaller(span * row->budget / row->separation, window) * smaller(row->threads, q);
+    sum += share(row, length + bounds[i] - row->budget, window) * smaller(row->threads, q);
   }
-  return sum < q * window;
+  return reaches(sum, q * window);
+}
+
+/* All lengths of a stretch fail where its two ends do, by amounts that grow evenly between them: a row's own while its separation lasts, or by its share if what that loses can be spared, or level. */
+static bool all_fail(const sheet_t *sheet, const uint64_t *bounds, size_t k, uint64_t from, uint64_t to, uint64_t q, uint64_t spare) {
+  uint64_t early = from - sheet->rows[k].budget + 1, late = to - sheet->rows[k].budget + 1, now = 0, then = 0;
+  stretches_tried++;
+  for (size_t i = 0; i < k; i++) {
+    const row_t *row = &sheet->rows[i];
+    uint64_t start = from + bounds[i] - row->budget, end = to + bounds[i] - row->budget, capped = smaller(row->threads, q), done = work(row, start);
+    uint64_t first = 256 * smaller(done, early) * capped, last;
+    if (start % row->separation + (to - from) <= row->separation) last = 256 * smaller(work(row, end), late) * capped;
+    else {
+      uint64_t shared = share(row, start, early) * capped;
+      if (first - shared <= spare) {
+        spare -= first - shared;
+        first = shared;
+        last = share(row, end, late) * capped;
+      } else last = 256 * smaller(done, late) * capped;
+    }
+    now += first;
+    then += last;
+  }
+  return reaches(now, q * early) && reaches(then, q * late);
 }
 
 /* The length after one that fails by so much: the rows that keep pace carry it on. */
@@ -123,15 +151,38 @@ static uint64_t next_length(const sheet_t *sheet, const uint64_t *bounds, size_t
   return length + (level > steep ? level : steep) + 1;
 }
 
+/* The length to begin with: the budget, or later where the bound of a row above that is no wider carries over. */
+static uint64_t first_length(const sheet_t *sheet, const uint64_t *bounds, size_t k) {
+  const row_t *row = &sheet->rows[k];
+  uint64_t first = row->budget;
+  for (size_t j = 0; j < k; j++) {
+    const row_t *above = &sheet->rows[j];
+    uint64_t later = first;
+    if (row->threads < above->threads) continue;
+    if (above->budget <= row->budget) later = bounds[j] - above->budget + row->budget;
+    else if (sheet->processors < above->threads + row->threads) later = bounds[j];
+    if (first < later) first = later;
+  }
+  return first;
+}
+
 uint64_t skipping_bound(const sheet_t *sheet, const uint64_t *bounds, size_t k) {
   const row_t *row = &sheet->rows[k];
   uint64_t q = sheet->processors - row->threads + 1;
-  if (!leaves_room(sheet, bounds, k, q)) return 0;
-  uint64_t length = row->budget;
-  while (length <= row->deadline) {
+  if (no_room(sheet, bounds, k, q)) return 0;
+  uint64_t length = first_length(sheet, bounds, k), guess = 0;
+  for (unsigned calm = 8; length <= row->deadline; calm -= calm > 0) {
     uint64_t sum = sum_above(sheet, bounds, k, length, q), room = q * (length - row->budget + 1);
     if (sum < room) return length;
-    length = next_length(sheet, bounds, k, length, q, sum - room);
+    uint64_t next = next_length(sheet, bounds, k, length, q, sum - room);
+    if (calm == 0 && next <= row->deadline) {
+      uint64_t twice = 2 * (next - length), reach = smaller(guess < twice ? twice : guess, row->deadline - length);
+      if (all_fail(sheet, bounds, k, length, length + reach, q, 256 * (sum - room) + 255)) {
+        next = length + reach + 1;
+        guess = 2 * reach;
+      } else guess = reach / 2;
+    }
+    length = next;
   }
   return 0;
 }

@@ -138,3 +138,35 @@ sheet_t long_beside_always(uint64_t rows, uint64_t longest) {
   while (sheet.count < rows) add(&sheet, 1, longest, longest, 1);
   return sheet;
 }
+
+/* Rows of random separations, with budgets raised at random while their shares stay below one processor; what is left of it. */
+static double fill(uint64_t *seed, uint64_t count, uint64_t about, row_t *rows) {
+  double taken = 0;
+  for (uint64_t i = 0; i < count; i++) {
+    uint64_t separation = about / 2 + 1 + roll(seed, about);
+    rows[i] = (row_t){1, separation, separation, 1};
+    taken += 1.0 / separation;
+  }
+  for (int turn = 0; turn < 200 && taken < 1; turn++) {
+    row_t *row = &rows[roll(seed, count)];
+    if (row->budget == row->separation || taken + 1.0 / row->separation >= 1) continue;
+    taken += 1.0 / row->separation;
+    row->budget++;
+  }
+  return 1 - taken;
+}
+
+sheet_t brim(uint64_t *seed, uint64_t count, uint64_t about, uint64_t rows, uint64_t longest) {
+  sheet_t sheet = empty(MOST_PROCESSORS);
+  double least = 1;
+  row_t filled[MOST_ROWS];
+  sheet.count = count;
+  for (int turn = 0; turn < 20000; turn++) {
+    double left = fill(seed, count, about, filled);
+    if (left < 1e-12 || left >= least) continue;
+    least = left;
+    for (uint64_t i = 0; i < count; i++) sheet.rows[i] = filled[i];
+  }
+  while (sheet.count < rows) add(&sheet, MOST_PROCESSORS, longest, longest, 1);
+  return sheet;
+}

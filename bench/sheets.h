@@ -44,4 +44,7 @@ sheet_t two_taken(void);
 /* A long wide row beside one that always runs, above rows of budget 1: what a climb's worst sheet has in it, made as bad as it goes. */
 sheet_t long_beside_always(uint64_t rows, uint64_t longest);
 
+/* So many rows of one thread with separations about so long, whose shares fill one processor but for a hair, above rows on all processors. */
+sheet_t brim(uint64_t *seed, uint64_t count, uint64_t about, uint64_t rows, uint64_t longest);
+
 #endif

@@ -10,4 +10,5 @@ pub mod Tests
 pub mod Upto
 pub mod Words
 pub mod Workload
+pub mod Faults
 pub mod Wrong

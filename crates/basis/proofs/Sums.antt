@@ -1,7 +1,9 @@
--- Laws of sums: by their parts, and where the parts agree.
+-- Laws of sums: by their parts, where the parts agree, and with more parts.
 -- Assumes nothing.
 use Prim.Native.Nat.{ℕ, zero, suc, _+_, _*_, _≤_, _<_}
 use mathlib.Core.Path.{_≡_, refl}
+use mathlib.Core.Logic.{⊎-elim}
+use native.Mathlib.Nat.{eq-or-lt-of-le}
 use native.Mathlib.Omega.{arith}
 use native.Mathlib.Numerals.{add-one}
 use Rattle.basis.specs.Words.{sum}
@@ -24,3 +26,15 @@ sum-same (suc n) f g h = omega (arith, sum-same n f g (λ i l. h i (omega arith)
 pub sum-one-more : (n : ℕ) (f : ℕ → ℕ) → sum (n + 1) f ≡ sum n f + f n
 unfolding sum
 sum-one-more n f = rw add-one
+
+-- a sum over more parts is never less
+pub sum-grows : (n m : ℕ) (f : ℕ → ℕ) → n ≤ m → sum n f ≤ sum m f
+unfolding sum
+sum-grows n zero f l = let e : n ≡ 0 = omega arith in rw e (omega arith)
+sum-grows n (suc m) f l = ⊎-elim (λ e. rw e (omega arith)) (λ s. omega (arith, sum-grows n m f (omega arith))) (eq-or-lt-of-le l)
+
+-- where each part is in proportion, the sum is
+pub sum-weighed : (n a b : ℕ) (f g : ℕ → ℕ) → ((i : ℕ) → i < n → f i * a ≤ g i * b) → sum n f * a ≤ sum n g * b
+unfolding sum
+sum-weighed zero a b f g h = omega arith
+sum-weighed (suc n) a b f g h = omega (arith, sum-weighed n a b f g (λ i l. h i (omega arith)), h n (omega arith))

@@ -1,4 +1,5 @@
--- Laws of the workload: it never falls, a slot more adds one at most, a period more adds a budget, and a job that runs keeps pace.
+-- Laws of the workload: it never falls, a slot more adds one at most, a period more adds a budget, a job that runs keeps pace, and within a period it never
+-- falls below the straight line between two of its values.
 -- Assumes nothing.
 use mathlib.Core.Path.{_≡_, ap, subst, _∙_}
 use mathlib.Core.Logic.{_⊎_, inl, inr, ⊎-elim}
@@ -8,6 +9,18 @@ use native.Mathlib.Omega.{arith}
 use lib.Arith.{digits-div, digits-mod}
 use Rattle.basis.specs.Workload.{ω}
 use Rattle.basis.proofs.Words.{lt-or-le}
+
+-- the lesser of two that stay above straight lines stays above the lesser of these at each end; c and d are what is left and what is passed of the way
+pub lesser-evenly : (c d a b w x y z : ℕ) → c * a + d * b ≤ (c + d) * w → c * x + d * y ≤ (c + d) * z → c * min a x + d * min b y ≤ (c + d) * min w z
+lesser-evenly c d a b w x y z f g =
+    ⊎-elim
+    (λ l.
+    let e : min w z ≡ w = omega arith in
+    rw e (omega (arith, f, mul-le-mul-left {m = min a x} {n = a} c (omega arith), mul-le-mul-left {m = min b y} {n = b} d (omega arith))))
+    (λ l.
+    let e : min w z ≡ z = omega arith in
+    rw e (omega (arith, g, mul-le-mul-left {m = min a x} {n = x} c (omega arith), mul-le-mul-left {m = min b y} {n = y} d (omega arith))))
+    (lt-or-le w z)
 
 module _ (C T : ℕ) (pos : 1 ≤ T) (fits : C ≤ T) where
   at-lt : (a r : ℕ) → r < T → ω C T (a * T + r) ≡ a * C + min C r
@@ -84,3 +97,12 @@ module _ (C T : ℕ) (pos : 1 ≤ T) (fits : C ≤ T) where
           (λ h. let z : min C r ≡ r = omega arith in rw z (mul-le-mul-left r fits))
           (λ h. let z : min C r ≡ C = omega arith in rw z (omega (arith, mul-le-mul-left C (le-of-lt l))))
           (lt-or-le r C)
+
+  -- within one period it is above the straight line from its value at the start to that at the end
+  pub ω-evenly : (x c d : ℕ) → x % T + (c + d) ≤ T → c * ω C T x + d * ω C T (x + (c + d)) ≤ (c + d) * ω C T (x + d)
+  ω-evenly = by-digits (λ x. (c d : ℕ) → x % T + (c + d) ≤ T → c * ω C T x + d * ω C T (x + (c + d)) ≤ (c + d) * ω C T (x + d)) λ a r l c d h.
+      let m : r + (c + d) ≤ T = rw (digits-mod a l) at h in
+      let e₁ : a * T + r + (c + d) ≡ a * T + (r + (c + d)) = omega arith in
+      let e₂ : a * T + r + d ≡ a * T + (r + d) = omega arith in
+      rw (e₁, e₂, at-lt a r l, at a (r + (c + d)) m, at a (r + d) (omega arith))
+      (omega (arith, lesser-evenly c d C C C r (r + (c + d)) (r + d) (omega arith) (omega arith)))

@@ -4,4 +4,5 @@ pub mod Refusals
 pub mod Upto
 pub mod Readers
 pub mod Workload
+pub mod Faults
 pub mod Wrong

@@ -1,19 +1,10 @@
 -- Wrong rules, each the rule of document 01 but for one thing: every promise shuts them out on a named input.
-use mathlib.Core.Path.{_≡_}
 use mathlib.Core.Bool.{Bool, true, false}
 use mathlib.Core.List.{List, [], _∷_}
 use Prim.Native.Nat.{ℕ}
 use lib.Dec.{eqb}
 use Rattle.basis.specs.Words.{both}
 use Rattle.basis.specs.Refusals.{Outcome, refused}
-
--- No answer of the code stands both for what a wrong rule says and for what the promise says.
-abbrev pub NoAnswer : {R A : Type 0} → (R → A) → A → A → Type 0
-NoAnswer {R} stands wrong right = (r : R) → stands r ≡ wrong → stands r ≡ right → ⊥
-
--- The same where the answer is its own value.
-abbrev pub Never : {A : Type 0} → A → A → Type 0
-Never {A} wrong right = NoAnswer (λ (r : A). r) wrong right
 
 -- Every call is said to be accepted.
 unfoldable pub everAccepted : Outcome → Bool

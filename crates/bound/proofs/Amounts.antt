@@ -2,20 +2,21 @@
 -- Assumes nothing.
 use Prim.Native.Nat.{ℕ, _+_, _*_, _-_, _≤_, _<_, min}
 use mathlib.Core.Path.{_≡_, ap, _∙_}
-use mathlib.Core.Bool.{Bool}
+use mathlib.Core.Bool.{Bool, false}
+use borrow.Author.Tests.{le-ltb}
 use lib.Dec.{ltb}
 use native.Mathlib.Nat.{mul-le-mul, mul-le-mul-right}
 use native.Mathlib.Omega.{arith}
 use mir.Val.{Fits}
 use mir.Syntax.{w64}
-use Rattle.basis.specs.Limits.{mostProcessors, mostSeparation}
+use Rattle.basis.specs.Limits.{mostProcessors}
 use Rattle.basis.specs.Words.{sum}
 use Rattle.basis.proofs.Sums.{sum-le, sum-most, sum-one-more}
 use Rattle.sheet.specs.Legal.{rowAt, LegalRow, Legal}
 use Rattle.sheet.specs.declared.row.Row.{Row}
 use Rattle.sheet.specs.declared.row.Sheet.{Sheet}
-use Rattle.bound.specs.Quantities.{on, noAmount}
-use Rattle.bound.specs.Test.{q, X, x, W, durationOf, amountOf, amounts, room}
+use Rattle.bound.specs.Quantities.{widestRows, widestSeparation, on, noAmount}
+use Rattle.bound.specs.Test.{q, X, x, W, durationOf, amountOf, amounts, room, passes}
 use Rattle.bound.specs.Ready.{Ready, Length, Above}
 use Rattle.bound.specs.declared.quantity.Duration.{Duration}
 use Rattle.bound.specs.declared.quantity.Amount.{Amount}
@@ -41,7 +42,7 @@ module _ (h : Sheet) (k : ℕ) (l : Legal h) (b : k < h .count) where
   q-small = omega (arith, l .most-processors, l .rows k b)
 
   module _ (L : Duration) (n : Length h k L) where
-    pub X-small : X h k L .0 ≤ mostSeparation
+    pub X-small : X h k L .0 ≤ widestSeparation
     unfolding X
     X-small = omega (arith, l .rows k b, n)
 
@@ -49,14 +50,14 @@ module _ (h : Sheet) (k : ℕ) (l : Legal h) (b : k < h .count) where
     window-low row er = rw er (n .low)
 
     module _ (row : Row) (er : row ≡ rowAt h k) (a : Duration) (ea : a .0 ≡ L .0 - row .budget) where
-      pub window-fits : (m : ℕ) → m ≤ mostSeparation → Fits w64 (a .0 + m)
+      pub window-fits : (m : ℕ) → m ≤ widestSeparation → Fits w64 (a .0 + m)
       window-fits m e = omega (arith, l .rows k b, n)
 
       pub window-is : (w : Duration) → w .0 ≡ a .0 + 1 → w ≡ X h k L
       unfolding X
       window-is w e = same w (X h k L) (omega (arith, ap (λ (z : Row). z .budget) er))
 
-    pub window-small : (w : Duration) → w ≡ X h k L → w .0 ≤ mostSeparation
+    pub window-small : (w : Duration) → w ≡ X h k L → w .0 ≤ widestSeparation
     window-small w e = omega (arith, number e, X-small)
 
     pub room-is : (w : Duration) (c e : ℕ) (a : Amount) → w ≡ X h k L → c ≡ q h k → e ≡ min c c → a .0 ≡ w .0 * e → a ≡ room h k L
@@ -80,9 +81,31 @@ pub X-some : (h : Sheet) (k : ℕ) (L : Duration) → 1 ≤ X h k L .0
 unfolding X
 X-some h k L = omega arith
 
+pub X-mono : (h : Sheet) (k : ℕ) (L l : Duration) → L .0 ≤ l .0 → X h k L .0 ≤ X h k l .0
+unfolding X
+X-mono h k L l m = omega arith
+
 pub room-by-q : (h : Sheet) (k : ℕ) (L : Duration) → room h k L .0 ≡ X h k L .0 * q h k
 unfolding room
 room-by-q h k L = let e : min (q h k) (q h k) ≡ q h k = omega arith in rw e
+
+-- a length fails where the sum reaches X on q processors
+pub fails-where : (h : Sheet) (R : ℕ → Duration) (k : ℕ) (L : Duration) → X h k L .0 * q h k ≤ amounts h R k L k .0 → passes h R k L ≡ false
+unfolding passes
+fails-where h R k L m = le-ltb (amounts h R k L k .0) (room h k L .0) (rw room-by-q m)
+
+pub room-small : (h : Sheet) (k : ℕ) (L : Duration) (a : Amount) → Legal h → k < h .count → Length h k L → a ≡ room h k L → a .0 ≤ widestSeparation * mostProcessors
+room-small h k L a l b n e =
+    omega (
+      arith,
+      number-of e,
+      room-by-q h k L,
+      mul-le-mul {n₁ = X h k L .0} {m₁ = q h k} {n₂ = widestSeparation} {m₂ = mostProcessors} (X-small h k l b L n) (q-small h k l b),
+    )
+
+-- a whole room in 256ths fits
+pub fine-room-fits : (h : Sheet) (k : ℕ) (L : Duration) (a : Amount) → Legal h → k < h .count → Length h k L → a ≡ room h k L → Fits w64 (256 * a .0)
+fine-room-fits h k L a l b n e = omega (arith, room-small h k L a l b n e)
 
 -- ---- the rows above it
 
@@ -90,8 +113,11 @@ module _ (h : Sheet) (R : ℕ → Duration) (k : ℕ) (r : Ready h R k) where
   pub row : (i : ℕ) → i < k → LegalRow (h .processors) (rowAt h i)
   row i b = r .legal .rows i (omega (arith, r .below))
 
-  pub length-small : (L : Duration) → Length h k L → L .0 ≤ mostSeparation
+  pub length-small : (L : Duration) → Length h k L → L .0 ≤ widestSeparation
   length-small L n = omega (arith, r .legal .rows k (r .below), n)
+
+  pub few-rows : k < widestRows
+  few-rows = omega (arith, r .below, r .legal .most-rows)
 
   pub row-above : (i : ℕ) (a : Row) (v L : Duration) → i < k → a ≡ rowAt h i → v ≡ R i → Length h k L → Above a v L
   row-above i a v L b ea e n =
@@ -101,21 +127,21 @@ module _ (h : Sheet) (R : ℕ → Duration) (k : ℕ) (r : Ready h R k) where
         some-budget = row i b .some-budget;
         low = omega (arith, r .low i b, number e);
         high = omega (arith, r .high i b, row i b, number e);
-        most-separation = row i b .most-separation;
+        most-separation = omega (arith, row i b);
         most-length = length-small L n;
       })
 
   -- ---- sums
 
-  amount-small : (L : Duration) → Length h k L → (i : ℕ) → amountOf h R k L i .0 ≤ mostSeparation * mostProcessors
+  amount-small : (L : Duration) → Length h k L → (i : ℕ) → amountOf h R k L i .0 ≤ widestSeparation * mostProcessors
   unfolding amountOf durationOf
   amount-small L n i =
-      mul-le-mul {n₁ = min (W (rowAt h i) (x (rowAt h i) (R i) L) .0) (X h k L .0)} {m₁ = min (rowAt h i .threads) (q h k)} {n₂ = mostSeparation} {m₂ = mostProcessors}
+      mul-le-mul {n₁ = min (W (rowAt h i) (x (rowAt h i) (R i) L) .0) (X h k L .0)} {m₁ = min (rowAt h i .threads) (q h k)} {n₂ = widestSeparation} {m₂ = mostProcessors}
       (omega (arith, X-small h k (r .legal) (r .below) L n)) (omega (arith, q-small h k (r .legal) (r .below)))
 
-  pub amounts-small : (L : Duration) → Length h k L → (n : ℕ) → amounts h R k L n .0 ≤ n * (mostSeparation * mostProcessors)
+  pub amounts-small : (L : Duration) → Length h k L → (n : ℕ) → amounts h R k L n .0 ≤ n * (widestSeparation * mostProcessors)
   unfolding amounts
-  amounts-small L len n = sum-most n (mostSeparation * mostProcessors) (λ i. amountOf h R k L i .0) (amount-small L len)
+  amounts-small L len n = sum-most n (widestSeparation * mostProcessors) (λ i. amountOf h R k L i .0) (amount-small L len)
 
   pub sum-none : (L : Duration) (s : Amount) → s .0 ≡ 0 → s ≡ amounts h R k L 0
   unfolding amounts sum
@@ -132,7 +158,7 @@ module _ (h : Sheet) (R : ℕ → Duration) (k : ℕ) (r : Ready h R k) where
     more = omega (arith, number-of one, number-of es, sum-one-more i (λ i. amountOf h R k L i .0))
 
     pub sum-fits : i < k → Fits w64 (s .0 + a .0)
-    sum-fits l = omega (arith, more, amounts-small L len (i + 1), r .below, r .legal .most-rows)
+    sum-fits l = omega (arith, more, amounts-small L len (i + 1), few-rows)
 
   pub sum-more : (L v w : Duration) (i b : ℕ) (row : Row) (t a s : Amount) → t .0 ≡ s .0 + a .0 → a ≡ on (durationOf row v L w) (min (row .threads) b)
       → s ≡ amounts h R k L i → row ≡ rowAt h i → v ≡ R i → w ≡ X h k L → b ≡ q h k → Length h k L → t ≡ amounts h R k L (i + 1)

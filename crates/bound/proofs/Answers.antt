@@ -18,7 +18,6 @@ use Rattle.sheet.proofs.Legality.{legal-is}
 use Rattle.bound.specs.Test.{Test, passes}
 use Rattle.bound.specs.Bound.{Word, bound, none, unreached, word, wordIn, resultOf, allUnreached, holds, Answer, answer, judged, notLegal, boundsBy, boundsOf}
 use Rattle.bound.specs.Lists.{resultsLong, resultCell, resultsOn, boundsOn}
-use Rattle.bound.specs.Tables.{fixedSheet}
 use Rattle.bound.specs.declared.results.Result.{Result}
 use Rattle.bound.specs.declared.results.Result.the-variants.{Unreached, Bound, NoBound}
 use Rattle.bound.specs.declared.results.Judged.{Judged}
@@ -65,10 +64,6 @@ bounds-on-same l b r s m d e f =
     let refusal : r .refusal ≡ s .refusal = outcome-one-to-one (r .refusal) (s .refusal) (ap (λ (x : Outcome × (Bool × List ℕ)). x .0) g) in
     let holds : r .holds ≡ s .holds = ap (λ (x : Outcome × (Bool × List ℕ)). x .1 .0) g in
     (ap₂ (λ (x : Refusal) (t : Bool). record { refusal = x; holds = t }) refusal holds, ap (λ (x : Outcome × (Bool × List ℕ)). x .1 .1) g)
-
--- `fixed_sheet`
-pub fixed-sheet-same : (n : ℕ) (a b : Sheet) → a ≡ fixedSheet n → b ≡ fixedSheet n → a ≡ b
-fixed-sheet-same n a b e f = e ∙ sym f
 
 -- ---- what an answer tells of a row
 

@@ -14,8 +14,9 @@ use Rattle.sheet.specs.declared.row.Sheet.{Sheet}
 use Rattle.bound.specs.Test.{passes}
 use Rattle.bound.specs.Bound.{bound, none, unreached, least, passesAt, boundBy}
 use Rattle.bound.specs.Ready.{Length}
-use Rattle.bound.specs.Skipping.{Skips, Says}
+use Rattle.bound.specs.Skipping.{Skips, Starts, Says}
 use Rattle.bound.specs.declared.quantity.Duration.{Duration}
+use Rattle.bound.specs.declared.quantity.FineAmount.{FineAmount}
 use Rattle.bound.specs.declared.search.Tried.{Tried}
 use Rattle.bound.specs.declared.search.Tried.the-variants.{Passes, Next}
 
@@ -101,14 +102,12 @@ least-same p s e (suc n) l = rw (e l, least-same p s e n (suc l))
 
 -- ---- the search
 
+pub search-starts : (h : Sheet) (R : ℕ → Duration) (k : ℕ) (L : Duration) → Starts h R k L → least (passesAt passes h R k) (L .0) (rowAt h k .deadline + 1 - L .0) ≡ boundBy passes h R k
+unfolding boundBy
+search-starts h R k L s =
+    sym (least-skip (passesAt passes h R k) (L .0 - rowAt h k .budget) (rowAt h k .budget) (L .0) (rowAt h k .deadline + 1) (omega (arith, s .low)) (s .fails))
+
 module _ (h : Sheet) (R : ℕ → Duration) (k : ℕ) (row : Row) (er : row ≡ rowAt h k) where
-  pub start-low : rowAt h k .budget ≤ row .budget
-  start-low = rw er (omega arith)
-
-  pub search-starts : least (passesAt passes h R k) (row .budget) (rowAt h k .deadline + 1 - row .budget) ≡ boundBy passes h R k
-  unfolding boundBy
-  search-starts = rw er
-
   same-deadline : row .deadline ≡ rowAt h k .deadline
   same-deadline = ap (λ (z : Row). z .deadline) er
 
@@ -118,26 +117,25 @@ module _ (h : Sheet) (R : ℕ → Duration) (k : ℕ) (row : Row) (er : row ≡ 
   module _ (L : Duration) where
     told-passes : (t : Tried) → Says h R k L t → t ≡ Passes → passes h R k L ≡ true
     told-passes Passes s e = s
-    told-passes (Next n) s e = absurd (let z : _≡_ {A = ℕ} 0 1 = cc in omega arith)
+    told-passes (Next n o) s e = absurd (let z : _≡_ {A = ℕ} 0 1 = cc in omega arith)
 
-    told-next : (t : Tried) (n : Duration) → Says h R k L t → t ≡ Next n → Skips h R k L n
-    told-next Passes n s e = absurd (let z : _≡_ {A = ℕ} 0 1 = cc in omega arith)
-    told-next (Next m) n s e = let z : m ≡ n = cc in rw z at s
+    pub told-next : (t : Tried) (n : Duration) (o : FineAmount) → Says h R k L t → t ≡ Next n o → Skips h R k L n
+    told-next Passes n o s e = absurd (let z : _≡_ {A = ℕ} 0 1 = cc in omega arith)
+    told-next (Next m u) n o s e = let z : m ≡ n = cc in rw z at s
 
-    pub search-less : (t : Tried) (n : Duration) → Says h R k L t → t ≡ Next n → L .0 ≤ row .deadline → rowAt h k .deadline + 1 - n .0 < rowAt h k .deadline + 1 - L .0
-    search-less t n s e b = omega (arith, same-deadline, told-next t n s e .further)
+    pub search-less : (n : Duration) → Skips h R k L n → L .0 ≤ row .deadline → rowAt h k .deadline + 1 - n .0 < rowAt h k .deadline + 1 - L .0
+    search-less n s b = omega (arith, same-deadline, s .further)
 
-    pub search-low : (t : Tried) (n : Duration) → Says h R k L t → t ≡ Next n → rowAt h k .budget ≤ L .0 → rowAt h k .budget ≤ n .0
-    search-low t n s e b = omega (arith, told-next t n s e .further)
+    pub search-low : (n : Duration) → Skips h R k L n → rowAt h k .budget ≤ L .0 → rowAt h k .budget ≤ n .0
+    search-low n s b = omega (arith, s .further)
 
     module _ (i : least (passesAt passes h R k) (L .0) (rowAt h k .deadline + 1 - L .0) ≡ boundBy passes h R k) where
       pub search-found : (t : Tried) → Says h R k L t → t ≡ Passes → L .0 ≤ row .deadline → bound (L .0) ≡ boundBy passes h R k
       search-found t s e b = sym (least-hit (passesAt passes h R k) (L .0) (rowAt h k .deadline + 1) (omega (arith, same-deadline)) (told-passes t s e)) ∙ i
 
-      pub search-more : (t : Tried) (n : Duration) → Says h R k L t → t ≡ Next n
+      pub search-more : (n : Duration) → Skips h R k L n
           → least (passesAt passes h R k) (n .0) (rowAt h k .deadline + 1 - n .0) ≡ boundBy passes h R k
-      search-more t n s e =
-          let w = told-next t n s e in
+      search-more n w =
           sym (least-skip (passesAt passes h R k) (n .0 - L .0) (L .0) (n .0) (rowAt h k .deadline + 1) (omega (arith, w .further)) (w .fails)) ∙ i
 
       pub search-ends : row .deadline < L .0 → none ≡ boundBy passes h R k

@@ -1,4 +1,3 @@
-pub mod Fixed
 pub mod Durations
 pub mod Workload
 pub mod Amounts
@@ -6,11 +5,14 @@ pub mod Paces
 pub mod Steps
 pub mod Lengths
 pub mod Shares
+pub mod Carry
 pub mod FromBytes
+pub mod Stretches
 pub mod Judging
 pub mod Meaning
 pub mod Lists
 pub mod Rows
 pub mod Worked
+pub mod Wrong
 pub mod Answers
 pub mod Load

@@ -110,14 +110,21 @@ module _ (test : Test) (loc : Local test) (h : Sheet) where
     go none ew = true-not-false (sym e ∙ ap isBound ew)
     go unreached ew = true-not-false (sym e ∙ ap isBound ew)
 
-  -- where a sheet holds, every row's bound passes, by the bounds above it
-  pub holds-passes : holds test h ≡ true → (k : ℕ) → k < h .count → test h (bounds (resultOf test h)) k (bounds (resultOf test h) k) ≡ true
-  unfolding holds
-  holds-passes e k l = go (resultOf test h k) refl where
+  -- no shorter length passes
+  pub bound-is-first : (k : ℕ) → isBound (resultOf test h k) ≡ true → (l : ℕ) → rowAt h k .budget ≤ l → l < valueOf (resultOf test h k) .0 → passing test h k l ≡ false
+  bound-is-first k e l low = go (resultOf test h k) refl where
+    go : (w : Word) → resultOf test h k ≡ w → l < valueOf w .0 → passing test h k l ≡ false
+    go (bound r) ew high = let (_, s) = bound-is-smallest test loc h k r ew in s .first l low high
+    go none ew high = true-not-false (sym e ∙ ap isBound ew)
+    go unreached ew high = true-not-false (sym e ∙ ap isBound ew)
+
+  -- it passes, by the bounds above it
+  pub bound-passes : (k : ℕ) → isBound (resultOf test h k) ≡ true → test h (bounds (resultOf test h)) k (bounds (resultOf test h) k) ≡ true
+  bound-passes k e = go (resultOf test h k) refl where
     go : (w : Word) → resultOf test h k ≡ w → test h (bounds (resultOf test h)) k (valueOf w) ≡ true
     go (bound r) ew = let (_, s) = bound-is-smallest test loc h k r ew in s .holds
-    go none ew = true-not-false (sym (all-at (h .count) (bounded (resultOf test h)) e k l) ∙ ap isBound ew)
-    go unreached ew = true-not-false (sym (all-at (h .count) (bounded (resultOf test h)) e k l) ∙ ap isBound ew)
+    go none ew = true-not-false (sym e ∙ ap isBound ew)
+    go unreached ew = true-not-false (sym e ∙ ap isBound ew)
 
 -- a length passes exactly where the sum is less than X times q, as numbers
 pub passing-is-less : (h : Sheet) (R : ℕ → Duration) (k : ℕ) (L : Duration) → passes h R k L ≡ ltb (amounts h R k L k .0) (X h k L .0 * q h k)

@@ -7,13 +7,13 @@ use native.Mathlib.Nat.{mul-le-mul-right}
 use native.Mathlib.Omega.{arith}
 use lib.Dec.{eqb}
 use borrow.Author.Tests.{ne-eqb}
-use Rattle.basis.specs.Limits.{mostProcessors, mostRows, mostSeparation}
+use Rattle.basis.specs.Limits.{mostProcessors, mostSeparation}
 use Rattle.basis.specs.Words.{pick, sum}
 use Rattle.basis.proofs.Sums.{sum-one-more}
 use Rattle.sheet.specs.Legal.{rowAt}
 use Rattle.sheet.specs.declared.row.Row.{Row}
 use Rattle.sheet.specs.declared.row.Sheet.{Sheet}
-use Rattle.bound.specs.Quantities.{slots, plus, lesser}
+use Rattle.bound.specs.Quantities.{widestRows, slots, plus, lesser}
 use Rattle.bound.specs.Test.{q, X, x, W, durationOf, amountOf, amounts}
 use Rattle.bound.specs.Ready.{Ready, Length}
 use Rattle.bound.specs.Skipping.{Paces, stayOf, joined}
@@ -21,7 +21,7 @@ use Rattle.bound.specs.declared.quantity.Duration.{Duration}
 use Rattle.bound.specs.declared.pace.Pace.{Pace}
 use Rattle.bound.proofs.Durations.{number}
 use Rattle.bound.proofs.Workload.{W-runs-on}
-use Rattle.bound.proofs.Amounts.{row, amount-mono, capped-small}
+use Rattle.bound.proofs.Amounts.{few-rows, row, amount-mono, capped-small}
 
 capped-grows : (w z g x d : ℕ) → w + min d g ≤ z → d ≤ g + (w - x) → min w x + d ≤ min z (x + d)
 capped-grows w z g x d a b = omega arith
@@ -99,8 +99,8 @@ module _ (h : Sheet) (R : ℕ → Duration) (k : ℕ) (r : Ready h R k) (L : Dur
       go true e = rw e left-out
       go false e = rw e taken-in
 
-  pub width-small : (i : ℕ) (p : Pace) → i < k → Paces h R k L i p → p .width ≤ mostRows * mostProcessors
-  width-small i p l now = omega (arith, now .width, r .below, r .legal .most-rows)
+  pub width-small : (i : ℕ) (p : Pace) → i < k → Paces h R k L i p → p .width ≤ widestRows * mostProcessors
+  width-small i p l now = omega (arith, now .width, few-rows h R k r)
 
   pub paces-done : (i : ℕ) (p : Pace) → Paces h R k L i p → i ≤ k → k ≤ i → Paces h R k L k p
   paces-done i p now a b = let e : i ≡ k = omega arith in rw e at now

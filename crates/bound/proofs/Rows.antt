@@ -20,6 +20,7 @@ use Rattle.sheet.specs.Lists.{filled, sheetCell, sheetIn, sheetLong}
 use Rattle.sheet.proofs.Legality.{legal-is}
 use Rattle.sheet.proofs.Ranges.{legal-sheet-long}
 use Rattle.sheet.proofs.Back.{whole-sheet-comes-back}
+use Rattle.bound.specs.Quantities.{slots}
 use Rattle.bound.specs.Test.{passes}
 use Rattle.bound.specs.Bound.{Word, unreached, bound, none, word, wordIn, isBound, valueOf, boundBy, bounds, bounded, resultOf, allUnreached, holds, Answer, judged, boundsOf}
 use Rattle.bound.specs.Lists.{wordNumber, boundNumber, resultsLong, resultCell, words, putResult, wordAt, boundsOn}
@@ -28,7 +29,7 @@ use Rattle.bound.specs.declared.results.Judged.{Judged}
 use Rattle.bound.specs.declared.results.Result.{Result}
 use Rattle.bound.proofs.Durations.{same, number}
 use Rattle.bound.proofs.Judging.{passes-local, bound-agrees, agree-self, reached-result, unreached-result, bound-all}
-use Rattle.bound.proofs.Meaning.{bound-in-range}
+use Rattle.bound.proofs.Meaning.{bound-in-range, bound-is-first}
 use Rattle.bound.proofs.Answers.{legal-is-judged, refused-by-10}
 use Rattle.bound.proofs.Lists.{word-there, words-long, length-put, words-come-back, zeros-are-unreached, legal-is-put, not-legal-is-kept}
 
@@ -40,6 +41,11 @@ module _ (h : Sheet) (rs : List ℕ) (k : ℕ) (reached : Bool) (above : RowsAbo
     range i b =
         bound-in-range passes passes-local h i (all-at k (bounded (resultOf passes h)) (sym (above .all) ∙ yes) i b)
 
+    first : (i : ℕ) → i < k → (l : ℕ) → rowAt h i .budget ≤ l → l < heldIn rs i .0 → passes h (heldIn rs) i (slots l) ≡ false
+    first i b l low high =
+        passes-local h h (heldIn rs) (bounds (resultOf passes h)) i (agree-self h (suc i)) (λ j c. above .held j (omega arith)) (slots l)
+        ∙ bound-is-first passes passes-local h i (all-at k (bounded (resultOf passes h)) (sym (above .all) ∙ yes) i b) l low (omega (arith, number (above .held i b)))
+
     pub ready : Legal h → k < h .count → Ready h (heldIn rs) k
     ready l below =
         record {
@@ -47,6 +53,7 @@ module _ (h : Sheet) (rs : List ℕ) (k : ℕ) (reached : Bool) (above : RowsAbo
           below = below;
           low = λ i b. omega (arith, range i b, number (above .held i b));
           high = λ i b. omega (arith, range i b, number (above .held i b));
+          smallest = first;
         }
 
     pub judged-reached : (r : Result) → word r ≡ boundBy passes h (heldIn rs) k → word r ≡ resultOf passes h k

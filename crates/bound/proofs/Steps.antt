@@ -10,10 +10,10 @@ use borrow.Author.Tests.{ltb-false, le-ltb}
 use lib.Dec.{ltb}
 use mir.Val.{Fits}
 use mir.Syntax.{w64}
-use Rattle.basis.specs.Limits.{mostProcessors, mostRows, mostSeparation}
+use Rattle.basis.specs.Limits.{mostProcessors}
 use Rattle.basis.proofs.Words.{lt-or-le}
 use Rattle.sheet.specs.declared.row.Sheet.{Sheet}
-use Rattle.bound.specs.Quantities.{slots, plus}
+use Rattle.bound.specs.Quantities.{widestRows, widestSeparation, slots, plus}
 use Rattle.bound.specs.Test.{q, X, amounts, room, passes}
 use Rattle.bound.specs.Ready.{Ready, Length}
 use Rattle.bound.specs.Skipping.{Skips, Paces, Steep}
@@ -21,7 +21,7 @@ use Rattle.bound.specs.declared.quantity.Duration.{Duration}
 use Rattle.bound.specs.declared.quantity.Amount.{Amount}
 use Rattle.bound.specs.declared.pace.Pace.{Pace}
 use Rattle.bound.proofs.Durations.{number-of}
-use Rattle.bound.proofs.Amounts.{amounts-mono, amounts-small, q-some, length-small, room-by-q}
+use Rattle.bound.proofs.Amounts.{few-rows, amounts-mono, amounts-small, q-some, length-small, room-by-q}
 use Rattle.bound.proofs.Paces.{X-more}
 
 -- ---- what a pace allows
@@ -48,6 +48,11 @@ module _ (h : Sheet) (R : ℕ → Duration) (k : ℕ) (L : Duration) (s : Amount
 
   pub length-fails : t ≡ false → passes h R k L ≡ false
   length-fails e = sym trial-is ∙ e
+
+-- what it can spare fits
+pub spare-fits : (h : Sheet) (R : ℕ → Duration) (k : ℕ) (L : Duration) (s a o : Amount) → Ready h R k → Length h k L → s ≡ amounts h R k L k → o .0 ≡ s .0 - a .0
+    → Fits w64 (256 * o .0 + 255)
+spare-fits h R k L s a o r n e eo = omega (arith, number-of e, amounts-small h R k r L n k, few-rows h R k r)
 
 module _ (h : Sheet) (R : ℕ → Duration) (k : ℕ) (r : Ready h R k) (L : Duration) (len : Length h k L) (no : passes h R k L ≡ false) where
   reaches : X h k L .0 * q h k ≤ amounts h R k L k .0
@@ -83,14 +88,13 @@ module _ (h : Sheet) (R : ℕ → Duration) (k : ℕ) (r : Ready h R k) (L : Dur
     over-is = omega (arith, number-of es, number-of ea, room-by-q h k L)
 
     module _ (n : ℕ) (ln : n * b ≤ o .0) (p : Pace) (c : Paces h R k L k p) (t f : Duration) (st : Steep o b p t) (ef : f .0 ≡ max (t .0) n) where
-      further-small : f .0 ≤ mostRows * (mostSeparation * mostProcessors)
+      further-small : f .0 ≤ widestRows * (widestSeparation * mostProcessors)
       further-small =
           omega (
             arith,
             over-is,
             amounts-small h R k r L len k,
-            r .below,
-            r .legal .most-rows,
+            few-rows h R k r,
             c .stay,
             st .within-stay,
             mul-le-mul-left {m = 1} {n = b} n (omega (arith, q-some h k)),
@@ -100,7 +104,7 @@ module _ (h : Sheet) (R : ℕ → Duration) (k : ℕ) (r : Ready h R k) (L : Dur
       next-fits = omega (arith, further-small, length-small h R k r L len)
 
       module _ (e : Duration) (ee : e .0 ≡ L .0 + f .0) where
-        pub one-more-fits : (m : ℕ) → m ≤ mostSeparation → Fits w64 (e .0 + m)
+        pub one-more-fits : (m : ℕ) → m ≤ widestSeparation → Fits w64 (e .0 + m)
         one-more-fits m l = omega (arith, further-small, length-small h R k r L len)
 
         pub next-skips : (z : Duration) → z .0 ≡ e .0 + 1 → Skips h R k L z

@@ -4,10 +4,11 @@ use mathlib.Core.Path.{refl}
 use Rattle.basis.specs.Words.{allOf, sum, Each}
 use Rattle.basis.specs.Upto.{upto}
 use Rattle.sheet.specs.Legal.{legalRow, legalAt, legal}
+use Rattle.tables.specs.Tables.{fixedSheet}
 use Rattle.bound.specs.Test.{q, X, x, W, durationOf, amountOf, amounts, room, passes}
 use Rattle.bound.specs.Bound.{least, boundBy, judge, resultsTo, resultOf, holds, judged, boundsBy}
 use Rattle.bound.specs.Cases.{cases, Right}
 
 pub cases-are-right : Each Right cases
-unfolding allOf sum upto legalRow legalAt legal q X x W durationOf amountOf amounts room passes least boundBy judge resultsTo resultOf holds judged boundsBy
+unfolding fixedSheet allOf sum upto legalRow legalAt legal q X x W durationOf amountOf amounts room passes least boundBy judge resultsTo resultOf holds judged boundsBy
 cases-are-right = (refl, (refl, (refl, (refl, (refl, (refl, tt))))))

@@ -1,4 +1,4 @@
--- Cases A to F: sheets, and the results that document 01 has for them.
+-- Cases A to F: the fixed sheets 0 to 5, which `fixed_sheet` hands out, and the results that document 01 has for them.
 use Prim.Native.Nat.{_-_}
 use mathlib.Core.Path.{_≡_}
 use mathlib.Core.Bool.{Bool, true}
@@ -9,7 +9,7 @@ use Rattle.basis.specs.Words.{both}
 use Rattle.basis.specs.Refusals.{accepted}
 use Rattle.sheet.specs.declared.row.Sheet.{Sheet}
 use Rattle.bound.specs.Bound.{Word, bound, none, unreached, isBound, Answer, boundsOf}
-use Rattle.bound.specs.Tables.{sheetA, sheetB, sheetC, sheetD, sheetE, sheetF}
+use Rattle.tables.specs.Tables.{fixedSheet}
 
 -- A sheet, and the results of its rows.
 pub record Case : Type 0 where
@@ -19,12 +19,12 @@ pub record Case : Type 0 where
 -- The six cases.
 abbrev pub cases : List Case
 cases =
-    record { sheet = sheetA; results = bound 2 ∷ bound 5 ∷ [] }
-    ∷ record { sheet = sheetB; results = bound 2 ∷ bound 4 ∷ bound 7 ∷ [] }
-    ∷ record { sheet = sheetC; results = bound 1 ∷ none ∷ [] }
-    ∷ record { sheet = sheetD; results = bound 1 ∷ bound 4 ∷ [] }
-    ∷ record { sheet = sheetE; results = bound 2 ∷ bound 4 ∷ [] }
-    ∷ record { sheet = sheetF; results = bound 1 ∷ [] }
+    record { sheet = fixedSheet 0; results = bound 2 ∷ bound 5 ∷ [] }
+    ∷ record { sheet = fixedSheet 1; results = bound 2 ∷ bound 4 ∷ bound 7 ∷ [] }
+    ∷ record { sheet = fixedSheet 2; results = bound 1 ∷ none ∷ [] }
+    ∷ record { sheet = fixedSheet 3; results = bound 1 ∷ bound 4 ∷ [] }
+    ∷ record { sheet = fixedSheet 4; results = bound 2 ∷ bound 4 ∷ [] }
+    ∷ record { sheet = fixedSheet 5; results = bound 1 ∷ [] }
     ∷ []
 
 -- Each of some results is a bound.

@@ -1,8 +1,8 @@
 pub mod Quantities
 pub mod Test
 pub mod Bound
-pub mod Tables
 pub mod Cases
+pub mod Wrong
 pub mod Lists
 pub mod Ready
 pub mod Skipping

@@ -1,17 +1,17 @@
 -- The facts that the functions below the public ones are called with.
 use Prim.Native.Nat.{ℕ, _+_, _*_, _≤_, _<_}
 use mathlib.Core.Path.{_≡_}
-use mathlib.Core.Bool.{Bool}
+use mathlib.Core.Bool.{Bool, false}
 use mathlib.Core.List.{List}
 use lib.ListN.{length}
-use Rattle.basis.specs.Limits.{mostProcessors, mostSeparation}
+use Rattle.basis.specs.Limits.{mostProcessors}
 use Rattle.basis.specs.Words.{allOf}
 use Rattle.basis.specs.Upto.{upto}
 use Rattle.sheet.specs.Legal.{rowAt, Legal}
 use Rattle.sheet.specs.declared.row.Row.{Row}
 use Rattle.sheet.specs.declared.row.Sheet.{Sheet}
 use Rattle.sheet.specs.Lists.{numberAt, sheetIn, sheetLong}
-use Rattle.bound.specs.Quantities.{slots}
+use Rattle.bound.specs.Quantities.{widestSeparation, slots}
 use Rattle.bound.specs.Test.{passes}
 use Rattle.bound.specs.Bound.{bounds, bounded, resultOf}
 use Rattle.bound.specs.Lists.{resultsLong, resultCell, words}
@@ -40,12 +40,13 @@ pub record SoFar (h : Sheet) (lent rs : List ℕ) (reached : Bool) (k : ℕ) : T
   pub put : rs ≡ upto (resultsLong k) (resultCell (words h)) lent
   pub all : reached ≡ allOf k (bounded (resultOf passes h))
 
--- Row k of a legal sheet can be judged by these bounds: each above is from C to D.
+-- Row k of a legal sheet can be judged by these bounds: each above is from C to D, and no shorter length of its row passes.
 pub record Ready (h : Sheet) (R : ℕ → Duration) (k : ℕ) : Type 0 where
   pub legal : Legal h
   pub below : k < h .count
   pub low : (i : ℕ) → i < k → rowAt h i .budget ≤ R i .0
   pub high : (i : ℕ) → i < k → R i .0 ≤ rowAt h i .deadline
+  pub smallest : (i : ℕ) → i < k → (l : ℕ) → rowAt h i .budget ≤ l → l < R i .0 → passes h R i (slots l) ≡ false
 
 -- A length that the test of row k is put to: from C to D.
 pub record Length (h : Sheet) (k : ℕ) (L : Duration) : Type 0 where
@@ -58,12 +59,12 @@ pub record Above (row : Row) (R L : Duration) : Type 0 where
   pub some-budget : 1 ≤ row .budget
   pub low : row .budget ≤ R .0
   pub high : R .0 ≤ row .separation
-  pub most-separation : row .separation ≤ mostSeparation
-  pub most-length : L .0 ≤ mostSeparation
+  pub most-separation : row .separation ≤ widestSeparation
+  pub most-length : L .0 ≤ widestSeparation
 
 -- A row above, and an x of it.
 pub record Spans (row : Row) (span : Duration) : Type 0 where
   pub some-separation : 1 ≤ row .separation
   pub most-budget : row .budget ≤ row .separation
-  pub most-separation : row .separation ≤ mostSeparation
-  pub most-span : span .0 ≤ 2 * mostSeparation
+  pub most-separation : row .separation ≤ widestSeparation
+  pub most-span : span .0 ≤ 2 * widestSeparation

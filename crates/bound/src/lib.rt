@@ -1,4 +1,4 @@
-// The bound of each row of a sheet, and the fixed tables of sheets A to F.
+// The bound of each row of a sheet.
 mod bytes;
 mod inside;
 mod judge;
@@ -7,7 +7,8 @@ mod quantity;
 mod results;
 mod search;
 mod share;
-mod tables;
+mod start;
+mod stretch;
 mod test;
 
 pub use bytes::judge_bytes;
@@ -18,4 +19,3 @@ pub use results::Result;
 pub use results::Results;
 pub use results::bounds;
 pub use results::bounds_on;
-pub use tables::fixed_sheet;

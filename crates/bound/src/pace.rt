@@ -1,8 +1,9 @@
 // The pace at which the sum of the amounts grows with the length, and how long a length that fails goes on failing by it.
 ghost use mathlib.Core.Path.{_≡_};
 ghost use Prim.Native.Nat.{_*_, _≤_};
-ghost use Rattle.basis.specs.Limits.{mostProcessors, mostRows};
+ghost use Rattle.basis.specs.Limits.{mostProcessors};
 ghost use Rattle.sheet.specs.Lists.{sheetIn};
+ghost use Rattle.bound.specs.Quantities.{widestRows};
 ghost use Rattle.bound.specs.Ready.{heldIn, Lent, Ready, Length, Above};
 ghost use Rattle.bound.specs.Skipping.{stayOf, joined, Paces, Steep};
 use crate::inside::row_inside;
@@ -36,7 +37,7 @@ fn stay_of_row(row: Row, bound: Duration, length: Duration, window: Duration) ->
 
 // The pace with a row more.
 fn joined(pace: Pace, capped: u64, stay: Duration) -> Pace
-    requires { ⌜ (pace .width ≤ mostRows * mostProcessors) × (capped ≤ mostProcessors) ⌝ }
+    requires { ⌜ (pace .width ≤ widestRows * mostProcessors) × (capped ≤ mostProcessors) ⌝ }
     ensures { λ r. ⌜ r ≡ joined pace capped stay ⌝ }
 {
     if stay.0 == 0 {

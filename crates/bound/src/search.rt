@@ -1,7 +1,9 @@
 // The search for the smallest length that passes.
 ghost use mathlib.Core.Path.{_≡_};
 ghost use mathlib.Core.Bool.{false};
+ghost use Prim.Native.Nat.{_+_, _≤_, _<_};
 ghost use Rattle.sheet.specs.Lists.{sheetIn};
+ghost use Rattle.bound.specs.Quantities.{widestSeparation};
 ghost use Rattle.bound.specs.Test.{amounts, passes};
 ghost use Rattle.bound.specs.Bound.{word, boundBy};
 ghost use Rattle.bound.specs.Ready.{heldIn, Lent, Ready, Length};
@@ -11,17 +13,27 @@ use crate::pace::pace_above;
 use crate::pace::steep;
 use crate::quantity::Amount;
 use crate::quantity::Duration;
+use crate::quantity::FineAmount;
 use crate::results::Result;
-use crate::share::leaves_room;
+use crate::share::no_room;
+use crate::start::first_length;
+use crate::stretch::all_fail;
 use crate::test::busy_of;
 use crate::test::passes;
 use crate::test::room_of;
 use crate::test::sum_above;
 
-// What the trial of a length tells: it passes, or the next length that can.
+// What the trial of a length tells: it passes, or the next length that can, and what its sum can spare, a guide of which nothing is promised.
 pub enum Tried {
     Passes,
-    Next(Duration),
+    Next(Duration, FineAmount),
+}
+
+// Where the search is: the length to try, the slots to guess next, and how many trials are left before it guesses.
+pub struct Pursuit {
+    pub length: Duration,
+    pub guess: Duration,
+    pub calm: u64,
 }
 
 // The first length after one that fails, of which this is the sum, that is not known to fail.
@@ -48,7 +60,79 @@ fn try_length(sheet: &[u64], results: &[u64], k: usize, length: Duration) -> Tri
         return Tried::Passes;
     }
     let next = next_length(sheet, results, k, length, sum);
-    Tried::Next(next)
+    let over = sum.minus(room_of(sheet, k, length));
+    Tried::Next(next, over.spare())
+}
+
+// How far a stretch is guessed to fail: twice as far as the next length is, or as guessed before, and at most to the deadline.
+fn reach_of(length: Duration, next: Duration, deadline: Duration, guess: Duration) -> Duration
+    requires { ⌜ (length .0 < next .0) × (next .0 ≤ deadline .0) × (deadline .0 ≤ widestSeparation) ⌝ }
+    ensures { λ r. ⌜ (1 ≤ r .0) × (length .0 + r .0 ≤ deadline .0) ⌝ }
+{
+    let step = next.after(length).times(2);
+    guess.greater(step).lesser(deadline.after(length))
+}
+
+// A step by a guess: over a whole stretch if it is known to fail, else to the next length that is known.
+fn leap(
+    sheet: &[u64],
+    results: &[u64],
+    k: usize,
+    at: Pursuit,
+    next: Duration,
+    spare: FineAmount,
+) -> Pursuit
+    requires { ⌜ (Lent (now sheet) (now results)) × (Ready (sheetIn (now sheet)) (heldIn (now results)) k) × (Length (sheetIn (now sheet)) k (at .length)) × (Skips (sheetIn (now sheet)) (heldIn (now results)) k (at .length) next) ⌝ }
+    ensures { λ r. ⌜ Skips (sheetIn (now (sheet .entry))) (heldIn (now (results .entry))) k (at .length) (r .length) ⌝ }
+{
+    let row = row_inside(sheet, k);
+    let length = at.length;
+    let guess = at.guess;
+    if row.deadline < next.0 {
+        return Pursuit {
+            length: next,
+            guess,
+            calm: 0,
+        };
+    }
+    let reach = reach_of(length, next, Duration(row.deadline), guess);
+    let end = length.plus(reach);
+    if all_fail(sheet, results, k, length, end, spare) {
+        return Pursuit {
+            length: end.plus(Duration(1)),
+            guess: reach.times(2),
+            calm: 0,
+        };
+    }
+    Pursuit {
+        length: next,
+        guess: Duration(reach.0 / 2),
+        calm: 0,
+    }
+}
+
+// The step from a length that fails: to the next that is known, and after some trials by a guess.
+fn further(
+    sheet: &[u64],
+    results: &[u64],
+    k: usize,
+    at: Pursuit,
+    next: Duration,
+    spare: FineAmount,
+) -> Pursuit
+    requires { ⌜ (Lent (now sheet) (now results)) × (Ready (sheetIn (now sheet)) (heldIn (now results)) k) × (Length (sheetIn (now sheet)) k (at .length)) × (Skips (sheetIn (now sheet)) (heldIn (now results)) k (at .length) next) ⌝ }
+    ensures { λ r. ⌜ Skips (sheetIn (now (sheet .entry))) (heldIn (now (results .entry))) k (at .length) (r .length) ⌝ }
+{
+    let guess = at.guess;
+    let calm = at.calm;
+    if 0 < calm {
+        return Pursuit {
+            length: next,
+            guess,
+            calm: calm - 1,
+        };
+    }
+    leap(sheet, results, k, at, next, spare)
 }
 
 // The smallest length of row `k` that passes.
@@ -58,13 +142,19 @@ fn smallest(sheet: &[u64], results: &[u64], k: usize) -> Result
 {
     let row = row_inside(sheet, k);
     let deadline = Duration(row.deadline);
-    let mut length = Duration(row.budget);
-    while length.0 <= deadline.0 {
+    let first = first_length(sheet, results, k);
+    let mut at = Pursuit {
+        length: first,
+        guess: Duration(0),
+        calm: 8,
+    };
+    while at.length.0 <= deadline.0 {
+        let length = at.length;
         let tried = try_length(sheet, results, k, length);
-        let Tried::Next(next) = tried else {
+        let Tried::Next(next, spare) = tried else {
             return Result::Bound(length.0);
         };
-        length = next;
+        at = further(sheet, results, k, at, next, spare);
     }
     Result::NoBound
 }
@@ -75,8 +165,8 @@ pub(crate) fn bound_of(sheet: &[u64], results: &[u64], k: usize) -> Result
     ensures { λ r. ⌜ word r ≡ boundBy passes (sheetIn (now (sheet .entry))) (heldIn (now (results .entry))) k ⌝ }
 {
     let row = row_inside(sheet, k);
-    if leaves_room(sheet, results, k, Duration(row.deadline)) {
-        return smallest(sheet, results, k);
+    if no_room(sheet, results, k, Duration(row.deadline)) {
+        return Result::NoBound;
     }
-    Result::NoBound
+    smallest(sheet, results, k)
 }

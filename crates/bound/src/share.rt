@@ -1,42 +1,48 @@
-// The shares of the rows above: what each runs at least in the long run, and whether they leave room for any length.
+// The shares of the rows above: what each runs at least in the long run, in 256ths, and whether they leave room for any length.
 ghost use mathlib.Core.Path.{_≡_};
 ghost use Prim.Native.Nat.{_≤_, min};
-ghost use Rattle.basis.specs.Limits.{mostProcessors, mostSeparation};
+ghost use Rattle.basis.specs.Limits.{mostProcessors};
+ghost use Rattle.sheet.specs.Legal.{rowAt};
 ghost use Rattle.sheet.specs.Lists.{sheetIn};
-ghost use Rattle.bound.specs.Quantities.{on};
+ghost use Rattle.bound.specs.Quantities.{widestSeparation, onFine};
 ghost use Rattle.bound.specs.Ready.{heldIn, Lent, Ready, Length, Above};
-ghost use Rattle.bound.specs.Skipping.{shareOf, Shares, LeavesRoom};
+ghost use Rattle.bound.specs.Skipping.{shareOf, Shares, AllFail};
 use crate::inside::row_inside;
-use crate::quantity::Amount;
 use crate::quantity::Duration;
+use crate::quantity::FineAmount;
 use crate::test::busy_of;
 use crate::test::fewer;
-use crate::test::passes;
+use crate::test::room_of;
 use crate::test::span_above;
 use crate::test::window_of;
 use sheet::Row;
 
 // The amount of a row above with this bound, by its share: its budget of every separation.
-fn share_above(row: Row, bound: Duration, length: Duration, window: Duration, busy: u64) -> Amount
-    requires { ⌜ (Above row bound length) × (window .0 ≤ mostSeparation) × (busy ≤ mostProcessors) ⌝ }
-    ensures { λ r. ⌜ r ≡ on (shareOf row bound length window) (min (row .threads) busy) ⌝ }
+pub(crate) fn share_above(
+    row: Row,
+    bound: Duration,
+    length: Duration,
+    window: Duration,
+    busy: u64,
+) -> FineAmount
+    requires { ⌜ (Above row bound length) × (window .0 ≤ widestSeparation) × (busy ≤ mostProcessors) ⌝ }
+    ensures { λ r. ⌜ r ≡ onFine (shareOf row bound length window) (min (row .threads) busy) ⌝ }
 {
     let span = span_above(row, bound, length);
-    let weighed = span.times(row.budget);
-    let count = weighed.into(Duration(row.separation));
-    let share = Duration(count).lesser(window);
+    let part = span.part(row.budget, Duration(row.separation));
+    let share = part.lesser(window.fine());
     let capped = fewer(row.threads, busy);
     share.on(capped)
 }
 
 // The sum of the amounts above row `k` by their shares.
-fn shares_above(sheet: &[u64], results: &[u64], k: usize, length: Duration) -> Amount
+fn shares_above(sheet: &[u64], results: &[u64], k: usize, length: Duration) -> FineAmount
     requires { ⌜ (Lent (now sheet) (now results)) × (Ready (sheetIn (now sheet)) (heldIn (now results)) k) × (Length (sheetIn (now sheet)) k length) ⌝ }
     ensures { λ r. ⌜ Shares (sheetIn (now (sheet .entry))) (heldIn (now (results .entry))) k length k r ⌝ }
 {
     let busy = busy_of(sheet, k);
     let window = window_of(sheet, k, length);
-    let mut sum = Amount::none();
+    let mut sum = FineAmount::none();
     let mut i: usize = 0;
     while i < k {
         let row = row_inside(sheet, i);
@@ -48,11 +54,12 @@ fn shares_above(sheet: &[u64], results: &[u64], k: usize, length: Duration) -> A
     sum
 }
 
-// Whether the shares leave room in a length; where they do not, no length up to it passes.
-pub(crate) fn leaves_room(sheet: &[u64], results: &[u64], k: usize, length: Duration) -> bool
+// Whether the shares leave no room in a length; where it says so, no length up to it passes.
+pub(crate) fn no_room(sheet: &[u64], results: &[u64], k: usize, length: Duration) -> bool
     requires { ⌜ (Lent (now sheet) (now results)) × (Ready (sheetIn (now sheet)) (heldIn (now results)) k) × (Length (sheetIn (now sheet)) k length) ⌝ }
-    ensures { λ r. ⌜ LeavesRoom (sheetIn (now (sheet .entry))) (heldIn (now (results .entry))) k length r ⌝ }
+    ensures { λ r. ⌜ AllFail (sheetIn (now (sheet .entry))) (heldIn (now (results .entry))) k (rowAt (sheetIn (now (sheet .entry))) k .budget) (length .0) r ⌝ }
 {
     let sum = shares_above(sheet, results, k, length);
-    passes(sheet, k, length, sum)
+    let room = room_of(sheet, k, length);
+    sum.reaches(room)
 }

@@ -1,10 +1,10 @@
 // The test of one length: q, X, then x, N, W, the duration and the amount of each row above, their sum, and whether it is less than q × X.
 ghost use mathlib.Core.Path.{_≡_};
 ghost use Prim.Native.Nat.{_≤_, _<_, min};
-ghost use Rattle.basis.specs.Limits.{mostProcessors, mostSeparation};
+ghost use Rattle.basis.specs.Limits.{mostProcessors};
 ghost use Rattle.sheet.specs.Legal.{Legal};
 ghost use Rattle.sheet.specs.Lists.{sheetIn};
-ghost use Rattle.bound.specs.Quantities.{on, less};
+ghost use Rattle.bound.specs.Quantities.{widestSeparation, on, less};
 ghost use Rattle.bound.specs.Test.{q, X, x, W, durationOf, amounts, room};
 ghost use Rattle.bound.specs.Ready.{heldIn, Long, Lent, Ready, Length, Above, Spans};
 use crate::inside::row_inside;
@@ -73,8 +73,14 @@ fn duration_above(row: Row, bound: Duration, length: Duration, window: Duration)
 }
 
 // The amount of a row above with this bound.
-fn amount_above(row: Row, bound: Duration, length: Duration, window: Duration, busy: u64) -> Amount
-    requires { ⌜ (Above row bound length) × (window .0 ≤ mostSeparation) × (busy ≤ mostProcessors) ⌝ }
+pub(crate) fn amount_above(
+    row: Row,
+    bound: Duration,
+    length: Duration,
+    window: Duration,
+    busy: u64,
+) -> Amount
+    requires { ⌜ (Above row bound length) × (window .0 ≤ widestSeparation) × (busy ≤ mostProcessors) ⌝ }
     ensures { λ r. ⌜ r ≡ on (durationOf row bound length window) (min (row .threads) busy) ⌝ }
 {
     let duration = duration_above(row, bound, length, window);

@@ -5,7 +5,7 @@ use mathlib.Core.Path.{_≡_, sym, ap, _∙_}
 use mathlib.Core.List.{List}
 use Rattle.dashboard.specs.Texts.{verdictText, referenceText}
 use Rattle.dashboard.specs.Longest.{inputBuffer, textBuffer}
-use Rattle.dashboard.specs.Pages.{Page, written}
+use Rattle.page.specs.Pages.{Page, written}
 
 same : (p q x : Page) → p ≡ x → q ≡ x → (p .0 ≡ q .0) × (p .1 ≡ q .1)
 same p q x e f =

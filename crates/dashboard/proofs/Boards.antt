@@ -1,7 +1,7 @@
 -- What each function says, from what its calls say.
 -- Assumes nothing.
 use Prim.Native.Nat.{ℕ, zero, suc, _+_, _-_, _*_, _^_, _≤_, _<_}
-use mathlib.Core.Path.{_≡_, refl, sym, ap, ap₂, _∙_}
+use mathlib.Core.Path.{_≡_, refl, ap, ap₂, _∙_}
 use mathlib.Core.Bool.{Bool, true, false}
 use mathlib.Core.List.{List, _++_}
 use native.Mathlib.Numerals.{add-one}
@@ -18,17 +18,18 @@ use Rattle.reader.specs.Steps.{partIn}
 use Rattle.reader.specs.declared.row.Part.{Part}
 use Rattle.reader.proofs.Shown.{inside}
 use Rattle.bound.specs.Test.{passes}
-use Rattle.bound.specs.Bound.{Word, bound, none, unreached, resultOf, holds}
+use Rattle.bound.specs.Bound.{Word, resultOf, holds}
 use Rattle.bound.specs.Lists.{resultsLong, wordAt}
 use Rattle.bound.proofs.Lists.{unreached-read, bound-read, none-read}
-use Rattle.dashboard.specs.Words.{decimal, boundWord, noneWord, unreachedWord, told, line, holdsLine, failsLine, ending}
-use Rattle.dashboard.specs.Labels.{bytesOf, ownLabel, numbered, labelBy}
+use Rattle.page.specs.Decimals.{decimal}
+use Rattle.dashboard.specs.Words.{boundWord, noneWord, unreachedWord, told, line, holdsLine, failsLine, ending}
+use Rattle.dashboard.specs.Labels.{ownLabel, numbered, labelBy}
 use Rattle.dashboard.specs.Ready.{LabelsLie}
 use Rattle.dashboard.specs.declared.line.Labels.{Labels}
 use Rattle.dashboard.specs.declared.line.Labels.the-variants.{Own, Numbered}
 use Rattle.dashboard.specs.Texts.{lines, board}
-use Rattle.dashboard.specs.Pages.{Page, said}
-use Rattle.dashboard.proofs.Saying.{two-said}
+use Rattle.page.specs.Pages.{Page, said}
+use Rattle.page.proofs.Saying.{two-said}
 
 -- ---- a line
 

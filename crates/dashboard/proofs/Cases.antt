@@ -9,8 +9,9 @@ use Rattle.reader.specs.Form.{plain, label, entry, entries, body, head, sheet, 
 use Rattle.reader.specs.Answers.{labelIn}
 use Rattle.bound.specs.Test.{q, X, x, W, durationOf, amountOf, amounts, room, passes}
 use Rattle.bound.specs.Bound.{least, boundBy, judge, resultsTo, resultOf, holds}
-use Rattle.bound.specs.Tables.{fixedSheet}
-use Rattle.dashboard.specs.Words.{digits, decimal, told, line, refusedBy, noVerdict}
+use Rattle.tables.specs.Tables.{fixedSheet}
+use Rattle.page.specs.Decimals.{digits, decimal}
+use Rattle.dashboard.specs.Words.{told, line, refusedBy, noVerdict}
 use Rattle.dashboard.specs.Words as words
 use Rattle.dashboard.specs.Labels.{ownLabel, numbered}
 use Rattle.dashboard.specs.Texts.{lines, board, verdictText, section, sections, referenceText}

@@ -22,13 +22,14 @@ use Rattle.bound.specs.Test.{passes}
 use Rattle.bound.specs.Bound.{Word, bound, none, unreached, isBound, valueOf, resultOf, holds}
 use Rattle.bound.proofs.Meaning.{bound-in-range}
 use Rattle.bound.proofs.Judging.{passes-local}
-use Rattle.dashboard.specs.Words.{digits, decimal, mostDigits, boundWord, told, head, line, holdsLine, ending, refusedBy, noVerdict}
+use Rattle.page.specs.Decimals.{digits, decimal, mostDigits}
+use Rattle.dashboard.specs.Words.{boundWord, told, head, line, holdsLine, ending, refusedBy, noVerdict}
 use Rattle.dashboard.specs.Labels.{ownLabel}
 use Rattle.dashboard.specs.Texts.{lines, board, verdictText, referenceText}
-use Rattle.dashboard.specs.Pages.{written}
+use Rattle.page.specs.Pages.{written}
 use Rattle.dashboard.specs.Longest.{longestLine, longestText, textSize}
 use Rattle.dashboard.proofs.Cases.{reference-is}
-use Rattle.dashboard.proofs.Decimals.{decimal-grows, decimal-is-short}
+use Rattle.page.proofs.Digits.{decimal-grows, decimal-is-short}
 use Rattle.dashboard.proofs.Outcomes.{by-outcome, accepted-prints-its-rows, refused-prints-one-line}
 
 -- what the limits have to be: the bound of the longest line is no shorter than the word unreached, and the longest text is no shorter than a refusal

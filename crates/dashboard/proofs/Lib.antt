@@ -1,7 +1,6 @@
 pub mod Answered
 pub mod Boards
 pub mod Cases
-pub mod Decimals
 pub mod Fits
 pub mod General
 pub mod Inputs
@@ -9,7 +8,5 @@ pub mod Outcomes
 pub mod Refused
 pub mod Reports
 pub mod Rooms
-pub mod Saying
 pub mod Verdicts
-pub mod Starred
 pub mod Wrong

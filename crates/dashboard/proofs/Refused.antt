@@ -15,7 +15,8 @@ use Rattle.reader.proofs.Reach.{refusal-is-listed}
 use Rattle.bound.specs.Test.{passes}
 use Rattle.bound.specs.Bound.{Word, resultOf, holds, Answer, judged, boundsOf}
 use Rattle.bound.proofs.Answers.{legal-is-judged}
-use Rattle.dashboard.specs.Words.{digits, decimal, space, newline, head, line, ending, noVerdictWord, refusedBy, noVerdict}
+use Rattle.page.specs.Decimals.{digits, decimal}
+use Rattle.dashboard.specs.Words.{space, newline, head, line, ending, noVerdictWord, refusedBy, noVerdict}
 use Rattle.dashboard.specs.Labels.{ownLabel}
 use Rattle.dashboard.specs.Texts.{lines, board, verdictText}
 use Rattle.dashboard.specs.Meaning.{Reported, NoVerdict}

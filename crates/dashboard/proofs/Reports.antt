@@ -31,7 +31,7 @@ use Rattle.reader.proofs.Least.{accepted-is-not-shorter}
 use Rattle.reader.proofs.Naming.{no-label}
 use Rattle.bound.specs.Test.{passes}
 use Rattle.bound.specs.Bound.{resultOf, holds}
-use Rattle.bound.specs.Tables.{fixedSheet}
+use Rattle.tables.specs.Tables.{fixedSheet}
 use Rattle.bound.specs.Lists.{resultsLong, resultCell, boundsOn, words, wordAt, judgedBytes}
 use Rattle.bound.specs.declared.results.Judgement.{Judgement}
 use Rattle.bound.proofs.FromBytes.{found, judged-outcome, judged-count, judged-few, judged-labels-long, judged-label, judged-results-long, judged-word, judged-holds}
@@ -41,9 +41,9 @@ use Rattle.dashboard.specs.Labels.{ownLabel, numbered, labelBy}
 use Rattle.dashboard.specs.Ready.{LabelsLie, Roomy}
 use Rattle.dashboard.specs.declared.line.Labels.the-variants.{Own, Numbered}
 use Rattle.dashboard.specs.Texts.{lines, board, textOf, verdictText, fixedCount, letter, prefix, section, sections, referenceText}
-use Rattle.dashboard.specs.Pages.{Page, written, said}
+use Rattle.page.specs.Pages.{Page, written, said}
 use Rattle.dashboard.proofs.Boards.{board-is}
-use Rattle.dashboard.proofs.Saying.{two-said, three-said, said-is-written}
+use Rattle.page.proofs.Saying.{two-said, three-said, said-is-written}
 
 -- ---- a verdict, where the bytes were judged
 

@@ -7,7 +7,7 @@ use native.Mathlib.Omega.{arith}
 use lib.ListN.{length, take, drop, length-append, length-take, length-drop, length-replicate}
 use lib.Seq.{length-take-le, take-at}
 use Rattle.dashboard.specs.Texts.{verdictText, referenceText}
-use Rattle.dashboard.specs.Pages.{Page, written}
+use Rattle.page.specs.Pages.{Page, written}
 use Rattle.dashboard.specs.Longest.{textSize, textBuffer}
 use Rattle.dashboard.proofs.Fits.{verdict-is-whole, reference-is-whole}
 

@@ -17,11 +17,12 @@ use Rattle.bound.specs.Bound.{Word, resultOf, holds}
 use Rattle.green.specs.Demand.{NoJobIsLate}
 use Rattle.green.specs.Green.{greenOf}
 use Rattle.green.proofs.Theorem.{no-job-is-late}
-use Rattle.dashboard.specs.Words.{decimal, space, newline, told, head, line, holdsLine, ending, refusedBy, noVerdict}
+use Rattle.page.specs.Decimals.{decimal}
+use Rattle.dashboard.specs.Words.{space, newline, told, head, line, holdsLine, ending, refusedBy, noVerdict}
 use Rattle.dashboard.specs.Labels.{ownLabel}
 use Rattle.dashboard.specs.Texts.{lines, board, verdictText}
 use Rattle.dashboard.specs.Meaning.{EndsIn, LastLine}
-use Rattle.dashboard.proofs.Decimals.{last-digit}
+use Rattle.page.proofs.Digits.{last-digit}
 use Rattle.dashboard.proofs.General.{ends-same}
 use Rattle.dashboard.proofs.Outcomes.{accepted-prints-its-rows, refused-prints-one-line, by-outcome}
 

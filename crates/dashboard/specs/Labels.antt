@@ -4,7 +4,7 @@ use mathlib.Core.List.{List, _++_}
 use lib.ListN.{take, drop}
 use Rattle.reader.specs.Answers.{labelIn}
 use Rattle.reader.specs.declared.row.Part.{Part}
-use Rattle.dashboard.specs.Words.{decimal}
+use Rattle.page.specs.Decimals.{decimal}
 use Rattle.dashboard.specs.declared.line.Labels.{Labels}
 use Rattle.dashboard.specs.declared.line.Labels.the-variants.{Own, Numbered}
 

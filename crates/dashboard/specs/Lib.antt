@@ -2,9 +2,7 @@ pub mod Words
 pub mod Labels
 pub mod Ready
 pub mod Texts
-pub mod Pages
 pub mod Longest
 pub mod Meaning
 pub mod Cases
-pub mod Starred
 pub mod Wrong

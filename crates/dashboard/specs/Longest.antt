@@ -4,7 +4,8 @@ use mathlib.Core.List.{List}
 use lib.ListN.{length, replicate}
 use Rattle.basis.specs.Limits.{mostRows, longestLabel, mostSeparation}
 use Rattle.reader.specs.Longest.{longestSheet}
-use Rattle.dashboard.specs.Words.{decimal, space, newline, boundWord, holdsLine}
+use Rattle.page.specs.Decimals.{decimal}
+use Rattle.dashboard.specs.Words.{space, newline, boundWord, holdsLine}
 
 -- The most bytes of a row's line: a row number, the longest label, and a bound of as many digits as the largest separation.
 unfoldable pub longestLine : ℕ

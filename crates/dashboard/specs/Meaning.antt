@@ -1,21 +1,13 @@
--- What the laws of a verdict speak of: the value of digits, the last line, what follows NO VERDICT, and rows that are reported.
-use Prim.Native.Nat.{ℕ, _+_, _-_, _*_, _≤_}
+-- What the laws of a verdict speak of: the last line, what follows NO VERDICT, and rows that are reported.
+use Prim.Native.Nat.{ℕ, _≤_}
 use mathlib.Core.Path.{_≡_}
 use mathlib.Core.Logic.{_⊎_}
-use mathlib.Core.List.{List, [], _∷_, _++_}
+use mathlib.Core.List.{List, [], _++_}
 use Rattle.basis.specs.Refusals.{refused}
 use Rattle.reader.specs.Answers.{reading}
 use Rattle.sheet.specs.declared.row.Row.{Row}
-use Rattle.dashboard.specs.Words.{decimal, space, newline}
-
--- The number that decimal digits stand for, after digits that stand for n.
-unfoldable pub valueAfter : ℕ → List ℕ → ℕ
-valueAfter n [] = n
-valueAfter n (b ∷ bs) = valueAfter (n * 10 + (b - 0x30)) bs
-
--- The number that decimal digits stand for.
-abbrev pub value : List ℕ → ℕ
-value bs = valueAfter 0 bs
+use Rattle.page.specs.Decimals.{decimal}
+use Rattle.dashboard.specs.Words.{space, newline}
 
 -- A text ends in these bytes.
 pub record EndsIn (text last : List ℕ) : Type 0 where

@@ -6,7 +6,7 @@ use Rattle.reader.specs.Answers.{reading}
 use Rattle.sheet.specs.declared.row.Sheet.{Sheet}
 use Rattle.bound.specs.Test.{passes}
 use Rattle.bound.specs.Bound.{Word, resultOf, holds}
-use Rattle.bound.specs.Tables.{fixedSheet}
+use Rattle.tables.specs.Tables.{fixedSheet}
 use Rattle.dashboard.specs.Words.{newline, line, ending, noVerdict}
 use Rattle.dashboard.specs.Labels.{ownLabel, numbered}
 

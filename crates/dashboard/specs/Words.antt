@@ -1,23 +1,10 @@
 -- The words of a verdict and its lines, byte for byte.
-use Prim.Native.Nat.{ℕ, zero, suc, _+_, _/_, _%_}
+use Prim.Native.Nat.{ℕ}
 use mathlib.Core.Bool.{Bool}
 use mathlib.Core.List.{List, [], _∷_, _++_}
-use lib.Dec.{ltb}
 use Rattle.basis.specs.Words.{pick}
 use Rattle.bound.specs.Bound.{Word, bound, none, unreached}
-
--- The last k decimal digits of n, the highest first, with no zero in front.
-unfoldable pub digits : ℕ → ℕ → List ℕ
-digits zero n = []
-digits (suc k) n = pick (ltb n 10) ((0x30 + n) ∷ []) (digits k (n / 10) ++ ((0x30 + n % 10) ∷ []))
-
--- No number of the code has more digits.
-abbrev pub mostDigits : ℕ
-mostDigits = 20
-
--- A number in decimal.
-unfoldable pub decimal : ℕ → List ℕ
-decimal n = digits mostDigits n
+use Rattle.page.specs.Decimals.{decimal}
 
 -- A space.
 abbrev pub space : List ℕ

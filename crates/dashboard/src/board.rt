@@ -10,7 +10,7 @@ ghost use Rattle.dashboard.specs.Words.{ending};
 ghost use Rattle.dashboard.specs.Texts.{lines};
 ghost use Rattle.dashboard.specs.Labels.{labelBy};
 ghost use Rattle.dashboard.specs.Ready.{LabelsLie};
-ghost use Rattle.dashboard.specs.Pages.{said};
+ghost use Rattle.page.specs.Pages.{said};
 use crate::line::Labels;
 use crate::line::put_ending;
 use crate::line::put_line;

@@ -1,7 +1,6 @@
 // The exact text of a verdict and of the reference, and the buffers for it.
 mod board;
 mod line;
-mod page;
 mod report;
 mod room;
 

@@ -9,10 +9,10 @@ ghost use Rattle.reader.specs.Steps.{partIn};
 ghost use Rattle.bound.specs.Lists.{resultsLong, wordAt};
 ghost use Rattle.dashboard.specs.Words.{told, head, line, ending, refusedBy, noVerdict};
 ghost use Rattle.dashboard.specs.Labels.{ownLabel, labelBy};
-ghost use Rattle.dashboard.specs.Pages.{said};
-use crate::page::put;
-use crate::page::put_bytes;
-use crate::page::put_number;
+ghost use Rattle.page.specs.Pages.{said};
+use page::put;
+use page::put_bytes;
+use page::put_number;
 
 // Where the labels of the rows come from.
 pub enum Labels {

@@ -1,17 +1,17 @@
 // The text of a verdict, and of the reference.
 ghost use mathlib.Core.Path.{_≡_};
 ghost use Prim.Native.Nat.{_<_};
-ghost use Rattle.bound.specs.Tables.{fixedSheet};
+ghost use Rattle.tables.specs.Tables.{fixedSheet};
 ghost use Rattle.dashboard.specs.Texts.{fixedCount, prefix, board, section, verdictText, referenceText};
 ghost use Rattle.dashboard.specs.Labels.{numbered};
 ghost use Rattle.dashboard.specs.Ready.{Roomy};
-ghost use Rattle.dashboard.specs.Pages.{said, written};
+ghost use Rattle.page.specs.Pages.{said, written};
 use crate::board::put_board;
 use crate::line::Labels;
 use crate::line::put_no_verdict;
-use crate::page::put;
 use basis::Refusal;
 use bound::RESULTS_LONG;
+use page::put;
 use reader::LABELS_LONG;
 use sheet::SHEET_LONG;
 
@@ -67,7 +67,7 @@ fn put_fixed(text: &mut [u8], at: usize, number: usize) -> usize
     requires { ⌜ number < fixedCount ⌝ }
     ensures { λ r. ⌜ (now (text .exit), r) ≡ said (now (text .entry), at) (board (numbered prefix) (fixedSheet number)) ⌝ }
 {
-    let sheet = bound::fixed_sheet(number);
+    let sheet = tables::fixed_sheet(number);
     let mut list = [0u64; SHEET_LONG];
     sheet::put_sheet(&mut list, sheet);
     let parts = [0u64; LABELS_LONG];

@@ -17,9 +17,10 @@ use Rattle.sheet.specs.Lists.{filled, sheetIn}
 use Rattle.sheet.specs.declared.row.Sheet.{Sheet}
 use Rattle.sheet.proofs.Legality.{legal-is}
 use Rattle.machine.specs.declared.state.State.{State}
-use Rattle.machine.specs.declared.state.RowState.{RowState}
+use Rattle.records.specs.declared.record.RowState.{RowState}
 use Rattle.machine.specs.declared.runs.Ran.{Ran}
-use Rattle.machine.specs.States.{noRecord, recordAt}
+use Rattle.records.specs.Records.{noRecord}
+use Rattle.machine.specs.States.{recordAt}
 use Rattle.machine.specs.Lists.{stateLong}
 use Rattle.machine.specs.Answers.{Course, fresh, ran, run}
 use Rattle.exports.specs.Answers.{told}

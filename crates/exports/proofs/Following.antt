@@ -98,9 +98,9 @@ call-follows sheet l ds (one-slot rel cs) f =
 call-follows sheet l ds (a-run rel cs) f = follows-more (sheetIn sheet) l _ ds _ (by-value.a-run rel cs) f refl (run-in-state (sheetIn sheet) l rel cs)
 
 -- and all of them
-all-in-time : (sheet : List ℕ) → NoJobIsLate (sheetIn sheet) → (l : List ℕ) (ds : List Done) → Follows (sheetIn sheet) l ds → (calls : List ListCall) → InTime (sheetIn sheet) (sinceFresh sheet l ds calls)
+all-in-time : (sheet : List ℕ) → NoJobIsLate (sheetIn sheet) → (l : List ℕ) (ds : List Done) → Follows (sheetIn sheet) l ds → (calls : List ListCall) → InTime (sheetIn sheet) (sheetIn sheet .count) (sinceFresh sheet l ds calls)
 unfolding sinceFresh
-all-in-time sheet late l ds f [] = subst (InTime (sheetIn sheet)) (f .slots) (late (f .calls))
+all-in-time sheet late l ds f [] = subst (InTime (sheetIn sheet) (sheetIn sheet .count)) (f .slots) (late (f .calls))
 all-in-time sheet late l ds f (c ∷ cs) = all-in-time sheet late (listAfter sheet l c) (slotsAfter sheet l ds c) (call-follows sheet l ds c f) cs
 
 -- No job of a sheet of which demand 3 holds is late where the machine is kept in a list.

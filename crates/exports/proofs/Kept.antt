@@ -20,7 +20,7 @@ use Rattle.machine.proofs.Done.{Ends, all-done, stopped-at, run-ends, run-not-b
 use Rattle.dashboard.specs.Texts.{verdictText}
 use Rattle.sheet.specs.Legal.{legal}
 use Rattle.sheet.specs.Lists.{sheetIn, sheetLong}
-use Rattle.bound.specs.Tables.{fixedSheet}
+use Rattle.tables.specs.Tables.{fixedSheet}
 use Rattle.machine.specs.Lists.{stateLong, stateIn, freshOn, slotListed, slotIn, runIn}
 use Rattle.exports.specs.Answers.{told, verdictIn, fieldsIn, readIn, labelOutcome, labelAnswer, resultsIn, boundsIn, withTold, freshIn, slotOn, runOn, marginGiven, marginIn}
 use Rattle.exports.specs.Further.{stepTold, numberOn, upToOn, fixedIn, boxBy, boxOf, boxOn}

@@ -10,4 +10,5 @@ pub mod Meaning
 pub mod Numbered
 pub mod Same
 pub mod Texts
+pub mod Wrong
 pub mod WrongFurther

@@ -14,7 +14,7 @@ use Rattle.numbers.specs.declared.number.Number.{Number}
 use Rattle.numbers.specs.declared.number.Number.the-variants.{Is, Refused}
 use Rattle.sheet.specs.declared.row.Sheet.{Sheet}
 use Rattle.sheet.specs.Lists.{filled, sheetCell, sheetLong}
-use Rattle.bound.specs.Tables.{fixedSheet}
+use Rattle.tables.specs.Tables.{fixedSheet}
 use Rattle.exports.specs.Answers.{fieldsIn}
 use Rattle.exports.specs.Further.{stepTold, numberOn, upToOn, fixedIn}
 

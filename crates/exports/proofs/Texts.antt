@@ -8,7 +8,7 @@ use lib.ListN.{length, take, drop}
 use lib.Seq.{take-all}
 use borrow.Author.Tests.{le-leb, lt-leb}
 use Rattle.dashboard.specs.Longest.{textSize, textBuffer}
-use Rattle.dashboard.specs.Pages.{Page, written}
+use Rattle.page.specs.Pages.{Page, written}
 use Rattle.dashboard.specs.Texts.{verdictText}
 use Rattle.dashboard.proofs.Fits.{verdict-is-short, longest-fits}
 use Rattle.dashboard.proofs.Rooms.{written-part, verdict-is-printed}

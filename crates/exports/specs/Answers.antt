@@ -12,7 +12,7 @@ use Rattle.sheet.specs.declared.row.Sheet.{Sheet}
 use Rattle.bound.specs.Bound.{Answer, boundsOf}
 use Rattle.bound.specs.Lists.{resultsLong, resultCell}
 use Rattle.machine.specs.Answers.{Told, no-job, margin-is, refused-by, margin}
-use Rattle.dashboard.specs.Pages.{Page, written}
+use Rattle.page.specs.Pages.{Page, written}
 use Rattle.dashboard.specs.Texts.{verdictText}
 use Rattle.sheet.specs.Lists.{filled, sheetIn, sheetCell, sheetLong}
 use Rattle.machine.specs.Lists.{stateIn, freshOn, slotIn, runIn}

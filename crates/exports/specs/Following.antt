@@ -39,4 +39,4 @@ sinceFresh sheet list found (c ∷ cs) = sinceFresh sheet (listAfter sheet list 
 -- Demand 3 of a sheet's list: from an accepted fresh on any list, whatever calls follow on it, each job is finished within its row's bound, and no deadline is missed.
 abbrev pub NoListedJobIsLate : List ℕ → Type 0
 NoListedJobIsLate sheet =
-    (list : List ℕ) → freshIn sheet list .0 .0 ≡ 0 → (calls : List ListCall) → InTime (sheetIn sheet) (sinceFresh sheet (freshIn sheet list .1) [] calls)
+    (list : List ℕ) → freshIn sheet list .0 .0 ≡ 0 → (calls : List ListCall) → InTime (sheetIn sheet) (sheetIn sheet .count) (sinceFresh sheet (freshIn sheet list .1) [] calls)

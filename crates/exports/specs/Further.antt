@@ -9,7 +9,7 @@ use Rattle.numbers.specs.Numbers.{number, upTo}
 use Rattle.sheet.specs.Legal.{legal}
 use Rattle.sheet.specs.Lists.{filled, sheetIn}
 use Rattle.sheet.specs.declared.row.Sheet.{Sheet}
-use Rattle.bound.specs.Tables.{fixedSheet}
+use Rattle.tables.specs.Tables.{fixedSheet}
 use Rattle.machine.specs.declared.state.State.{State}
 use Rattle.machine.specs.States.{recordAt}
 use Rattle.machine.specs.Lists.{stateLong}

@@ -1,4 +1,5 @@
 pub mod Answers
 pub mod Following
 pub mod Further
+pub mod Wrong
 pub mod WrongFurther

@@ -6,8 +6,8 @@ ghost use Rattle.exports.specs.Further.{stateCell, boxOn};
 use crate::telling::tell;
 use basis::MOST_ROWS;
 use basis::Refusal;
-use machine::RowState;
 use machine::State;
+use records::RowState;
 
 // Record k of a state, and zeros past the last.
 fn record_at(state: State, k: usize) -> RowState
@@ -64,7 +64,7 @@ pub extern "C" fn giachimu_box(
             return tell(Refusal::Refused(15, 0), place);
         }
         let whole = sheet::sheet_in(sheet);
-        let ran = machine::box_run(whole, releases, codes);
+        let ran = aboard::box_run(whole, releases, codes);
         let state = ran.state;
         put_state(list, state);
         let refusal = ran.refusal;

@@ -19,7 +19,7 @@ pub extern "C" fn giachimu_legal(sheet: &[u64]) -> bool
 pub extern "C" fn giachimu_fixed(number: usize, list: &mut [u64], place: &mut usize) -> u64
     ensures { λ r. ⌜ ((r, now (place .exit)), now (list .exit)) ≡ fixedIn number (now (list .entry)) ⌝ }
 {
-    let sheet = bound::fixed_sheet(number);
+    let sheet = tables::fixed_sheet(number);
     let n = sheet.count as usize;
     if list.len() < n * 4 + 2 {
         return tell(Refusal::Refused(15, 0), place);

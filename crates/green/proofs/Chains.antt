@@ -1,32 +1,29 @@
--- Accepted slots one after another, each from the state that the one before it left; and that they are in time where the sheet holds.
+-- Accepted slots one after another, each from the state that the one before it left; and that those of the first n rows are in time where these have bounds.
 -- Assumes nothing.
-use Prim.Native.Nat.{ℕ, zero, suc, _+_, _-_, _≤_, _<_, min}
-use mathlib.Core.Path.{_≡_, refl, sym, ap, subst, _∙_}
-use mathlib.Core.Bool.{Bool, true, false}
+use Prim.Native.Nat.{ℕ, zero, suc, _+_, _≤_, _<_}
+use mathlib.Core.Path.{_≡_, refl, sym, ap, _∙_}
 use mathlib.Core.Logic.{_⊎_, inl, inr, ⊎-elim}
 use mathlib.Core.List.{List, [], _∷_, _++_}
 use native.Mathlib.Omega.{arith}
-use lib.ListN.{length, getD}
-use Rattle.basis.specs.Refusals.{Outcome, accepted}
+use lib.ListN.{getD}
+use Rattle.basis.specs.Refusals.{accepted}
 use Rattle.sheet.specs.Legal.{rowAt, Legal}
 use Rattle.sheet.specs.declared.row.Sheet.{Sheet}
-use Rattle.bound.specs.Test.{passes}
-use Rattle.bound.specs.Bound.{bound, valueOf, resultOf, holds}
 use Rattle.machine.specs.declared.state.State.{State}
-use Rattle.machine.specs.declared.state.RowState.{RowState}
+use Rattle.records.specs.declared.record.RowState.{RowState}
 use Rattle.machine.specs.States.{recordAt}
 use Rattle.machine.specs.Slot.{begun, runs, reached, code}
 use Rattle.machine.specs.Checks.{checkReleases}
 use Rattle.machine.specs.Answers.{given, nextState}
-use Rattle.machine.proofs.Codes.{four-says}
+use Rattle.records.proofs.Codes.{four-says}
 use Rattle.machine.proofs.Legals.{LegalState}
-use Rattle.machine.proofs.Records.{ended-else}
-use Rattle.green.specs.Model.{Moment, owed, age, Reached, slot}
+use Rattle.records.proofs.Records.{ended-else}
+use Rattle.green.specs.Model.{age, Reached, slot}
 use Rattle.green.specs.Calls.{Done}
-use Rattle.green.specs.Demand.{noSlot, releaseIn, codeIn, FinishedWithin, InTime}
+use Rattle.green.specs.Demand.{Bounded}
 use Rattle.green.proofs.Sheets.{rowsOf, ranges, safe}
-use Rattle.green.proofs.Soundness.{within-bound, slot-within-bound}
-use Rattle.green.proofs.Slots.{momentOf, ran, slot-is, begin-remaining, released-so, reached-remaining, reached-since, next-record, next-since}
+use Rattle.green.proofs.Soundness.{slot-within-bound}
+use Rattle.green.proofs.Slots.{momentOf, ran, slot-is, reached-remaining, reached-since, next-record, next-since}
 use Rattle.green.proofs.Codes.{finished-code, going-code}
 
 -- an accepted slot from a state: what it was checked for, and the codes that it wrote
@@ -44,16 +41,19 @@ pub chain-append : (h : Sheet) {t u v : State} {ds es : List Done} → Chain h t
 chain-append h none c = c
 chain-append h (more s b) c = more s (chain-append h b c)
 
-module _ (h : Sheet) (legal : Legal h) (all : holds passes h ≡ true) where
+module _ (h : Sheet) (legal : Legal h) (n : ℕ) (up : Bounded h n) where
   abbrev pub bounds : ℕ → ℕ
-  bounds k = rowsOf h .R k
+  bounds k = rowsOf h n .R k
 
   -- one slot, from a state that slots lead to
-  module _ (t : State) (d : Done) (r : Reached (rowsOf h) (momentOf t)) (s : Slotted h t d) where
-    pub leads : Reached (rowsOf h) (momentOf (nextState h t (d .releases)))
-    leads = slot (λ k. getD (d .releases) k 0) (ran h t (d .releases) (s .state) (s .fine)) r (slot-is h t (d .releases) (s .state) (s .fine))
+  module _ (t : State) (d : Done) (r : Reached (rowsOf h n) (momentOf t)) (s : Slotted h t d) where
+    pub leads : Reached (rowsOf h n) (momentOf (nextState h t (d .releases)))
+    leads = slot (λ k. getD (d .releases) k 0) (ran h t (d .releases) (s .state) (s .fine)) r (slot-is h t (d .releases) (s .state) (s .fine) n (up .within))
 
-    module _ (k : ℕ) (l : k < h .count) where
+    module _ (k : ℕ) (l : k < n) where
+      there : k < h .count
+      there = omega (arith, up .within)
+
       abbrev left : ℕ
       left = reached (given h t (d .releases)) k .remaining
 
@@ -65,18 +65,18 @@ module _ (h : Sheet) (legal : Legal h) (all : holds passes h ≡ true) where
       in-bound x =
           omega (
             arith,
-            slot-within-bound (rowsOf h) (ranges h legal all) (safe h legal all) _ _ r (slot-is h t (d .releases) (s .state) (s .fine)) k l
+            slot-within-bound (rowsOf h n) (ranges h legal n up) (safe h legal n up) _ _ r (slot-is h t (d .releases) (s .state) (s .fine) n (up .within)) k l
                 (omega (arith, reached-remaining h t (d .releases) (s .state) (s .fine) k)),
             reached-remaining h t (d .releases) (s .state) (s .fine) k,
-            next-since h t (d .releases) (s .state) (s .fine) k l,
+            next-since h t (d .releases) (s .state) (s .fine) k there,
           )
 
       -- no code 4
       pub not-missed : getD (d .codes) k 0 ≡ 4 → ⊥
       unfolding given
       not-missed e =
-          let (_, some, late) = four-says (rowAt h k) (runs (given h t (d .releases)) k) (begun (given h t (d .releases)) k) (reached (given h t (d .releases)) k) (sym (s .wrote k l) ∙ e) in
-          omega (arith, in-bound some, ranges h legal all k l)
+          let (_, some, late) = four-says (rowAt h k) (runs (given h t (d .releases)) k) (begun (given h t (d .releases)) k) (reached (given h t (d .releases)) k) (sym (s .wrote k there) ∙ e) in
+          omega (arith, in-bound some, ranges h legal n up k l)
 
       -- a job finishes in this slot, or goes on: it waited or ran, and is a slot older
       pub record GoesOn : Type 0 where
@@ -89,14 +89,14 @@ module _ (h : Sheet) (legal : Legal h) (all : holds passes h ≡ true) where
       step x = go left refl
         where
           go : (y : ℕ) → left ≡ y → (getD (d .codes) k 0 ≡ 3) ⊎ GoesOn
-          go zero e = inl (s .wrote k l ∙ finished-code (rowAt h k) (runs (given h t (d .releases)) k) (begun (given h t (d .releases)) k) (reached (given h t (d .releases)) k) x e)
+          go zero e = inl (s .wrote k there ∙ finished-code (rowAt h k) (runs (given h t (d .releases)) k) (begun (given h t (d .releases)) k) (reached (given h t (d .releases)) k) x e)
           go (suc y) e =
               let b = in-bound (omega arith) in
-              let early : old ≡ rowAt h k .deadline → ⊥ = λ f. omega (arith, ranges h legal all k l) in
-              let n = next-record h t (d .releases) (s .state) (s .fine) k l in
+              let early : old ≡ rowAt h k .deadline → ⊥ = λ f. omega (arith, ranges h legal n up k l) in
+              let r′ = next-record h t (d .releases) (s .state) (s .fine) k there in
               let c = going-code (rowAt h k) (runs (given h t (d .releases)) k) (begun (given h t (d .releases)) k) (reached (given h t (d .releases)) k) x (omega arith) early in
               inr (record {
-                ran-or-waited = ⊎-elim (λ f. inl (s .wrote k l ∙ f)) (λ f. inr (s .wrote k l ∙ f)) c;
-                some = omega (arith, ap (λ (z : RowState). z .remaining) n, ended-else (rowAt h k) (reached (given h t (d .releases)) k) early);
-                older = omega (arith, next-since h t (d .releases) (s .state) (s .fine) k l, reached-since h t (d .releases) (s .state) (s .fine) k l, ranges h legal all k l);
+                ran-or-waited = ⊎-elim (λ f. inl (s .wrote k there ∙ f)) (λ f. inr (s .wrote k there ∙ f)) c;
+                some = omega (arith, ap (λ (z : RowState). z .remaining) r′, ended-else (rowAt h k) (reached (given h t (d .releases)) k) early);
+                older = omega (arith, next-since h t (d .releases) (s .state) (s .fine) k there, reached-since h t (d .releases) (s .state) (s .fine) k there, ranges h legal n up k l);
               })

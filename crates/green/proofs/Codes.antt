@@ -8,9 +8,9 @@ use native.Mathlib.Omega.{arith}
 use borrow.Author.Tests.{lt-ltb, le-ltb}
 use Rattle.basis.specs.Words.{pick}
 use Rattle.sheet.specs.declared.row.Row.{Row}
-use Rattle.machine.specs.declared.state.RowState.{RowState}
-use Rattle.machine.specs.Slot.{codeOf}
-use Rattle.machine.proofs.Codes.{goes-on}
+use Rattle.records.specs.declared.record.RowState.{RowState}
+use Rattle.records.specs.Steps.{codeOf}
+use Rattle.records.proofs.Codes.{goes-on}
 
 module _ (row : Row) (ran : Bool) (before after : RowState) where
   -- nothing is left: 3

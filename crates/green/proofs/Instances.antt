@@ -1,20 +1,21 @@
 -- Demand 3 is not empty: sheets A, B, D, E and F are instances, and on sheet D a job of the lower row finishes in exactly its bound.
 -- Assumes nothing.
-use Prim.Native.Nat.{ℕ}
 use mathlib.Core.Path.{_≡_, refl}
-use mathlib.Core.List.{List, [], _∷_}
-use lib.ListN.{length}
+use mathlib.Core.List.{[], _∷_}
 use Rattle.basis.specs.Words.{allOf, sum, Each}
 use Rattle.basis.specs.Refusals.{firstOf}
 use Rattle.basis.specs.Upto.{upto}
 use Rattle.sheet.specs.Legal.{legal, legalAt, legalRow}
 use Rattle.bound.specs.Test.{passes, amounts, amountOf, durationOf, room, q, X, x, W}
 use Rattle.bound.specs.Bound.{bound, holds, resultOf, resultsTo, judge, boundBy, least}
-use Rattle.bound.specs.Tables.{sheetA, sheetB, sheetD, sheetE, sheetF}
-use Rattle.machine.specs.States.{freshState, legalState, legalRecord, isZero}
+use Rattle.tables.specs.Tables.{sheetA, sheetB, sheetD, sheetE, sheetF}
+use Rattle.machine.specs.States.{freshState, legalState}
+use Rattle.records.specs.Records.{legalRecord, isZero}
 use Rattle.machine.specs.States as states
-use Rattle.machine.specs.Slot.{released, fits, freeBelow, freeAt, worked, older, aged, missed, ended, codeOf}
-use Rattle.machine.specs.Checks.{checkRow, checkReleases, checkState, checkRoom, checkSlot, checkRun}
+use Rattle.records.specs.Steps.{released, fits, freeBelow, worked, older, aged, missed, ended, codeOf}
+use Rattle.machine.specs.Slot.{freeAt}
+use Rattle.records.specs.Checks.{checkRow}
+use Rattle.machine.specs.Checks.{checkReleases, checkState, checkRoom, checkSlot, checkRun}
 use Rattle.machine.specs.Answers.{fresh, given, nextState, nextCodes, slot, slotAt, onward, course, run}
 use Rattle.green.specs.Calls.{freshOf, runDone, history}
 use Rattle.green.specs.Demand.{releaseIn, codeIn, NoJobIsLate}

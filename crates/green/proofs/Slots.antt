@@ -6,28 +6,30 @@ use mathlib.Core.Bool.{Bool, true, false}
 use mathlib.Core.Logic.{⊎-elim}
 use mathlib.Core.List.{List}
 use native.Mathlib.Omega.{arith}
-use lib.ListN.{length, getD}
-use lib.Dec.{ltb, leb, eqb}
-use borrow.Author.Tests.{ltb-true, ltb-false, leb-true, leb-false, lt-ltb, le-ltb, ne-eqb}
-use Rattle.basis.specs.Words.{pick, both, sum}
-use Rattle.basis.specs.Refusals.{Outcome, accepted, refused}
+use lib.ListN.{getD}
+use lib.Dec.{ltb, leb}
+use borrow.Author.Tests.{ltb-true, lt-ltb, ne-eqb}
+use Rattle.basis.specs.Words.{pick, both}
+use Rattle.basis.specs.Refusals.{accepted}
 use Rattle.basis.proofs.First.{first-at}
 use Rattle.basis.proofs.Sums.{sum-same}
 use Rattle.basis.proofs.Words.{lt-or-le}
 use Rattle.basis.proofs.Upto.{upto-below}
-use Rattle.sheet.specs.Legal.{rowAt, Legal}
+use Rattle.sheet.specs.Legal.{rowAt}
 use Rattle.sheet.specs.declared.row.Row.{Row}
 use Rattle.sheet.specs.declared.row.Sheet.{Sheet}
-use Rattle.machine.specs.declared.state.RowState.{RowState}
+use Rattle.records.specs.declared.record.RowState.{RowState}
 use Rattle.machine.specs.declared.state.State.{State}
-use Rattle.machine.specs.States.{noRecord, recordAt, hasJob}
-use Rattle.machine.specs.Slot.{Given, released, fits, freeBelow, freeAt, worked, older, aged, missed, ended, begun, free, runs, reached, next}
-use Rattle.machine.specs.Checks.{checkRow, checkAt, checkReleases}
+use Rattle.records.specs.Records.{noRecord}
+use Rattle.machine.specs.States.{recordAt}
+use Rattle.machine.specs.Slot.{begun, free, runs, reached, next}
+use Rattle.records.specs.Steps.{released, fits, worked, older, aged, missed, ended}
+use Rattle.machine.specs.Checks.{checkAt, checkReleases}
 use Rattle.machine.specs.Answers.{given, nextState}
 use Rattle.machine.proofs.Legals.{LegalState, legal-state-long}
 use Rattle.machine.proofs.Placement.{takenBy, processors-are-kept, waits-unfit}
-use Rattle.machine.proofs.Records.{release-allowed, older-below, older-full}
-use Rattle.green.specs.Model.{Rows, Moment, owed, age, Slot}
+use Rattle.records.proofs.Records.{release-allowed, older-below, older-full}
+use Rattle.green.specs.Model.{Moment, owed, age, Slot}
 use Rattle.green.proofs.Sheets.{rowsOf}
 
 -- a state as functions of the row number
@@ -144,10 +146,10 @@ module _ (h : Sheet) (t : State) (rel : List ℕ) (state : LegalState h t) (fine
   unfolding given
   next-remaining k l = subst (λ (s : RowState). s .remaining ≤ reached (given h t rel) k .remaining) (sym (next-record k l)) (ended-less (rowAt h k) (reached (given h t rel) k))
 
-  pub slot-is : Slot (rowsOf h) (momentOf t) (λ k. getD rel k 0) ran (momentOf (nextState h t rel))
+  pub slot-is : (n : ℕ) → n ≤ h .count → Slot (rowsOf h n) (momentOf t) (λ k. getD rel k 0) ran (momentOf (nextState h t rel))
   unfolding ran given
-  slot-is = record {
-    releases = released-so;
+  slot-is n within = record {
+    releases = λ i l. released-so i (omega arith);
     once = λ i l. at-most-one (runs (given h t rel) i);
     runs = λ i l. omega (arith, runs-with-job (free (given h t rel) i) (rowAt h i) (begin i), begin-remaining i);
     waits = λ k l j e.
@@ -157,6 +159,6 @@ module _ (h : Sheet) (t : State) (rel : List ℕ) (state : LegalState h t) (fine
           processors-are-kept (given h t rel) k,
           sum-same k (takenBy (given h t rel)) (λ i. ran i * rowAt h i .threads) (λ i g. taken-as (runs (given h t rel) i) (rowAt h i .threads)),
         );
-    ages = λ i l. next-since i l ∙ reached-since i l;
-    left = λ i l. omega (arith, next-remaining i l, reached-remaining i);
+    ages = λ i l. next-since i (omega arith) ∙ reached-since i (omega arith);
+    left = λ i l. omega (arith, next-remaining i (omega arith), reached-remaining i);
   }

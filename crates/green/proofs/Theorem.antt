@@ -1,8 +1,9 @@
--- Demand 3: on a legal sheet that holds, from a fresh machine, whatever calls follow, each job is finished within its row's bound and no deadline is missed.
+-- Demand 3: on a legal sheet whose first n rows have bounds, from a fresh machine, whatever calls follow, each of their jobs is finished within its row's bound and
+-- none of their deadlines is missed; all rows have bounds where the sheet holds.
 -- Assumes nothing.
 use Prim.Native.Nat.{ℕ, _+_, _-_, _≤_, _<_}
-use mathlib.Core.Path.{_≡_, refl, sym, ap, subst, _∙_}
-use mathlib.Core.Bool.{Bool, true}
+use mathlib.Core.Path.{_≡_, sym, ap, _∙_}
+use mathlib.Core.Bool.{true}
 use mathlib.Core.List.{List}
 use native.Mathlib.Omega.{arith}
 use lib.ListN.{replicate, length-replicate}
@@ -10,20 +11,22 @@ use lib.IntN.{pos}
 use borrow.Author.Tests.{le-ltb}
 use Rattle.basis.specs.Limits.{mostRows}
 use Rattle.basis.proofs.Upto.{upto-below}
-use Rattle.sheet.specs.Legal.{rowAt, legal, Legal}
+use Rattle.sheet.specs.Legal.{rowAt, legal}
 use Rattle.sheet.specs.declared.row.Sheet.{Sheet}
 use Rattle.sheet.proofs.Legality.{legal-is}
 use Rattle.bound.specs.Test.{passes}
-use Rattle.bound.specs.Bound.{bound, valueOf, resultOf, holds}
+use Rattle.bound.specs.Bound.{isBound, valueOf, resultOf, holds}
+use Rattle.bound.proofs.Judging.{passes-local, bound-all}
 use Rattle.machine.specs.declared.state.State.{State}
-use Rattle.machine.specs.declared.state.RowState.{RowState}
-use Rattle.machine.specs.States.{noRecord, recordAt, freshAt, freshState}
+use Rattle.records.specs.declared.record.RowState.{RowState}
+use Rattle.records.specs.Records.{noRecord}
+use Rattle.machine.specs.States.{recordAt, freshAt, freshState}
 use Rattle.machine.specs.Answers.{fresh, marginOf}
 use Rattle.machine.proofs.Differences.{less-twice}
 use Rattle.green.specs.Model.{Reached}
 use Rattle.green.specs.Model as model
 use Rattle.green.specs.Calls.{Call, freshOf, history, stateAfterAll}
-use Rattle.green.specs.Demand.{InTime, NoJobIsLate}
+use Rattle.green.specs.Demand.{NoJobIsLateTo, NoJobIsLate, Bounded}
 use Rattle.green.proofs.Sheets.{rowsOf, ranges, safe}
 use Rattle.green.proofs.Soundness.{within-bound}
 use Rattle.green.proofs.Slots.{momentOf}
@@ -41,27 +44,45 @@ module _ (h : Sheet) (fine : legal h ≡ true) where
       ap (λ (t : State). recordAt t k) fresh-is
       ∙ upto-below (h .count) (freshAt h) (replicate mostRows noRecord) noRecord k l (omega (arith, legal-is h fine .most-rows, length-replicate mostRows noRecord))
 
-  fresh-leads : Reached (rowsOf h) (momentOf (freshOf h))
-  fresh-leads = model.fresh (λ i l. (ap (λ (s : RowState). s .remaining) (fresh-record i l), ap (λ (s : RowState). s .since) (fresh-record i l)))
+  module _ (n : ℕ) (up : Bounded h n) where
+    fresh-leads : Reached (rowsOf h n) (momentOf (freshOf h))
+    fresh-leads =
+        model.fresh (λ i l.
+        let e = fresh-record i (omega (arith, up .within)) in
+        (ap (λ (s : RowState). s .remaining) e, ap (λ (s : RowState). s .since) e))
 
-  module _ (all : holds passes h ≡ true) where
-    -- demand 3
-    pub no-job-is-late : NoJobIsLate h
-    no-job-is-late calls = chain-in-time h (legal-is h fine) all (history h (freshOf h) calls) (freshOf h) (stateAfterAll h (freshOf h) calls) (history-chain h (freshOf h) calls) fresh-leads
+    -- demand 3 of the first n rows
+    pub no-job-is-late-to : NoJobIsLateTo n h
+    no-job-is-late-to calls =
+        chain-in-time h (legal-is h fine) n up (history h (freshOf h) calls) (freshOf h) (stateAfterAll h (freshOf h) calls) (history-chain h (freshOf h) calls) fresh-leads
 
     -- in every state that calls lead to, what remains of a job and the slots since its release make its bound at most
-    pub within-its-bound : (calls : List Call) (k : ℕ) → k < h .count → 1 ≤ recordAt (stateAfterAll h (freshOf h) calls) k .remaining
+    pub within-its-bound : (calls : List Call) (k : ℕ) → k < n → 1 ≤ recordAt (stateAfterAll h (freshOf h) calls) k .remaining
         → recordAt (stateAfterAll h (freshOf h) calls) k .since + recordAt (stateAfterAll h (freshOf h) calls) k .remaining ≤ valueOf (resultOf passes h k) .0
     within-its-bound calls k l x =
-        within-bound (rowsOf h) (ranges h (legal-is h fine) all) (safe h (legal-is h fine) all)
-        (chain-leads h (legal-is h fine) all (history h (freshOf h) calls) (freshOf h) (stateAfterAll h (freshOf h) calls) (history-chain h (freshOf h) calls) fresh-leads) k l x
+        within-bound (rowsOf h n) (ranges h (legal-is h fine) n up) (safe h (legal-is h fine) n up)
+        (chain-leads h (legal-is h fine) n up (history h (freshOf h) calls) (freshOf h) (stateAfterAll h (freshOf h) calls) (history-chain h (freshOf h) calls) fresh-leads) k l x
 
     -- so its margin is not negative
-    pub margin-is-not-negative : (calls : List Call) (k : ℕ) → k < h .count → 1 ≤ recordAt (stateAfterAll h (freshOf h) calls) k .remaining
-        → (n : ℕ) × (marginOf (rowAt h k) (recordAt (stateAfterAll h (freshOf h) calls) k) ≡ pos n)
+    pub margin-is-not-negative : (calls : List Call) (k : ℕ) → k < n → 1 ≤ recordAt (stateAfterAll h (freshOf h) calls) k .remaining
+        → (z : ℕ) × (marginOf (rowAt h k) (recordAt (stateAfterAll h (freshOf h) calls) k) ≡ pos z)
     unfolding marginOf
     margin-is-not-negative calls k l x =
         let s : RowState = recordAt (stateAfterAll h (freshOf h) calls) k in
         let D : ℕ = rowAt h k .deadline in
-        let late : s .since + s .remaining ≤ D = omega (arith, within-its-bound calls k l x, ranges h (legal-is h fine) all k l .high) in
+        let late : s .since + s .remaining ≤ D = omega (arith, within-its-bound calls k l x, ranges h (legal-is h fine) n up k l .high) in
         (D - (s .since + s .remaining), less-twice D (s .since) (s .remaining) ∙ simp (le-ltb D (s .since + s .remaining) late))
+
+  -- a sheet that holds: all its rows have bounds
+  pub all-bounded : holds passes h ≡ true → Bounded h (h .count)
+  unfolding holds
+  all-bounded all = record { within = omega arith; all = all }
+
+  -- demand 3
+  pub no-job-is-late : holds passes h ≡ true → NoJobIsLate h
+  no-job-is-late all = no-job-is-late-to (h .count) (all-bounded all)
+
+  -- a row that has a bound: so have those above it, and no job of these or of itself is late, whatever stands below
+  pub no-job-above-is-late : (k : ℕ) → k < h .count → isBound (resultOf passes h k) ≡ true → NoJobIsLateTo (k + 1) h
+  no-job-above-is-late k l b =
+      no-job-is-late-to (k + 1) (record { within = omega arith; all = sym (bound-all passes passes-local h k) ∙ b })

@@ -1,19 +1,20 @@
 -- Wrong tests are unsound: the sheet of two rows (1,1,1,1) on one processor holds by each of them, and its second row misses its deadline.
 -- Assumes nothing.
-use Prim.Native.Nat.{ℕ}
 use mathlib.Core.Path.{_≡_, refl}
-use mathlib.Core.Bool.{Bool, true, false}
-use mathlib.Core.List.{List, [], _∷_}
+use mathlib.Core.Bool.{true, false}
 use Rattle.basis.specs.Words.{allOf, sum}
 use Rattle.basis.specs.Refusals.{firstOf}
 use Rattle.basis.specs.Upto.{upto}
 use Rattle.sheet.specs.Legal.{legal, legalAt, legalRow}
 use Rattle.bound.specs.Test.{passes, amounts, amountOf, durationOf, room, q, X, x, W}
 use Rattle.bound.specs.Bound.{holds, resultOf, resultsTo, judge, boundBy, least}
-use Rattle.machine.specs.States.{freshState, legalState, legalRecord, isZero}
+use Rattle.machine.specs.States.{freshState, legalState}
+use Rattle.records.specs.Records.{legalRecord, isZero}
 use Rattle.machine.specs.States as states
-use Rattle.machine.specs.Slot.{released, fits, freeBelow, freeAt, worked, older, aged, missed, ended, codeOf}
-use Rattle.machine.specs.Checks.{checkRow, checkReleases, checkState, checkRoom, checkSlot, checkRun}
+use Rattle.records.specs.Steps.{released, fits, freeBelow, worked, older, aged, missed, ended, codeOf}
+use Rattle.machine.specs.Slot.{freeAt}
+use Rattle.records.specs.Checks.{checkRow}
+use Rattle.machine.specs.Checks.{checkReleases, checkState, checkRoom, checkSlot, checkRun}
 use Rattle.machine.specs.Answers.{fresh, given, nextState, nextCodes, slot, slotAt, onward, course, run}
 use Rattle.green.specs.Calls.{freshOf, runDone, history}
 use Rattle.green.specs.Demand.{codeIn}

@@ -10,8 +10,10 @@ use Rattle.basis.proofs.Upto.{upto-below}
 use Rattle.basis.proofs.Refusals.{handed-outcome}
 use Rattle.sheet.specs.declared.row.Sheet.{Sheet}
 use Rattle.machine.specs.declared.state.State.{State}
-use Rattle.machine.specs.States.{noRecord, recordAt}
-use Rattle.machine.specs.Slot.{released, freeAt, ended, Given, begun, free, runs, reached, next, code}
+use Rattle.records.specs.Records.{noRecord}
+use Rattle.machine.specs.States.{recordAt}
+use Rattle.records.specs.Steps.{released, ended}
+use Rattle.machine.specs.Slot.{freeAt, Given, begun, free, runs, reached, next, code}
 use Rattle.machine.specs.Checks.{checkSlot}
 use Rattle.machine.specs.Answers.{given, nextState, nextCodes, slot}
 use Rattle.machine.proofs.Answered.{slot-shows}

@@ -19,11 +19,13 @@ use Rattle.sheet.specs.Legal.{noRow, rowAt, legalRow, legal}
 use Rattle.sheet.specs.Legal as sheets
 use Rattle.sheet.specs.declared.row.Row.{Row}
 use Rattle.sheet.specs.declared.row.Sheet.{Sheet}
-use Rattle.machine.specs.declared.state.RowState.{RowState}
+use Rattle.records.specs.declared.record.RowState.{RowState}
 use Rattle.machine.specs.declared.state.State.{State}
-use Rattle.machine.specs.States.{noRecord, noState, recordAt, stateOf, freshAt, freshState, legalAt, legalRecord, legalState}
+use Rattle.records.specs.Records.{noRecord, legalRecord}
+use Rattle.machine.specs.States.{noState, recordAt, stateOf, freshAt, freshState, legalAt, legalState}
 use Rattle.machine.specs.Slot.{next, code}
-use Rattle.machine.specs.Checks.{checkRow, checkAt, checkReleases, checkState, checkRoom, checkSlot, checkRun, checkMargin}
+use Rattle.records.specs.Checks.{checkRow}
+use Rattle.machine.specs.Checks.{checkAt, checkReleases, checkState, checkRoom, checkSlot, checkRun, checkMargin}
 use Rattle.machine.specs.Answers.{fresh, given, nextState, nextCodes, slot, entriesOf, behind, slotAt, Course, followed, onward, course, notBegun, run, runBy, Told, marginAt, marginBy, margin}
 use Rattle.machine.proofs.Agree.{AgreeTo, next-agrees, code-agrees}
 use Rattle.basis.proofs.Upto.{upto-agree}

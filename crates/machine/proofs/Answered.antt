@@ -10,7 +10,7 @@ use native.Mathlib.Omega.{arith}
 use native.Mathlib.Nat.{div-add-mod'}
 use borrow.Author.Tests.{leb-true, eqb-true}
 use Rattle.basis.specs.Limits.{mostRows}
-use Rattle.basis.specs.Refusals.{Outcome, accepted, refused, outcome, needed, handed}
+use Rattle.basis.specs.Refusals.{accepted, refused, outcome, needed, Outcome, handed}
 use Rattle.basis.specs.declared.refusal.Refusal.{Refusal}
 use Rattle.basis.specs.declared.refusal.Refusal.the-variants.{Accepted, Refused}
 use Rattle.basis.proofs.First.{both-accepted}
@@ -21,7 +21,6 @@ use Rattle.machine.specs.declared.state.State.{State}
 use Rattle.machine.specs.States.{legalState}
 use Rattle.machine.specs.Checks.{checkReleases, checkState, checkRoom, checkSlot, checkRun}
 use Rattle.machine.specs.Answers.{nextState, nextCodes, slot, notBegun, course, run, Course}
-use Rattle.machine.specs.Lent.{slottedIn}
 use Rattle.machine.proofs.Checked.{Ready, ready}
 
 -- what an accepted slot's checks have shown
@@ -67,14 +66,14 @@ module _ (h : Sheet) (t : State) (rel cs : List ℕ) (c : Refusal) (e : outcome 
     unfolding slot
     slot-is-accepted u ds eu ed = rw (sym e ∙ ap outcome f, eu, ed)
 
--- a lent slot that is refused leaves all as found: the state, and every code
+-- a slot that is refused leaves all as found: the state, and every code
 handed-refused : {A : Type 0} (o : Outcome) (x y : A) (a b : ℕ) → handed o x y .0 ≡ refused a b → handed o x y .1 ≡ y
 handed-refused accepted x y a b e = let z : _≡_ {A = ℕ} 0 1 = cc in absurd (omega arith)
 handed-refused (refused c d) x y a b e = refl
 
-pub refused-leaves-all-as-found : (h : Sheet) (t : State) (rel cs : List ℕ) (a b : ℕ) (u : State) (ds : List ℕ) → slottedIn (Refused a b) u ds ≡ slot h t rel cs → (u ≡ t) × (ds ≡ cs)
+pub refused-as-found : (h : Sheet) (t : State) (rel cs : List ℕ) (a b : ℕ) (u : State) (ds : List ℕ) → (refused a b, (u, ds)) ≡ slot h t rel cs → (u ≡ t) × (ds ≡ cs)
 unfolding slot
-refused-leaves-all-as-found h t rel cs a b u ds e =
+refused-as-found h t rel cs a b u ds e =
     let as-found = handed-refused (checkSlot h t rel (length cs)) (nextState h t rel, nextCodes h t rel cs) (t, cs) a b (sym (ap (λ (x : Outcome × (State × List ℕ)). x .0) e)) in
     (ap (λ (x : Outcome × (State × List ℕ)). x .1 .0) e ∙ ap (λ (x : State × List ℕ). x .0) as-found, ap (λ (x : Outcome × (State × List ℕ)). x .1 .1) e ∙ ap (λ (x : State × List ℕ). x .1) as-found)
 

@@ -19,8 +19,9 @@ use Rattle.sheet.proofs.Legality.{legal-is}
 use Rattle.sheet.specs.Lists.{filled, clearedCell}
 use Rattle.sheet.proofs.Clearing.{cleared-is-filled}
 use Rattle.sheet.proofs.Filling.{length-filled}
-use Rattle.machine.specs.declared.state.RowState.{RowState}
-use Rattle.machine.specs.States.{noRecord, noState, recordAt, freshAt, freshState}
+use Rattle.records.specs.declared.record.RowState.{RowState}
+use Rattle.records.specs.Records.{noRecord}
+use Rattle.machine.specs.States.{noState, recordAt, freshAt, freshState}
 use Rattle.machine.specs.Answers.{fresh}
 use Rattle.machine.specs.Lists.{recordWide, stateLong, putRecord, putTo, putState, cleared, freshOn}
 use Rattle.machine.proofs.Stored.{put-more, put-agree}

@@ -13,14 +13,15 @@ use Rattle.basis.specs.Refusals.{accepted}
 use Rattle.sheet.specs.Legal.{rowAt}
 use Rattle.sheet.specs.declared.row.Row.{Row}
 use Rattle.sheet.specs.declared.row.Sheet.{Sheet}
-use Rattle.machine.specs.declared.state.RowState.{RowState}
+use Rattle.records.specs.declared.record.RowState.{RowState}
 use Rattle.machine.specs.declared.state.State.{State}
 use Rattle.machine.specs.States.{recordAt}
-use Rattle.machine.specs.Slot.{worked, runs}
+use Rattle.records.specs.Steps.{worked}
+use Rattle.machine.specs.Slot.{runs}
 use Rattle.machine.specs.Answers.{given, slot, marginOf}
 use Rattle.machine.proofs.Jobs.{JobSlot, job-slot, job-finished, job-missed, job-left, job-older}
 use Rattle.machine.proofs.Ranges.{negative-late, zero-just}
-use Rattle.machine.proofs.Records.{worked-least, worked-one, worked-none}
+use Rattle.records.proofs.Records.{worked-least, worked-one, worked-none}
 
 -- n accepted slots one after another, with any releases and any room for codes
 pub record Continuation (h : Sheet) (n : ℕ) : Type 0 where

@@ -24,9 +24,10 @@ use Rattle.sheet.specs.declared.row.Sheet.{Sheet}
 use Rattle.sheet.proofs.Legality.{legal-is}
 use Rattle.sheet.specs.Lists.{numberAt}
 use Rattle.sheet.proofs.Ranges.{not-so}
-use Rattle.machine.specs.declared.state.RowState.{RowState}
+use Rattle.records.specs.declared.record.RowState.{RowState}
 use Rattle.machine.specs.declared.state.State.{State}
-use Rattle.machine.specs.States.{noRecord, stateOf, recordAt, isZero, legalRecord, legalState}
+use Rattle.records.specs.Records.{noRecord, isZero, legalRecord}
+use Rattle.machine.specs.States.{stateOf, recordAt, legalState}
 use Rattle.machine.specs.Lists.{recordWide, recordIn, stateLong, zeroAt, zeroFrom, spareIsZero, stateIn, putTo, putState}
 use Rattle.machine.proofs.Legals.{legal-record-is, legal-record-says, legal-state-is, legal-state-says}
 use Rattle.machine.proofs.Stored.{record-in-state, record-of-none, length-put-to, put-past, put-agree, put-own, state-rows-long, state-put}

@@ -13,16 +13,18 @@ use Rattle.sheet.specs.Legal.{rowAt}
 use Rattle.sheet.specs.declared.row.Row.{Row}
 use Rattle.sheet.specs.declared.row.Sheet.{Sheet}
 use Rattle.sheet.proofs.Legality.{legal-is}
-use Rattle.machine.specs.declared.state.RowState.{RowState}
+use Rattle.records.specs.declared.record.RowState.{RowState}
 use Rattle.machine.specs.declared.state.State.{State}
 use Rattle.machine.specs.States.{recordAt}
-use Rattle.machine.specs.Slot.{released, worked, aged, missed, ended, codeOf, begun, runs}
-use Rattle.machine.specs.Checks.{checkRow, checkAt, checkReleases}
+use Rattle.records.specs.Steps.{released, worked, aged, missed, ended, codeOf}
+use Rattle.machine.specs.Slot.{begun, runs}
+use Rattle.records.specs.Checks.{checkRow}
+use Rattle.machine.specs.Checks.{checkAt, checkReleases}
 use Rattle.machine.specs.Answers.{given, slot}
 use Rattle.machine.proofs.Agree.{slot-passed, record-after, code-after}
 use Rattle.machine.proofs.Answered.{slot-shows}
 use Rattle.machine.proofs.Legals.{legal-state-is}
-use Rattle.machine.proofs.Records.{released-none, release-allowed, older-below, ended-else, ended-since}
+use Rattle.records.proofs.Records.{released-none, release-allowed, older-below, ended-else, ended-since}
 
 -- one slot of a row, by whether it ran: its code, and its record
 module _ (row : Row) (ran : Bool) (s : RowState) (young : s .since < row .separation) (job : 1 ≤ s .remaining) where

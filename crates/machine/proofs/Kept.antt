@@ -16,14 +16,17 @@ use Rattle.basis.proofs.Upto.{upto-below, upto-past}
 use Rattle.sheet.specs.Legal.{rowAt, Legal, LegalRow}
 use Rattle.sheet.specs.declared.row.Row.{Row}
 use Rattle.sheet.specs.declared.row.Sheet.{Sheet}
-use Rattle.machine.specs.declared.state.RowState.{RowState}
+use Rattle.records.specs.declared.record.RowState.{RowState}
 use Rattle.machine.specs.declared.state.State.{State}
-use Rattle.machine.specs.States.{noRecord, recordAt, freshAt, freshState, isZero}
-use Rattle.machine.specs.Slot.{released, worked, aged, ended, begun, runs, next}
-use Rattle.machine.specs.Checks.{checkRow, checkAt, checkReleases}
+use Rattle.records.specs.Records.{noRecord, isZero}
+use Rattle.machine.specs.States.{recordAt, freshAt, freshState}
+use Rattle.records.specs.Steps.{released, worked, aged, ended}
+use Rattle.machine.specs.Slot.{begun, runs, next}
+use Rattle.records.specs.Checks.{checkRow}
+use Rattle.machine.specs.Checks.{checkAt, checkReleases}
 use Rattle.machine.specs.Answers.{given, nextState}
 use Rattle.machine.proofs.Legals.{LegalRecord, LegalState, legal-state-long}
-use Rattle.machine.proofs.Records.{released-none, released-some, release-allowed, worked-most, worked-since, older-below, older-some, older-most, ended-at, ended-else, ended-since, same-or-not}
+use Rattle.records.proofs.Records.{released-none, released-some, release-allowed, worked-most, worked-since, older-below, older-some, older-most, ended-at, ended-else, ended-since, same-or-not}
 
 -- a record after step 1
 record BegunRecord (row : Row) (s : RowState) : Type 0 where

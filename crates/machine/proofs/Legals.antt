@@ -14,9 +14,10 @@ use Rattle.basis.proofs.Words.{both-left, both-right, both-true, at-least, at-m
 use Rattle.sheet.specs.Legal.{rowAt}
 use Rattle.sheet.specs.declared.row.Row.{Row}
 use Rattle.sheet.specs.declared.row.Sheet.{Sheet}
-use Rattle.machine.specs.declared.state.RowState.{RowState}
+use Rattle.records.specs.declared.record.RowState.{RowState}
 use Rattle.machine.specs.declared.state.State.{State}
-use Rattle.machine.specs.States.{noRecord, recordAt, hasJob, legalRecord, isZero, legalAt, legalState}
+use Rattle.records.specs.Records.{noRecord, hasJob, legalRecord, isZero}
+use Rattle.machine.specs.States.{recordAt, legalAt, legalState}
 
 -- a record that is legal for its row
 pub record LegalRecord (row : Row) (s : RowState) : Type 0 where

@@ -3,9 +3,7 @@ pub mod Alike
 pub mod Answered
 pub mod Cases
 pub mod Begins
-pub mod Boxed
 pub mod Checked
-pub mod Codes
 pub mod Courses
 pub mod Deadlines
 pub mod Differences
@@ -16,15 +14,14 @@ pub mod Jobs
 pub mod Kept
 pub mod Laws
 pub mod Legals
-pub mod Lending
 pub mod Listed
 pub mod Lists
 pub mod Moves
 pub mod Placement
 pub mod Ranges
-pub mod Records
 pub mod Same
 pub mod Stored
 pub mod Told
 pub mod Turns
 pub mod Whole
+pub mod Wrong

@@ -12,10 +12,12 @@ use Rattle.basis.specs.Refusals.{Outcome, accepted, refused, isAccepted, orElse
 use Rattle.sheet.specs.Legal.{rowAt, legal}
 use Rattle.sheet.specs.declared.row.Row.{Row}
 use Rattle.sheet.specs.declared.row.Sheet.{Sheet}
-use Rattle.machine.specs.declared.state.RowState.{RowState}
+use Rattle.records.specs.declared.record.RowState.{RowState}
 use Rattle.machine.specs.declared.state.State.{State}
-use Rattle.machine.specs.States.{recordAt, hasJob, legalState}
-use Rattle.machine.specs.Checks.{checkRow, checkAt, checkReleases, checkState, checkRoom, checkSlot, checkRun, checkMargin}
+use Rattle.machine.specs.States.{recordAt, legalState}
+use Rattle.records.specs.Records.{hasJob}
+use Rattle.records.specs.Checks.{checkRow}
+use Rattle.machine.specs.Checks.{checkAt, checkReleases, checkState, checkRoom, checkSlot, checkRun, checkMargin}
 use Rattle.machine.specs.Answers.{fresh, slot, entriesOf, slotAt, Course, followed, onward, course, notBegun, runBy, run, no-job, margin-is, refused-by, marginOf, marginAt, marginBy, margin}
 use Rattle.machine.proofs.Agree.{slot-outcome}
 

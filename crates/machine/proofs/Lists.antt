@@ -15,10 +15,11 @@ use Rattle.basis.proofs.Upto.{upto-set, upto-below, length-upto}
 use Rattle.sheet.specs.declared.row.Sheet.{Sheet}
 use Rattle.sheet.specs.Lists.{filled, sheetIn, sheetCell, sheetLong}
 use Rattle.sheet.proofs.Back.{whole-sheet-comes-back}
-use Rattle.machine.specs.declared.state.RowState.{RowState}
+use Rattle.records.specs.declared.record.RowState.{RowState}
 use Rattle.machine.specs.declared.state.State.{State}
 use Rattle.machine.specs.declared.places.Done.{Done}
-use Rattle.machine.specs.States.{noRecord, noState, stateOf, recordAt}
+use Rattle.records.specs.Records.{noRecord}
+use Rattle.machine.specs.States.{noState, stateOf, recordAt}
 use Rattle.machine.specs.Lists.{recordIn, stateLong, stateIn, putRecord, putTo, freshOn, runIn, ranIn, courseIn}
 use Rattle.machine.proofs.Stored.{put-more, state-put, spare-of-full, state-rows-long}
 use Rattle.machine.specs.Checks.{checkSlot, checkRun}

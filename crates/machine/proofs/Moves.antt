@@ -21,19 +21,20 @@ use Rattle.sheet.specs.Legal.{rowAt, legal}
 use Rattle.sheet.specs.declared.row.Row.{Row}
 use Rattle.sheet.specs.declared.row.Sheet.{Sheet}
 use Rattle.sheet.proofs.Legality.{legal-is}
-use Rattle.machine.specs.declared.state.RowState.{RowState}
+use Rattle.records.specs.declared.record.RowState.{RowState}
 use Rattle.machine.specs.declared.state.State.{State}
-use Rattle.machine.specs.declared.steps.Placed.{Placed}
+use Rattle.records.specs.declared.steps.Placed.{Placed}
 use Rattle.machine.specs.declared.places.Done.{Done}
 use Rattle.machine.specs.States.{stateOf, recordAt, legalState}
 use Rattle.machine.specs.Slot.{freeAt, free, next, code}
-use Rattle.machine.specs.Checks.{checkRow, checkAt, checkReleases, checkState, checkSlot, checkRun}
+use Rattle.records.specs.Checks.{checkRow}
+use Rattle.machine.specs.Checks.{checkAt, checkReleases, checkState, checkSlot, checkRun}
 use Rattle.machine.specs.Answers.{given, nextState, nextCodes, slot, entriesOf, slotAt, Course, followed, onward, course, notBegun}
-use Rattle.machine.specs.Methods.{begunRow, steppedRow}
+use Rattle.records.specs.Methods.{begunRow, steppedRow}
 use Rattle.machine.specs.Lists.{recordIn, stateIn, putRecord, putTo, putState, slotListed, slotIn, runListed, runIn, ranIn, courseIn}
 use Rattle.machine.proofs.Turns.{check-more, check-found}
 use Rattle.machine.proofs.Checked.{ready}
-use Rattle.machine.proofs.Answered.{Accepted-slot, slot-shows, slot-is-refused, slot-is-accepted, refused-leaves-all-as-found, run-sheet, run-state, run-is-refused, run-is-done}
+use Rattle.machine.proofs.Answered.{Accepted-slot, slot-shows, slot-is-refused, slot-is-accepted, refused-as-found, run-sheet, run-state, run-is-refused, run-is-done}
 use Rattle.machine.proofs.Courses.{part-holds, rest-holds, slot-at-accepted}
 use Rattle.machine.proofs.Kept.{next-at, next-legal}
 use Rattle.machine.proofs.Legals.{legal-state-is, legal-state-says}
@@ -205,7 +206,7 @@ module _ (h : Sheet) (l rel cs : List ℕ) (c : Refusal) (e : outcome c ≡ chec
 slot-kept : (h : Sheet) (t : State) (rel cs : List ℕ) (j a b : ℕ) (u : State) (ds : List ℕ) → slotAt h t rel cs j ≡ (refused a b, (u, ds)) → u ≡ t
 unfolding slotAt
 slot-kept h t rel cs j a b u ds e =
-    refused-leaves-all-as-found h t (entriesOf (h .count) j rel) (drop (j * h .count) cs) a b u (slot h t (entriesOf (h .count) j rel) (drop (j * h .count) cs) .1 .1)
+    refused-as-found h t (entriesOf (h .count) j rel) (drop (j * h .count) cs) a b u (slot h t (entriesOf (h .count) j rel) (drop (j * h .count) cs) .1 .1)
     (λ i. (sym e i .0, (sym e i .1 .0, slot h t (entriesOf (h .count) j rel) (drop (j * h .count) cs) .1 .1))) .0
 
 pub course-none : (h : Sheet) (rel : List ℕ) (t : State) (cs : List ℕ) (j : ℕ) → course h rel (notBegun accepted t cs) j .done ≡ 0 → course h rel (notBegun accepted t cs) j .state ≡ t

@@ -9,9 +9,10 @@ use native.Mathlib.Omega.{arith}
 use Rattle.basis.specs.Words.{pick, sum}
 use Rattle.basis.proofs.Words.{both-right}
 use Rattle.sheet.specs.declared.row.Row.{Row}
-use Rattle.machine.specs.declared.state.RowState.{RowState}
-use Rattle.machine.specs.States.{hasJob}
-use Rattle.machine.specs.Slot.{fits, freeBelow, freeAt, Given, begun, free, runs}
+use Rattle.records.specs.declared.record.RowState.{RowState}
+use Rattle.records.specs.Records.{hasJob}
+use Rattle.records.specs.Steps.{fits, freeBelow}
+use Rattle.machine.specs.Slot.{freeAt, Given, begun, free, runs}
 
 pub free-agrees : (m : ℕ) (p q : ℕ → Row) (a b : ℕ → RowState) (k : ℕ) → ((i : ℕ) → i < k → p i ≡ q i) → ((i : ℕ) → i < k → a i ≡ b i) → freeAt m p a k ≡ freeAt m q b k
 unfolding freeAt

@@ -16,8 +16,8 @@ use Rattle.machine.specs.declared.runs.Ran.{Ran}
 use Rattle.machine.specs.declared.places.Done.{Done}
 use Rattle.machine.specs.declared.margins.Margin.{Margin}
 use Rattle.machine.specs.declared.margins.Margin.the-variants.{NoJob, Is, Refused}
-use Rattle.machine.specs.Lent.{slottedIn}
 use Rattle.machine.specs.Lists.{stateIn, freshOn, slotIn, runIn, ranIn}
+use Rattle.machine.specs.Checks.{checkRun}
 use Rattle.machine.specs.Answers.{started, fresh, slotted, slot, Course, ran, run, told, margin}
 
 -- `fresh`
@@ -61,18 +61,6 @@ pub slot-on-same : (sheet list rel before : List ℕ) (a b : Refusal) (l m cs ds
     → (outcome a, (l, cs)) ≡ slotIn (sheetIn sheet) list rel before → (outcome b, (m, ds)) ≡ slotIn (sheetIn sheet) list rel before → (a ≡ b) × (l ≡ m) × (cs ≡ ds)
 slot-on-same sheet list rel before a b l m cs ds e f = listed-one-to-one a b l m cs ds (e ∙ sym f)
 
--- `slot_in`: the refusal, the lent state and the code buffer after it
-pub slotted-in-one-to-one : (a b : Refusal) (t u : State) (cs ds : List ℕ) → slottedIn a t cs ≡ slottedIn b u ds → (a ≡ b) × (t ≡ u) × (cs ≡ ds)
-slotted-in-one-to-one a b t u cs ds e = (
-  outcome-one-to-one a b (ap (λ (x : Outcome × (State × List ℕ)). x .0) e),
-  ap (λ (x : Outcome × (State × List ℕ)). x .1 .0) e,
-  ap (λ (x : Outcome × (State × List ℕ)). x .1 .1) e,
-)
-
-pub slot-in-same : (h : Sheet) (t : State) (rel before : List ℕ) (a b : Refusal) (t₁ t₂ : State) (cs ds : List ℕ)
-    → slottedIn a t₁ cs ≡ slot h t rel before → slottedIn b t₂ ds ≡ slot h t rel before → (a ≡ b) × (t₁ ≡ t₂) × (cs ≡ ds)
-slot-in-same h t rel before a b t₁ t₂ cs ds e f = slotted-in-one-to-one a b t₁ t₂ cs ds (e ∙ sym f)
-
 -- `run`: the answer, and the code buffer after it
 pub ran-one-to-one : (a b : Ran) (cs ds : List ℕ) → ran a cs ≡ ran b ds → (a ≡ b) × (cs ≡ ds)
 ran-one-to-one a b cs ds e =
@@ -101,10 +89,9 @@ run-on-same sheet list rel before a b l m cs ds e f =
       ap (λ (x : (ℕ × Outcome) × (List ℕ × List ℕ)). x .1 .1) same,
     )
 
--- `box_run`: the answer, and the code buffer after it
-pub box-run-same : (h : Sheet) (rel before : List ℕ) (a b : Ran) (cs ds : List ℕ)
-    → ran a cs ≡ run h (fresh h .1) rel before → ran b ds ≡ run h (fresh h .1) rel before → (a ≡ b) × (cs ≡ ds)
-box-run-same h rel before a b cs ds e f = run-same h (fresh h .1) rel before a b cs ds e f
+-- `check_run`
+pub check-run-same : (h : Sheet) (t : State) (rel : List ℕ) (room : ℕ) (a b : Refusal) → outcome a ≡ checkRun h t rel room → outcome b ≡ checkRun h t rel room → a ≡ b
+check-run-same h t rel room a b e f = outcome-one-to-one a b (e ∙ sym f)
 
 -- `margin`
 pub told-one-to-one : (a b : Margin) → told a ≡ told b → a ≡ b

@@ -18,8 +18,9 @@ use Rattle.basis.proofs.Upto.{upto-below, upto-past, length-upto}
 use Rattle.basis.proofs.Lists.{getD-all}
 use Rattle.sheet.specs.Lists.{numberAt}
 use Rattle.sheet.proofs.Filling.{filled-read}
-use Rattle.machine.specs.declared.state.RowState.{RowState}
-use Rattle.machine.specs.States.{noRecord, noState, stateOf, recordAt}
+use Rattle.records.specs.declared.record.RowState.{RowState}
+use Rattle.records.specs.Records.{noRecord}
+use Rattle.machine.specs.States.{noState, stateOf, recordAt}
 use Rattle.machine.specs.Lists.{recordWide, recordIn, stateLong, zeroAt, zeroFrom, spareIsZero, stateIn, putRecord, putTo, cleared}
 
 -- `record_in`

@@ -21,7 +21,7 @@ use Rattle.sheet.specs.Legal.{rowAt, legal, LegalRow}
 use Rattle.sheet.specs.declared.row.Row.{Row}
 use Rattle.sheet.specs.declared.row.Sheet.{Sheet}
 use Rattle.sheet.proofs.Legality.{legal-is}
-use Rattle.machine.specs.declared.state.RowState.{RowState}
+use Rattle.records.specs.declared.record.RowState.{RowState}
 use Rattle.machine.specs.declared.state.State.{State}
 use Rattle.machine.specs.States.{recordAt, legalState}
 use Rattle.machine.specs.Checks.{checkState, checkMargin}

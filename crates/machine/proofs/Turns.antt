@@ -14,14 +14,18 @@ use Rattle.basis.proofs.First.{first-more, first-found}
 use Rattle.basis.proofs.Upto.{upto-read, upto-set}
 use Rattle.sheet.specs.Legal.{rowAt}
 use Rattle.sheet.specs.declared.row.Sheet.{Sheet}
-use Rattle.machine.specs.declared.state.RowState.{RowState}
+use Rattle.records.specs.declared.record.RowState.{RowState}
 use Rattle.machine.specs.declared.state.State.{State}
-use Rattle.machine.specs.declared.steps.Placed.{Placed}
-use Rattle.machine.specs.declared.steps.Aged.{Aged}
-use Rattle.machine.specs.States.{noRecord, stateOf, recordAt}
-use Rattle.machine.specs.Slot.{released, freeAt}
-use Rattle.machine.specs.Checks.{checkRow, checkAt, checkReleases}
-use Rattle.machine.specs.Methods.{releasedAt, releasedState, placedRow, placedAt, placedRecord, placedCode, placedState, placedCodes, agedRow, agedAt, agedRecord, agedCode, agedState, agedCodes}
+use Rattle.records.specs.declared.steps.Placed.{Placed}
+use Rattle.records.specs.declared.steps.Aged.{Aged}
+use Rattle.records.specs.Records.{noRecord}
+use Rattle.machine.specs.States.{stateOf, recordAt}
+use Rattle.records.specs.Steps.{released}
+use Rattle.machine.specs.Slot.{freeAt}
+use Rattle.records.specs.Checks.{checkRow}
+use Rattle.machine.specs.Checks.{checkAt, checkReleases}
+use Rattle.machine.specs.Methods.{releasedAt, releasedState, placedAt, placedRecord, placedCode, placedState, placedCodes, agedAt, agedRecord, agedCode, agedState, agedCodes}
+use Rattle.records.specs.Methods.{placedRow, agedRow}
 
 -- `check_releases`
 module _ (h : Sheet) (t : State) (rel : List ℕ) (i : ℕ) (so-far : firstOf i (checkAt h t rel) ≡ accepted) where

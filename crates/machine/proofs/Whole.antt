@@ -1,57 +1,27 @@
--- Releases, placement and ageing are the slot: of one row, and of all rows one step after another.
+-- Releases, placement and ageing are the slot: of all rows one step after another.
 -- Assumes nothing.
 use Prim.Native.Nat.{ℕ, _≤_, _<_}
 use mathlib.Core.Path.{_≡_, refl, ap, ap₂, _∙_}
-use mathlib.Core.Bool.{Bool, true, false}
 use mathlib.Core.List.{List}
 use lib.ListN.{length, getD}
-use lib.Dec.{eqb}
 use native.Mathlib.Nat.{le-refl}
 use native.Mathlib.Omega.{arith}
 use Rattle.basis.specs.Limits.{mostRows}
-use Rattle.basis.specs.Words.{pick, both}
 use Rattle.basis.proofs.Upto.{length-upto, upto-below, upto-agree, upto-over}
 use Rattle.sheet.specs.Legal.{rowAt}
-use Rattle.sheet.specs.declared.row.Row.{Row}
 use Rattle.sheet.specs.declared.row.Sheet.{Sheet}
-use Rattle.machine.specs.declared.state.RowState.{RowState}
 use Rattle.machine.specs.declared.state.State.{State}
-use Rattle.machine.specs.declared.steps.Placed.{Placed}
-use Rattle.machine.specs.declared.steps.Aged.{Aged}
-use Rattle.machine.specs.States.{noRecord, stateOf, recordAt, hasJob}
-use Rattle.machine.specs.Slot.{released, fits, worked, older, aged, missed, codeOf, begun, free, runs, next, code}
+use Rattle.records.specs.declared.steps.Placed.{Placed}
+use Rattle.records.specs.declared.steps.Aged.{Aged}
+use Rattle.records.specs.Records.{noRecord}
+use Rattle.machine.specs.States.{stateOf, recordAt}
+use Rattle.records.specs.Steps.{worked}
+use Rattle.machine.specs.Slot.{begun, free, runs, next, code}
 use Rattle.machine.specs.Answers.{given, nextState, nextCodes}
-use Rattle.machine.specs.Methods.{releasedAt, releasedState, placedRow, placedAt, placedRecord, placedCode, placedState, placedCodes, judged, agedRow, agedAt, agedRecord, agedCode, agedState, agedCodes, begunRow, steppedRow}
+use Rattle.machine.specs.Methods.{releasedAt, releasedState, placedAt, placedRecord, placedCode, placedState, placedCodes, agedAt, agedRecord, agedCode, agedState, agedCodes}
+use Rattle.records.specs.Methods.{placedRow, agedRow}
+use Rattle.records.proofs.Stepped.{row-code}
 use Rattle.machine.proofs.Placement.{free-agrees}
-
--- the code that placing and then ageing give, by the tests that they make: j a job, r it ran, w something is left, d at the deadline
-code-by-tests : (j r w d : Bool)
-    → _≡_ {A = ℕ} (pick (eqb (pick j (pick r 2 1) 0) 0) 0 (pick w (pick d 4 (pick j (pick r 2 1) 0)) 3)) (pick j (pick w (pick (both w d) 4 (pick r 2 1)) 3) 0)
-code-by-tests true true true d = refl
-code-by-tests true true false d = refl
-code-by-tests true false true d = refl
-code-by-tests true false false d = refl
-code-by-tests false r w d = refl
-
-row-code : (free : ℕ) (row : Row) (s : RowState) → agedRow row (worked (fits free row s) s) (placedRow row s free .code) .code ≡ codeOf row (fits free row s) s (aged row (worked (fits free row s) s))
-unfolding agedRow judged placedRow codeOf missed aged
-row-code free row s =
-    code-by-tests (hasJob s) (fits free row s) (hasJob (worked (fits free row s) s)) (eqb (older (row .separation) (worked (fits free row s) s .since)) (row .deadline))
-
--- `stepped`
-module _ (row : Row) (s b : RowState) (release f : ℕ) (eb : b ≡ released release s) (p : Placed) (ep : p ≡ placedRow row b f) (a : Aged) (ea : a ≡ agedRow row (p .after) (p .code)) where
-  aged-is : a ≡ agedRow row (worked (fits f row b) b) (placedRow row b f .code)
-  unfolding placedRow
-  aged-is = ea ∙ ap (λ (x : Placed). agedRow row (x .after) (x .code)) ep
-
-  pub stepped-is : record { free = p .free; after = a .after; code = a .code } ≡ steppedRow row s release f
-  unfolding steppedRow begunRow placedRow agedRow
-  stepped-is =
-      let ef = ap (λ (x : Placed). x .free) ep in
-      let er = ap (λ (x : Aged). x .after) aged-is in
-      let ec = ap (λ (x : Aged). x .code) aged-is ∙ row-code f row b in
-      let so : record { free = p .free; after = a .after; code = a .code } ≡ begunRow row b f = λ i. record { free = ef i; after = er i; code = ec i } in
-      so ∙ ap (λ (x : RowState). begunRow row x f) eb
 
 -- after releases, after placement, and the codes so far
 abbrev begunState : Sheet → State → List ℕ → State

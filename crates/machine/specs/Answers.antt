@@ -9,14 +9,15 @@ use Rattle.basis.specs.Upto.{upto}
 use Rattle.sheet.specs.Legal.{rowAt, legal}
 use Rattle.sheet.specs.declared.row.Row.{Row}
 use Rattle.sheet.specs.declared.row.Sheet.{Sheet}
-use Rattle.machine.specs.declared.state.RowState.{RowState}
+use Rattle.records.specs.declared.record.RowState.{RowState}
 use Rattle.machine.specs.declared.state.State.{State}
 use Rattle.machine.specs.declared.start.Started.{Started}
 use Rattle.machine.specs.declared.slots.Slotted.{Slotted}
 use Rattle.machine.specs.declared.runs.Ran.{Ran}
 use Rattle.machine.specs.declared.margins.Margin.{Margin}
 use Rattle.machine.specs.declared.margins.Margin.the-variants as margin-variants
-use Rattle.machine.specs.States.{noState, freshState, stateOf, recordAt, hasJob}
+use Rattle.machine.specs.States.{noState, freshState, stateOf, recordAt}
+use Rattle.records.specs.Records.{hasJob}
 use Rattle.machine.specs.Slot.{Given, next, code}
 use Rattle.machine.specs.Checks.{checkSlot, checkRun, checkMargin}
 

@@ -4,21 +4,12 @@ use mathlib.Core.Bool.{Bool}
 use mathlib.Core.List.{List}
 use lib.ListN.{length, getD}
 use lib.Dec.{ltb, eqb}
-use Rattle.basis.specs.Words.{pick}
-use Rattle.basis.specs.Refusals.{Outcome, accepted, refused, orElse, firstOf, needed, roomFor}
+use Rattle.basis.specs.Refusals.{Outcome, orElse, firstOf, needed, roomFor}
 use Rattle.sheet.specs.Legal.{rowAt, legal}
-use Rattle.sheet.specs.declared.row.Row.{Row}
 use Rattle.sheet.specs.declared.row.Sheet.{Sheet}
-use Rattle.machine.specs.declared.state.RowState.{RowState}
+use Rattle.records.specs.Checks.{checkRow}
 use Rattle.machine.specs.declared.state.State.{State}
 use Rattle.machine.specs.States.{recordAt, legalState}
-
--- 12 for a release over C, then 13 for one that is too soon: since is below T.
-unfoldable pub checkRow : Row → RowState → ℕ → ℕ → Outcome
-checkRow row s release k =
-    pick (eqb release 0) accepted
-    (pick (ltb (row .budget) release) (refused 12 k)
-    (pick (ltb (s .since) (row .separation)) (refused 13 k) accepted))
 
 -- The check of row k's release.
 abbrev pub checkAt : Sheet → State → List ℕ → ℕ → Outcome

@@ -3,6 +3,6 @@ pub mod Slot
 pub mod Checks
 pub mod Answers
 pub mod Cases
-pub mod Lent
 pub mod Methods
 pub mod Lists
+pub mod Wrong

@@ -10,7 +10,7 @@ use Rattle.basis.specs.Refusals.{Outcome, outcome, orElse, roomFor, handed}
 use Rattle.basis.specs.Upto.{upto}
 use Rattle.sheet.specs.Lists.{numberAt, filled}
 use Rattle.sheet.specs.declared.row.Sheet.{Sheet}
-use Rattle.machine.specs.declared.state.RowState.{RowState}
+use Rattle.records.specs.declared.record.RowState.{RowState}
 use Rattle.machine.specs.declared.state.State.{State}
 use Rattle.machine.specs.declared.places.Done.{Done}
 use Rattle.machine.specs.States.{noState, stateOf, recordAt}

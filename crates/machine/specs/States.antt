@@ -1,21 +1,17 @@
 -- The state of a box: a record for each row, the fresh state, and the states that are legal for a sheet.
 use Prim.Native.Nat.{ℕ}
-use mathlib.Core.Bool.{Bool, true}
+use mathlib.Core.Bool.{Bool}
 use mathlib.Core.List.{List}
 use lib.ListN.{getD, replicate}
-use lib.Dec.{ltb, leb, eqb}
+use lib.Dec.{ltb}
 use Rattle.basis.specs.Limits.{mostRows}
-use Rattle.basis.specs.Words.{pick, both, within, allOf}
+use Rattle.basis.specs.Words.{pick, allOf}
 use Rattle.basis.specs.Upto.{upto}
 use Rattle.sheet.specs.Legal.{rowAt}
-use Rattle.sheet.specs.declared.row.Row.{Row}
 use Rattle.sheet.specs.declared.row.Sheet.{Sheet}
-use Rattle.machine.specs.declared.state.RowState.{RowState}
+use Rattle.records.specs.declared.record.RowState.{RowState}
+use Rattle.records.specs.Records.{noRecord, legalRecord, isZero}
 use Rattle.machine.specs.declared.state.State.{State}
-
--- A record that is all zero.
-abbrev pub noRecord : RowState
-noRecord = record { remaining = 0; since = 0 }
 
 -- The state of these records.
 abbrev pub stateOf : List RowState → State
@@ -29,10 +25,6 @@ recordAt t k = getD (t .rows) k noRecord
 abbrev pub noState : State
 noState = stateOf (replicate mostRows noRecord)
 
--- A row has a job where something remains.
-abbrev pub hasJob : RowState → Bool
-hasJob s = ltb 0 (s .remaining)
-
 -- Fresh: each row without a job, T slots since release.
 abbrev pub freshAt : Sheet → ℕ → RowState
 freshAt h k = record { remaining = 0; since = rowAt h k .separation }
@@ -40,16 +32,6 @@ freshAt h k = record { remaining = 0; since = rowAt h k .separation }
 -- The fresh state: each row is fresh, and the records past them are zero.
 unfoldable pub freshState : Sheet → State
 freshState h = stateOf (upto (h .count) (freshAt h) (replicate mostRows noRecord))
-
--- A record is legal for its row: since is 1..T; remaining is 0..C; where remaining is not 0, since is below D.
-unfoldable pub legalRecord : Row → RowState → Bool
-legalRecord row s =
-    both (within 1 (row .separation) (s .since))
-    (both (leb (s .remaining) (row .budget)) (pick (hasJob s) (ltb (s .since) (row .deadline)) true))
-
--- A record is all zero.
-unfoldable pub isZero : RowState → Bool
-isZero s = both (eqb (s .remaining) 0) (eqb (s .since) 0)
 
 -- Record k is legal for a sheet: for its row, and past row n it is zero.
 unfoldable pub legalAt : Sheet → State → ℕ → Bool

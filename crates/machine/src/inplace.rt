@@ -9,11 +9,11 @@ ghost use Rattle.sheet.specs.Legal.{rowAt, legal};
 ghost use Rattle.sheet.specs.Lists.{sheetIn, sheetLong};
 ghost use Rattle.machine.specs.States.{legalState};
 ghost use Rattle.machine.specs.Slot.{next};
-ghost use Rattle.machine.specs.Checks.{checkRow, checkReleases, checkState, checkSlot, checkRun};
+ghost use Rattle.records.specs.Checks.{checkRow};
+ghost use Rattle.machine.specs.Checks.{checkReleases, checkState, checkSlot, checkRun};
 ghost use Rattle.machine.specs.Answers.{given, nextCodes, slotAt, notBegun, course};
-ghost use Rattle.machine.specs.Methods.{steppedRow};
+ghost use Rattle.records.specs.Methods.{steppedRow};
 ghost use Rattle.machine.specs.Lists.{stateLong, recordIn, stateIn, putRecord, putTo, slotIn, runIn, ranIn, courseIn};
-use crate::checks::check_row;
 use crate::places::Done;
 use crate::places::is_legal_in;
 use crate::places::put_record;
@@ -21,8 +21,9 @@ use crate::places::record_in;
 use crate::sheets::processors_in;
 use crate::sheets::row_inside;
 use crate::sheets::rows_in;
-use crate::steps::Placed;
 use basis::Refusal;
+use records::Placed;
+use records::check_row;
 
 // Whether a row may be released for so many slots; a row without a release is not looked at.
 fn check_in(sheet: &[u64], list: &[u64], release: u64, place: usize) -> Refusal

@@ -1,7 +1,5 @@
 // The slot machine: its state, the fresh state, one slot, a run of slots, and the margin of a row.
-mod checks;
 mod inplace;
-mod lent;
 mod margins;
 mod places;
 mod runs;
@@ -13,8 +11,6 @@ mod steps;
 
 pub use inplace::run_on;
 pub use inplace::slot_on;
-pub use lent::box_run;
-pub use lent::slot_in;
 pub use margins::Margin;
 pub use margins::margin_on;
 pub use places::Done;
@@ -23,5 +19,4 @@ pub use slots::Slotted;
 pub use start::Started;
 pub use start::fresh;
 pub use start::fresh_on;
-pub use state::RowState;
 pub use state::State;

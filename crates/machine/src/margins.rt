@@ -13,9 +13,9 @@ use crate::places::state_list;
 use crate::sheets::listed;
 use crate::sheets::row_inside;
 use crate::sheets::rows_in;
-use crate::state::RowState;
 use crate::state::State;
 use basis::Refusal;
+use records::RowState;
 use sheet::Row;
 use sheet::Sheet;
 

@@ -7,13 +7,13 @@ ghost use Rattle.basis.specs.Limits.{mostRows};
 ghost use Rattle.sheet.specs.Legal.{legal};
 ghost use Rattle.sheet.specs.Lists.{sheetIn};
 ghost use Rattle.machine.specs.States.{noState, legalState};
-ghost use Rattle.machine.specs.Lists.{recordWide, recordIn, putRecord, stateLong, zeroFrom, stateIn};
+ghost use Rattle.machine.specs.Lists.{recordIn, putRecord, stateLong, zeroFrom, stateIn};
 use crate::sheets::row_inside;
-use crate::state::RowState;
 use crate::state::State;
-use crate::state::is_legal_record;
 use basis::MOST_ROWS;
 use basis::Refusal;
+use records::RowState;
+use records::is_legal_record;
 
 // The numbers of a record.
 pub const RECORD_WIDE: usize = 2;

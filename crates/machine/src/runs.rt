@@ -1,6 +1,9 @@
 // A run of slots.
 ghost use mathlib.Core.Path.{_≡_};
+ghost use Rattle.basis.specs.Refusals.{outcome};
+ghost use Rattle.machine.specs.Checks.{checkRun};
 ghost use Rattle.machine.specs.Answers.{ran, run};
+use crate::inplace::check_run_in;
 use crate::inplace::run_on;
 use crate::places::state_list;
 use crate::places::state_of;
@@ -17,6 +20,15 @@ pub struct Ran {
 }
 
 impl State {
+    // The checks of a run before its first slot, on the lists of the sheet and of the state: 10, 16, 11, 15.
+    pub fn check_run(self, sheet: Sheet, releases: &[u64], room: usize) -> Refusal
+        ensures { λ r. ⌜ outcome r ≡ checkRun sheet self (now (releases .entry)) room ⌝ }
+    {
+        let rows = listed(sheet);
+        let list = state_list(self);
+        check_run_in(&rows, &list, releases, room)
+    }
+
     // A run: its checks, then slot by slot.
     pub fn run(self, sheet: Sheet, releases: &[u64], codes: &mut [u8]) -> Ran
         ensures { λ r. ⌜ ran r (now (codes .exit)) ≡ run sheet self (now (releases .entry)) (now (codes .entry)) ⌝ }

@@ -16,9 +16,9 @@ use crate::places::state_of;
 use crate::sheets::listed;
 use crate::sheets::row_inside;
 use crate::sheets::rows_in;
-use crate::state::RowState;
 use crate::state::State;
 use basis::Refusal;
+use records::RowState;
 use sheet::Sheet;
 
 // What `fresh` answers: accepted with the state, or refused with all records zero.

@@ -3,8 +3,8 @@
 use Prim.Native.Nat.{ℕ}
 use mathlib.Core.Path.{refl}
 use Rattle.basis.specs.Readers.{Step, ok, refuse}
-use Rattle.basis.specs.Wrong.{NoAnswer}
-use Rattle.basis.proofs.Wrong.{told-apart}
+use Rattle.basis.specs.Faults.{NoAnswer}
+use Rattle.basis.proofs.Faults.{told-apart}
 use Rattle.numbers.specs.Numbers.{step, groups, number, upTo}
 use Rattle.numbers.specs.Wrong.{highGroups, highestFirst, looseGroups, anyForm, groupMore, threeAs, longIsCut, placeAfter, blankIsZero, mostIsOver, zeroIsOver, twoGroups, zeroLast, fourGroups, blank, five}
 

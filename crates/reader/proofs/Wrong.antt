@@ -9,8 +9,8 @@ use denote.Ref.{RefT}
 use Rattle.basis.specs.Refusals.{Outcome, accepted, refused}
 use Rattle.basis.specs.Readers.{begins}
 use Rattle.basis.specs.Upto.{upto, pairCell}
-use Rattle.basis.specs.Wrong.{NoAnswer, Never}
-use Rattle.basis.proofs.Wrong.{told-apart, values-apart}
+use Rattle.basis.specs.Faults.{NoAnswer, NoneMeets}
+use Rattle.basis.proofs.Faults.{told-apart, values-apart}
 use Rattle.numbers.specs.Numbers.{groups, upTo}
 use Rattle.sheet.specs.Lists.{rowCell, listCell}
 use Rattle.sheet.specs.declared.row.Sheet.{Sheet}
@@ -118,17 +118,17 @@ long-of : Part → ℕ
 long-of p = p .long
 
 -- the first label for every row: the second of two pumps starts at 16
-pub first-label-is-wrong : Never (firstLabel twoPumps 1) (labelIn twoPumps 1)
+pub first-label-is-wrong : NoneMeets (firstLabel twoPumps 1) (labelIn twoPumps 1)
 unfolding firstLabel labelIn labelHead entry label plain upTo groups begins entries body head sheet start-of
 first-label-is-wrong = values-apart _ _ start-of refl
 
 -- the start for the length: a pump is 4 bytes long
-pub start-for-length-is-wrong : Never (startForLength twoPumps 0) (labelIn twoPumps 0)
+pub start-for-length-is-wrong : NoneMeets (startForLength twoPumps 0) (labelIn twoPumps 0)
 unfolding startForLength labelIn labelHead entry label plain upTo groups begins entries body head sheet long-of
 start-for-length-is-wrong = values-apart _ _ long-of refl
 
 -- a row that there is not shows no label, and not that of a row that there is
-pub label-past-rows-is-wrong : Never (firstLabel twoPumps 2) (labelIn twoPumps 2)
+pub label-past-rows-is-wrong : NoneMeets (firstLabel twoPumps 2) (labelIn twoPumps 2)
 unfolding firstLabel labelIn labelHead entry label plain upTo groups begins entries body head sheet long-of
 label-past-rows-is-wrong = values-apart _ _ long-of refl
 

@@ -4,12 +4,12 @@ use Rattle.bound.proofs.Shares.{deadline-is-length, none-at-once}
 use Rattle.bound.proofs.search.bound_of.Statement.{statement}
 use Rattle.bound.proofs.search.bound_of.Tie as tie
 
-leaves-room-requires : tie.Need-leaves-room-requires
-leaves-room-requires c κs = (search needs, search needs, search deadline-is-length)
+no-room-requires : tie.Need-no-room-requires
+no-room-requires c κs = (search needs, search needs, search deadline-is-length)
 
-returns-2 : tie.Need-returns-2
-returns-2 c = search none-at-once
+returns : tie.Need-returns
+returns c = search none-at-once
 
 pub bound-of-spec : {M : Type 1} → statement M
 bound-of-spec =
-    tie.close (tie.spec (λ c κs. search needs) leaves-room-requires (λ c κs. search needs) (λ c. search needs) returns-2)
+    tie.close (tie.spec (λ c κs. search needs) no-room-requires returns (λ c κs. search needs) (λ c. search needs))

@@ -1,6 +1,6 @@
 -- `try_length` tells whether a length passes, and if not which may be next. Assumes nothing.
 use borrow.Author.Needs.{needs}
-use Rattle.bound.proofs.Steps.{length-passes, length-fails}
+use Rattle.bound.proofs.Steps.{length-passes, length-fails, spare-fits}
 use Rattle.bound.proofs.search.try_length.Statement.{statement}
 use Rattle.bound.proofs.search.try_length.Tie as tie
 
@@ -10,6 +10,9 @@ returns c = search length-passes
 next-length-requires : tie.Need-next-length-requires
 next-length-requires c κs = (search needs, search needs, search needs, search needs, search length-fails)
 
+spare-requires : tie.Need-spare-requires
+spare-requires c κs = search spare-fits
+
 pub try-length-spec : {M : Type 1} → statement M
 try-length-spec =
-    tie.close (tie.spec (λ c κs. search needs) (λ c κs. search needs) returns next-length-requires (λ c. search needs))
+    tie.close (tie.spec (λ c κs. search needs) (λ c κs. search needs) returns next-length-requires (λ c κs. search needs) (λ c κs. search needs) spare-requires (λ c. search needs))

@@ -1,11 +1,12 @@
 -- `share_above` is the amount of a row above by its share. Assumes nothing.
 use borrow.Author.Needs.{needs}
-use Rattle.bound.proofs.Shares.{weighed-fits, share-amount-is}
+use Rattle.bound.proofs.Durations.{span-small}
+use Rattle.bound.proofs.Shares.{share-amount-is}
 use Rattle.bound.proofs.share.share_above.Statement.{statement}
 use Rattle.bound.proofs.share.share_above.Tie as tie
 
-times-requires : tie.Need-times-requires
-times-requires c κs = search weighed-fits
+part-requires : tie.Need-part-requires
+part-requires c κs = (search span-small, search needs, search needs)
 
 returns : tie.Need-returns
 returns c = search share-amount-is
@@ -15,7 +16,7 @@ share-above-spec =
     tie.close
     (tie.spec
     (λ c κs. search needs)
-    times-requires
+    part-requires
     (λ c κs. search needs)
     (λ c κs. search needs)
     (λ c κs. search needs)

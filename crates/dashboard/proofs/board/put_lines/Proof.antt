@@ -6,7 +6,7 @@ use lib.ListN.{length}
 use Rattle.bound.specs.Lists.{wordAt}
 use Rattle.dashboard.specs.Labels.{labelBy}
 use Rattle.dashboard.specs.Texts.{lines}
-use Rattle.dashboard.specs.Pages.{said}
+use Rattle.page.specs.Pages.{said}
 use Rattle.dashboard.proofs.Boards.{no-lines, one-line, all-lines, label-room, label-lies, result-room}
 use Rattle.dashboard.proofs.board.put_lines.Statement.{statement}
 use Rattle.dashboard.proofs.board.put_lines.Tie as tie

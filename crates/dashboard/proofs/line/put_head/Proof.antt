@@ -1,7 +1,7 @@
 -- `put_head` meets its promise. Assumes nothing.
 use borrow.Author.Needs.{needs}
 use Rattle.dashboard.specs.Words.{head}
-use Rattle.dashboard.proofs.Saying.{four-said}
+use Rattle.page.proofs.Saying.{four-said}
 use Rattle.dashboard.proofs.line.put_head.Statement.{statement}
 use Rattle.dashboard.proofs.line.put_head.Tie as tie
 

@@ -4,7 +4,7 @@ use mathlib.Core.Path.{_≡_}
 use borrow.Author.Needs.{needs}
 use lib.ListN.{length}
 use Rattle.dashboard.specs.Texts.{fixedCount, sections}
-use Rattle.dashboard.specs.Pages.{said}
+use Rattle.page.specs.Pages.{said}
 use Rattle.dashboard.proofs.Reports.{no-sections, one-section, reference-written}
 use Rattle.dashboard.proofs.report.write_reference.Statement.{statement}
 use Rattle.dashboard.proofs.report.write_reference.Tie as tie

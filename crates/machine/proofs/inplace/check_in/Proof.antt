@@ -1,7 +1,7 @@
 -- `check_in` meets its promise. Assumes nothing.
 use borrow.Author.Needs.{needs}
 use Rattle.basis.proofs.Tests.{tests}
-use Rattle.machine.specs.Checks.{checkRow}
+use Rattle.records.specs.Checks.{checkRow}
 use Rattle.machine.proofs.Moves.{check-in-there}
 use Rattle.machine.proofs.inplace.check_in.Statement.{statement}
 use Rattle.machine.proofs.inplace.check_in.Tie as tie

@@ -1,0 +1,14 @@
+-- A lent slot that is refused leaves all as found: the state, and every code.
+-- Assumes nothing.
+use Prim.Native.Nat.{ℕ}
+use mathlib.Core.Path.{_≡_}
+use mathlib.Core.List.{List}
+use Rattle.basis.specs.declared.refusal.Refusal.the-variants.{Refused}
+use Rattle.sheet.specs.declared.row.Sheet.{Sheet}
+use Rattle.machine.specs.declared.state.State.{State}
+use Rattle.machine.specs.Answers.{slot}
+use Rattle.machine.proofs.Answered.{refused-as-found}
+use Rattle.aboard.specs.Lent.{slottedIn}
+
+pub refused-leaves-all-as-found : (h : Sheet) (t : State) (rel cs : List ℕ) (a b : ℕ) (u : State) (ds : List ℕ) → slottedIn (Refused a b) u ds ≡ slot h t rel cs → (u ≡ t) × (ds ≡ cs)
+refused-leaves-all-as-found h t rel cs a b u ds e = refused-as-found h t rel cs a b u ds e

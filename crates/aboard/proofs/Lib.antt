@@ -1,0 +1,5 @@
+pub mod Boxed
+pub mod Lending
+pub mod Found
+pub mod Same
+pub mod Wrong

@@ -1,0 +1,23 @@
+-- What a call with a lent state answers, with the state and the code buffer after it.
+use Prim.Native.Nat.{ℕ, _/_}
+use mathlib.Core.List.{List}
+use lib.ListN.{length}
+use Rattle.basis.specs.Refusals.{Outcome, outcome, handed}
+use Rattle.basis.specs.declared.refusal.Refusal.{Refusal}
+use Rattle.sheet.specs.declared.row.Sheet.{Sheet}
+use Rattle.machine.specs.declared.state.State.{State}
+use Rattle.aboard.specs.declared.lent.Begun.{Begun}
+use Rattle.machine.specs.Checks.{checkRun}
+use Rattle.machine.specs.Answers.{fresh}
+
+-- The answer of `slot_in`: the outcome, the lent state, and the code buffer after it.
+abbrev pub slottedIn : Refusal → State → List ℕ → Outcome × (State × List ℕ)
+slottedIn r t codes = (outcome r, (t, codes))
+
+-- What the box's loop begins with: the outcome of its checks, the slots to do, and the state.
+abbrev pub begun : Begun → (Outcome × ℕ) × State
+begun b = ((outcome (b .refusal), b .slots), b .state)
+
+-- A run's checks on the fresh state: all slots of the list are to be done, or none beside a refusal.
+unfoldable pub beginning : Sheet → List ℕ → ℕ → (Outcome × ℕ) × State
+beginning h releases room = (handed (checkRun h (fresh h .1) releases room) (length releases / h .count) 0, fresh h .1)

@@ -1,0 +1,301 @@
+-- A stretch of lengths is decided at its two ends: a straight line that a row's amount is never below, for each of three ways to choose it; the sum of such lines; and
+-- where that reaches the room at both ends, every length between fails.
+-- Assumes nothing.
+use Prim.Native.Nat.{ℕ, _+_, _*_, _-_, _/_, _%_, _≤_, _<_, min}
+use mathlib.Core.Path.{_≡_, sym, ap, _∙_}
+use mathlib.Core.Bool.{Bool, true, false}
+use native.Mathlib.Nat.{mul-le-mul, mul-le-mul-left, mul-le-mul-right, le-of-mul-le-mul-left, le-of-mul-le-mul-right, div-mul-le-self, mod-lt}
+use native.Mathlib.Omega.{arith}
+use borrow.Author.Tests.{ltb-true, leb-true}
+use lib.Dec.{ltb, leb}
+use mir.Val.{Fits}
+use mir.Syntax.{w64}
+use Rattle.basis.specs.Limits.{mostProcessors}
+use Rattle.basis.specs.Words.{sum}
+use Rattle.basis.proofs.Sums.{sum-one-more}
+use Rattle.basis.proofs.Workload.{lesser-evenly}
+use Rattle.sheet.specs.Legal.{rowAt}
+use Rattle.sheet.specs.declared.row.Row.{Row}
+use Rattle.sheet.specs.declared.row.Sheet.{Sheet}
+use Rattle.bound.specs.Quantities.{widestSeparation, slots, plus, on, onFine, pieces}
+use Rattle.bound.specs.Test.{q, X, x, W, durationOf, amountOf, amounts, room, passes}
+use Rattle.bound.specs.Ready.{Ready, Length}
+use Rattle.bound.specs.Skipping.{Skips, shareOf, way, Stretches, Along, amountAlong, RowMeets, RowsMeet, bothEnds, lasts, AllFail}
+use Rattle.bound.specs.declared.quantity.Duration.{Duration}
+use Rattle.bound.specs.declared.quantity.Amount.{Amount}
+use Rattle.bound.specs.declared.quantity.FineAmount.{FineAmount}
+use Rattle.bound.specs.declared.stretch.Stretch.{Stretch}
+use Rattle.bound.specs.declared.stretch.Ends.{Ends}
+use Rattle.bound.proofs.Durations.{number, number-in, same-fine-amount}
+use Rattle.bound.proofs.Workload.{W-mono, W-shares, W-evenly}
+use Rattle.bound.proofs.Amounts.{few-rows, row-above, q-small, X-small, room-by-q, fails-where}
+use Rattle.bound.proofs.Paces.{X-more}
+
+-- ---- straight lines
+
+-- shares of x slots and of c + d more are under the line of what is no less than its share
+share-evenly : (C T x c d s t w : ℕ) → 1 ≤ T → s * T ≤ 256 * (x * C) → t * T ≤ 256 * ((x + (c + d)) * C) → (x + d) * C ≤ w * T → c * s + d * t ≤ (c + d) * (256 * w)
+share-evenly C T x c d s t w pos hs ht hw =
+    le-of-mul-le-mul-right {m = c * s + d * t} {n = (c + d) * (256 * w)} {k = T}
+    (omega (arith, mul-le-mul-left c hs, mul-le-mul-left d ht, mul-le-mul-left (c + d) hw))
+    pos
+
+-- a line that comes, at both ends, within less than one of what Q processors take keeps whole amounts from falling below that
+ends-decide : (c d a b s y Q : ℕ) → 1 ≤ c + d → c * a + d * b ≤ (c + d) * (256 * s) → 256 * (y * Q) < a + 256 → 256 * ((y + (c + d)) * Q) < b + 256 → (y + d) * Q ≤ s
+ends-decide c d a b s y Q some h m n =
+    let f : 256 * ((y + d) * Q) + 1 ≤ 256 * s + 256 =
+    le-of-mul-le-mul-left {m = 256 * ((y + d) * Q) + 1} {n = 256 * s + 256} {k = c + d}
+    (omega (
+      arith,
+      h,
+      mul-le-mul-left {m = 256 * (y * Q) + 1} {n = a + 256} c (omega arith),
+      mul-le-mul-left {m = 256 * ((y + (c + d)) * Q) + 1} {n = b + 256} d (omega arith),
+    ))
+    some
+    in
+    omega arith
+
+-- ---- one row
+
+module _ (row : Row) (R : Duration) (s : Stretch) (b : ℕ) (al : Along row R s b) where
+  some-separation : 1 ≤ row .separation
+  some-separation = omega (arith, al .from)
+
+  most-budget : row .budget ≤ row .separation
+  most-budget = omega (arith, al .from)
+
+  module _ (c d : ℕ) (e : c + d ≡ way s) where
+    at-end : s .to .0 + R .0 - row .budget ≡ s .from .0 + R .0 - row .budget + (c + d)
+    at-end = omega (arith, al .from, al .further)
+
+    between : s .from .0 + d + R .0 - row .budget ≡ s .from .0 + R .0 - row .budget + d
+    between = omega (arith, al .from)
+
+    late-is : s .late .0 ≡ s .early .0 + (c + d)
+    late-is = omega (arith, al .late)
+
+    -- its own amounts, while its present separation lasts
+    exact-under : lasts row R s ≡ true
+        → c * durationOf row R (s .from) (s .early) .0 + d * durationOf row R (s .to) (s .late) .0
+        ≤ (c + d) * durationOf row R (plus (s .from) (slots d)) (plus (s .early) (slots d)) .0
+    unfolding durationOf x lasts
+    exact-under l =
+        let x₀ : ℕ = s .from .0 + R .0 - row .budget in
+        rw (at-end, between, late-is)
+        (lesser-evenly c d (W row (slots x₀) .0) (W row (slots (x₀ + (c + d))) .0) (W row (slots (x₀ + d)) .0) (s .early .0) (s .early .0 + (c + d)) (s .early .0 + d)
+        (W-evenly row some-separation most-budget x₀ c d (rw e (leb-true (x₀ % row .separation + way s) (row .separation) l)))
+        (omega arith))
+
+    -- what it runs at the start, at both ends
+    level-under : c * durationOf row R (s .from) (s .early) .0 + d * durationOf row R (s .from) (s .late) .0
+        ≤ (c + d) * durationOf row R (plus (s .from) (slots d)) (plus (s .early) (slots d)) .0
+    unfolding durationOf x
+    level-under =
+        let x₀ : ℕ = s .from .0 + R .0 - row .budget in
+        rw (between, late-is)
+        (lesser-evenly c d (W row (slots x₀) .0) (W row (slots x₀) .0) (W row (slots (x₀ + d)) .0) (s .early .0) (s .early .0 + (c + d)) (s .early .0 + d)
+        (omega (arith, mul-le-mul-left (c + d) (W-mono row some-separation most-budget x₀ (x₀ + d) (omega arith))))
+        (omega arith))
+
+    -- its shares
+    share-under : c * shareOf row R (s .from) (s .early) .0 + d * shareOf row R (s .to) (s .late) .0
+        ≤ (c + d) * (256 * durationOf row R (plus (s .from) (slots d)) (plus (s .early) (slots d)) .0)
+    unfolding shareOf durationOf x
+    share-under =
+        let x₀ : ℕ = s .from .0 + R .0 - row .budget in
+        let w : ℕ = W row (slots (x₀ + d)) .0 in
+        let f : 256 * min w (s .early .0 + d) ≡ min (256 * w) (256 * (s .early .0 + d)) = omega arith in
+        rw (at-end, between, late-is, f)
+        (lesser-evenly c d (256 * (x₀ * row .budget) / row .separation) (256 * ((x₀ + (c + d)) * row .budget) / row .separation) (256 * w) (256 * s .early .0)
+        (256 * (s .early .0 + (c + d))) (256 * (s .early .0 + d))
+        (share-evenly (row .budget) (row .separation) x₀ c d _ _ w some-separation (div-mul-le-self (256 * (x₀ * row .budget)) (row .separation))
+        (div-mul-le-self (256 * ((x₀ + (c + d)) * row .budget)) (row .separation)) (W-shares row some-separation most-budget (x₀ + d)))
+        (omega arith))
+
+  -- whether its present separation lasts
+  module _ (z ran w : Duration) (er : ran .0 ≡ z .0 % row .separation) (ew : w .0 ≡ s .to .0 - s .from .0) where
+    pub lasts-fits : Fits w64 (ran .0 + w .0)
+    lasts-fits = omega (arith, mod-lt (z .0) some-separation, al .from, al .to)
+
+    pub lasts-is : (e : Duration) → z ≡ x row R (s .from) → e .0 ≡ ran .0 + w .0 → leb (e .0) (row .separation) ≡ lasts row R s
+    unfolding lasts
+    lasts-is e ez ee = rw (ee, er, ew, ez)
+
+  -- the code's three choices
+  pub exact-meets : lasts row R s ≡ true → (n t : Amount) (p z o : FineAmount) → n ≡ on (durationOf row R (s .from) (s .early)) (min (row .threads) b)
+      → t ≡ on (durationOf row R (s .to) (s .late)) (min (row .threads) b) → n .0 ≤ widestSeparation * mostProcessors → t .0 ≤ widestSeparation * mostProcessors → p .0 ≡ 256 * n .0
+      → z .0 ≡ 256 * t .0 → RowMeets row R s b (record { now = p; then = z; spare = o })
+  exact-meets l n t p z o en et sn st ep ez =
+      record {
+        small-now = omega arith;
+        small-then = omega arith;
+        under = λ c d e. rw (ep, ez, en, et) (omega (arith, mul-le-mul-right (min (row .threads) b) (exact-under c d e l)));
+      }
+
+  pub level-meets : (n t : Amount) (p z o : FineAmount) → n ≡ on (durationOf row R (s .from) (s .early)) (min (row .threads) b)
+      → t ≡ on (durationOf row R (s .from) (s .late)) (min (row .threads) b) → n .0 ≤ widestSeparation * mostProcessors → t .0 ≤ widestSeparation * mostProcessors → p .0 ≡ 256 * n .0
+      → z .0 ≡ 256 * t .0 → RowMeets row R s b (record { now = p; then = z; spare = o })
+  level-meets n t p z o en et sn st ep ez =
+      record {
+        small-now = omega arith;
+        small-then = omega arith;
+        under = λ c d e. rw (ep, ez, en, et) (omega (arith, mul-le-mul-right (min (row .threads) b) (level-under c d e)));
+      }
+
+  share-most : (L Y : Duration) (n : FineAmount) → n ≡ onFine (shareOf row R L Y) (min (row .threads) b) → Y .0 ≤ widestSeparation → n .0 ≤ 256 * (widestSeparation * mostProcessors)
+  unfolding shareOf
+  share-most L Y n e l =
+      omega (
+        arith,
+        number-in e,
+        mul-le-mul {n₁ = shareOf row R L Y .0} {m₁ = min (row .threads) b} {n₂ = 256 * widestSeparation} {m₂ = mostProcessors} (omega arith) (omega (arith, al .most-q)),
+      )
+
+  pub share-meets : (n t o : FineAmount) → n ≡ onFine (shareOf row R (s .from) (s .early)) (min (row .threads) b)
+      → t ≡ onFine (shareOf row R (s .to) (s .late)) (min (row .threads) b) → RowMeets row R s b (record { now = n; then = t; spare = o })
+  share-meets n t o en et =
+      record {
+        small-now = share-most (s .from) (s .early) n en (al .most-early);
+        small-then = share-most (s .to) (s .late) t et (al .most-late);
+        under = λ c d e. rw (en, et) (omega (arith, mul-le-mul-right (min (row .threads) b) (share-under c d e)));
+      }
+
+  pub meets-still : (m : Ends) (n t o : FineAmount) → RowMeets row R s b m → n ≡ m .now → t ≡ m .then → RowMeets row R s b (record { now = n; then = t; spare = o })
+  meets-still m n t o a en et =
+      record { small-now = rw en (a .small-now); small-then = rw et (a .small-then); under = rw (en, et) (a .under) }
+
+-- ---- all rows
+
+module _ (h : Sheet) (R : ℕ → Duration) (k : ℕ) (r : Ready h R k) (s : Stretch) (st : Stretches h k s) where
+  late-later : s .late .0 ≡ s .early .0 + way s
+  unfolding X
+  late-later = omega (arith, number (st .early), number (st .late), st .from .low, st .further)
+
+  pub row-along : (i b : ℕ) (a : Row) (v : Duration) → i < k → a ≡ rowAt h i → v ≡ R i → b ≡ q h k → Along a v s b
+  row-along i b a v l ea ev eb =
+      record {
+        from = row-above h R k r i a v (s .from) l ea ev (st .from);
+        to = row-above h R k r i a v (s .to) l ea ev (st .to);
+        further = st .further;
+        late = late-later;
+        most-early = omega (arith, number (st .early), X-small h k (r .legal) (r .below) (s .from) (st .from));
+        most-late = omega (arith, number (st .late), X-small h k (r .legal) (r .below) (s .to) (st .to));
+        most-q = omega (arith, q-small h k (r .legal) (r .below));
+      }
+
+  pub meet-none : (n t o : FineAmount) → n .0 ≡ 0 → t .0 ≡ 0 → RowsMeet h R k s 0 (record { now = n; then = t; spare = o })
+  meet-none n t o en et = record { small-now = omega arith; small-then = omega arith; under = λ c d e. rw (en, et) (omega arith) }
+
+  module _ (i b : ℕ) (row : Row) (v : Duration) (e m : Ends) (l : i < k) (now : RowsMeet h R k s i e) (one : RowMeets row v s b m) where
+    pub now-fits : Fits w64 (e .now .0 + m .now .0)
+    now-fits = omega (arith, now .small-now, one .small-now, few-rows h R k r)
+
+    pub then-fits : Fits w64 (e .then .0 + m .then .0)
+    then-fits = omega (arith, now .small-then, one .small-then, few-rows h R k r)
+
+    along-is : (d : ℕ) → row ≡ rowAt h i → v ≡ R i → b ≡ q h k → amountAlong row v s b d ≡ amountOf h R k (plus (s .from) (slots d)) i
+    unfolding amountOf
+    along-is d er ev eb = rw (er, ev, eb, X-more h R k r (s .from) (st .from) d, ← st .early)
+
+    more : (d : ℕ) → amounts h R k (plus (s .from) (slots d)) (i + 1) .0
+        ≡ amounts h R k (plus (s .from) (slots d)) i .0 + amountOf h R k (plus (s .from) (slots d)) i .0
+    unfolding amounts
+    more d = sum-one-more i (λ n. amountOf h R k (plus (s .from) (slots d)) n .0)
+
+    with-one : (t : Ends) → t .now .0 ≡ e .now .0 + m .now .0 → t .then .0 ≡ e .then .0 + m .then .0 → row ≡ rowAt h i → v ≡ R i → b ≡ q h k → RowsMeet h R k s (i + 1) t
+    with-one t en et er ev eb =
+        record {
+          small-now = omega (arith, now .small-now, one .small-now);
+          small-then = omega (arith, now .small-then, one .small-then);
+          under = λ c d w.
+              rw (en, et, more d, ← along-is d er ev eb)
+              (omega (arith, now .under c d w, one .under c d w));
+        }
+
+  pub meet-more : (i b : ℕ) (row : Row) (v : Duration) (t e m : Ends) → t ≡ bothEnds e m → RowMeets row v s b m → RowsMeet h R k s i e → i < k → row ≡ rowAt h i → v ≡ R i → b ≡ q h k
+      → RowsMeet h R k s (i + 1) t
+  unfolding bothEnds
+  meet-more i b row v t e m et one now l er ev eb =
+      with-one i b row v e m l now one t (ap (λ (z : Ends). z .now .0) et) (ap (λ (z : Ends). z .then .0) et) er ev eb
+
+  pub meet-done : (i : ℕ) (e : Ends) → RowsMeet h R k s i e → i ≤ k → k ≤ i → RowsMeet h R k s k e
+  meet-done i e m a b = let z : i ≡ k = omega arith in rw z at m
+
+  module _ (e : Ends) (m : RowsMeet h R k s k e) where
+    pub now-rounds : (n : FineAmount) → n ≡ e .now → Fits w64 (n .0 + 256)
+    now-rounds n en = omega (arith, number-in en, m .small-now, few-rows h R k r)
+
+    pub then-rounds : (n : FineAmount) → n ≡ e .then → Fits w64 (n .0 + 256)
+    then-rounds n en = omega (arith, number-in en, m .small-then, few-rows h R k r)
+
+    -- each length of the stretch fails
+    stretch-fails : 256 * room h k (s .from) .0 < e .now .0 + 256 → 256 * room h k (s .to) .0 < e .then .0 + 256 → (c d : ℕ) → c + d ≡ way s
+        → passes h R k (plus (s .from) (slots d)) ≡ false
+    stretch-fails a z c d w =
+        fails-where h R k (plus (s .from) (slots d))
+        (rw (X-more h R k r (s .from) (st .from) d)
+        (ends-decide c d (e .now .0) (e .then .0) (amounts h R k (plus (s .from) (slots d)) k .0) (X h k (s .from) .0) (q h k) (omega (arith, st .further)) (m .under c d w)
+        (omega (arith, a, room-by-q h k (s .from))) far))
+      where
+        late-is : X h k (s .to) .0 ≡ X h k (s .from) .0 + (c + d)
+        late-is = omega (arith, number (st .early), number (st .late), late-later)
+
+        far : 256 * ((X h k (s .from) .0 + (c + d)) * q h k) < e .then .0 + 256
+        far = rw (← late-is) (omega (arith, z, room-by-q h k (s .to)))
+
+    pub stretch-told : (n t : FineAmount) (f z : Amount) (v u : Bool) (from to : Duration) → n ≡ e .now → t ≡ e .then → f ≡ room h k from → z ≡ room h k to → s .from ≡ from
+        → s .to ≡ to → v ≡ ltb (256 * f .0) (n .0 + 256) → v ≡ true → u ≡ ltb (256 * z .0) (t .0 + 256) → AllFail h R k (from .0) (to .0) u
+    stretch-told n t f z v false from to en et ef ez efrom eto ev tv eu = tt
+    stretch-told n t f z v true from to en et ef ez efrom eto ev tv eu = fails where
+      first : 256 * room h k (s .from) .0 < e .now .0 + 256
+      first = rw (efrom, ← ef, ← en) (ltb-true _ _ (sym ev ∙ tv))
+
+      last : 256 * room h k (s .to) .0 < e .then .0 + 256
+      last = rw (eto, ← ez, ← et) (ltb-true _ _ (sym eu))
+
+      fails : (l : ℕ) → from .0 ≤ l → l ≤ to .0 → passes h R k (slots l) ≡ false
+      fails l low high =
+          let g : l ≡ s .from .0 + (l - s .from .0) = omega (arith, number efrom) in
+          rw g (stretch-fails first last (s .to .0 - l) (l - s .from .0) (omega (arith, number efrom, number eto)))
+
+-- ---- a step over a stretch
+
+pub stretch-of-lengths : (h : Sheet) (k : ℕ) (from to early late : Duration) → Length h k from → Length h k to → from .0 < to .0 → early ≡ X h k from → late ≡ X h k to
+    → Stretches h k (record { from = from; to = to; early = early; late = late })
+stretch-of-lengths h k from to early late a b f e l = record { from = a; to = b; further = f; early = e; late = l }
+
+pub both-ends-are : (a b : Ends) (n t o : FineAmount) → n .0 ≡ a .now .0 + b .now .0 → t .0 ≡ a .then .0 + b .then .0 → o ≡ b .spare
+    → _≡_ {A = Ends} (record { now = n; then = t; spare = o }) (bothEnds a b)
+unfolding bothEnds
+both-ends-are a b n t o en et eo =
+    let fn : n ≡ pieces (a .now .0 + b .now .0) = same-fine-amount n (pieces (a .now .0 + b .now .0)) en in
+    let ft : t ≡ pieces (a .then .0 + b .then .0) = same-fine-amount t (pieces (a .then .0 + b .then .0)) et in
+    rw (fn, ft, eo)
+
+pub told-true : (t b : Bool) → t ≡ b → t ≡ true → b ≡ true
+told-true t b e f = sym e ∙ f
+
+module _ (h : Sheet) (R : ℕ → Duration) (k : ℕ) (r : Ready h R k) (row : Row) (er : row ≡ rowAt h k) where
+  same-deadline : row .deadline ≡ rowAt h k .deadline
+  same-deadline = ap (λ (z : Row). z .deadline) er
+
+  pub deadline-small : row .deadline ≤ widestSeparation
+  deadline-small = omega (arith, same-deadline, r .legal .rows k (r .below))
+
+  module _ (L d e : Duration) (len : Length h k L) (ee : e .0 ≡ L .0 + d .0) (m : L .0 + d .0 ≤ row .deadline) where
+    pub end-is-length : Length h k e
+    end-is-length = record { low = omega (arith, len .low); high = omega (arith, same-deadline) }
+
+    pub after-end-fits : (n : ℕ) → n ≤ widestSeparation → Fits w64 (e .0 + n)
+    after-end-fits n l = omega (arith, deadline-small)
+
+    pub twice-fits : Fits w64 (2 * d .0)
+    twice-fits = omega (arith, deadline-small)
+
+pub end-further : (L d e : Duration) → e .0 ≡ L .0 + d .0 → 1 ≤ d .0 → L .0 < e .0
+end-further L d e ee l = omega arith
+
+pub over-skips : (h : Sheet) (R : ℕ → Duration) (k : ℕ) (L d e z : Duration) (t : Bool) → z .0 ≡ e .0 + 1 → AllFail h R k (L .0) (e .0) t → t ≡ true → e .0 ≡ L .0 + d .0
+    → Skips h R k L z
+over-skips h R k L d e z false ez f t ee = absurd (let w : _≡_ {A = ℕ} 0 1 = cc in omega arith)
+over-skips h R k L d e z true ez f t ee = record { further = omega arith; fails = λ l a b. f l a (omega arith) }

@@ -1,0 +1,11 @@
+-- `on` meets its promise: the amount fits. Assumes nothing.
+use borrow.Author.Needs.{needs}
+use Rattle.bound.proofs.Durations.{fine-amount-fits}
+use Rattle.bound.proofs.quantity.Fine.on.Statement.{statement}
+use Rattle.bound.proofs.quantity.Fine.on.Tie as tie
+
+mul-t3 : tie.Need-mul-t3
+mul-t3 c = search fine-amount-fits
+
+pub on-spec : {M : Type 1} → statement M
+on-spec = tie.close (tie.spec mul-t3 (λ c. search needs))

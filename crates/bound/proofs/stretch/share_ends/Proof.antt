@@ -1,0 +1,11 @@
+-- `share_ends` has ends whose line the row's amount is never below. Assumes nothing.
+use borrow.Author.Needs.{needs}
+use Rattle.bound.proofs.Stretches.{share-meets}
+use Rattle.bound.proofs.stretch.share_ends.Statement.{statement}
+use Rattle.bound.proofs.stretch.share_ends.Tie as tie
+
+returns : tie.Need-returns
+returns c = search share-meets
+
+pub share-ends-spec : {M : Type 1} → statement M
+share-ends-spec = tie.close (tie.spec (λ c κs. search needs) (λ c κs. search needs) returns)

@@ -1,0 +1,28 @@
+-- `with_row` has ends whose line the sum with one row more is never below. Assumes nothing.
+use borrow.Author.Needs.{needs}
+use Rattle.bound.proofs.Stretches.{row-along, now-fits, then-fits, meet-more}
+use Rattle.bound.proofs.stretch.with_row.Statement.{statement}
+use Rattle.bound.proofs.stretch.with_row.Tie as tie
+
+ends-above-requires : tie.Need-ends-above-requires
+ends-above-requires c κs = search row-along
+
+both-ends-requires : tie.Need-both-ends-requires
+both-ends-requires c κs = (search now-fits, search then-fits)
+
+returns : tie.Need-returns
+returns c = search meet-more
+
+pub with-row-spec : {M : Type 1} → statement M
+with-row-spec =
+    tie.close
+    (tie.spec
+    (λ c κs. search needs)
+    (λ c κs. search needs)
+    (λ c. search needs)
+    (λ c. search needs)
+    (λ c. search needs)
+    (λ c. search needs)
+    ends-above-requires
+    both-ends-requires
+    returns)

@@ -1,0 +1,106 @@
+-- Wrong answers of green and wrong histories are shut out: on the bytes of sheets C and D, and on runs of sheet D.
+-- Assumes nothing.
+use Prim.Native.Nat.{ℕ, zero, suc, _+_, _<_}
+use mathlib.Core.Path.{_≡_, refl}
+use mathlib.Core.List.{List, [], _∷_}
+use native.Mathlib.Omega.{arith}
+use lib.ListN.{length}
+use Rattle.basis.specs.Words.{allOf, sum}
+use Rattle.basis.specs.Readers.{begins}
+use Rattle.basis.specs.Refusals.{firstOf}
+use Rattle.basis.specs.declared.refusal.Refusal.the-variants.{Accepted}
+use Rattle.basis.specs.Upto.{upto}
+use Rattle.basis.specs.Faults.{NoneMeets}
+use Rattle.basis.proofs.Faults.{apart, bit}
+use Rattle.numbers.specs.Numbers.{groups, upTo}
+use Rattle.sheet.specs.Legal.{legal, legalAt, legalRow}
+use Rattle.reader.specs.Form.{plain, label, entry, entries, body, head, sheet}
+use Rattle.bound.specs.Test.{passes, amounts, amountOf, durationOf, room, q, X, x, W}
+use Rattle.bound.specs.Bound.{holds, resultOf, resultsTo, judge, boundBy, least}
+use Rattle.tables.specs.Tables.{sheetD}
+use Rattle.records.specs.Records.{legalRecord, isZero}
+use Rattle.records.specs.Steps.{released, fits, freeBelow, worked, older, aged, missed, ended, codeOf}
+use Rattle.records.specs.Checks.{checkRow}
+use Rattle.machine.specs.States.{freshState, legalState}
+use Rattle.machine.specs.States as states
+use Rattle.machine.specs.Slot.{freeAt}
+use Rattle.machine.specs.Checks.{checkReleases, checkState, checkRoom, checkSlot, checkRun}
+use Rattle.machine.specs.Answers.{fresh, given, nextState, nextCodes, slot, slotAt, onward, course, run}
+use Rattle.green.specs.Calls.{Done, freshOf, runDone, history}
+use Rattle.green.specs.Demand.{codeIn, FinishedWithin, InTime}
+use Rattle.green.specs.Green.{greenOf}
+use Rattle.green.specs.Lent.{boxDone}
+use Rattle.green.specs.Tight.{tight}
+use Rattle.green.specs.Wrong.{bytesC, bytesD, alwaysGreen, neverGreen, greenIfRead, slotsOnce, slotsAll, historyBy, tooSoon, boxSwapped, oneSlotRan, StuckSlots, no-more, once-more, stuck}
+
+-- ---- `green`
+
+pub always-green-is-shut-out : NoneMeets (alwaysGreen bytesC) (greenOf bytesC)
+unfolding greenOf allOf sum begins groups upTo plain label entry entries body head sheet q X x W durationOf amountOf amounts room passes least boundBy judge resultsTo resultOf holds
+always-green-is-shut-out = apart bit _ _ 1 0 refl refl (λ e. omega arith)
+
+pub never-green-is-shut-out : NoneMeets (neverGreen bytesD) (greenOf bytesD)
+unfolding greenOf allOf sum begins groups upTo plain label entry entries body head sheet q X x W durationOf amountOf amounts room passes least boundBy judge resultsTo resultOf holds
+never-green-is-shut-out = apart bit _ _ 0 1 refl refl (λ e. omega arith)
+
+pub green-if-read-is-shut-out : NoneMeets (greenIfRead bytesC) (greenOf bytesC)
+unfolding greenIfRead greenOf allOf sum begins groups upTo plain label entry entries body head sheet q X x W durationOf amountOf amounts room passes least boundBy judge resultsTo resultOf holds
+green-if-read-is-shut-out = apart bit _ _ 1 0 refl refl (λ e. omega arith)
+
+-- ---- the history that demand 3 is about
+
+-- the run has four slots
+pub once-is-shut-out : NoneMeets (historyBy slotsOnce sheetD (freshOf sheetD) tight) (history sheetD (freshOf sheetD) tight)
+unfolding historyBy history runDone fresh given nextState nextCodes slot slotAt onward course run checkRow checkReleases checkState checkRoom checkSlot checkRun released fits freeBelow freeAt worked older aged missed ended codeOf freshState legalState legalRecord isZero states.legalAt legal legalAt legalRow firstOf upto allOf
+once-is-shut-out = apart (λ (ds : List Done). length ds) _ _ 1 4 refl refl (λ e. omega arith)
+
+-- its second slot is refused
+pub all-is-shut-out : NoneMeets (historyBy slotsAll sheetD (freshOf sheetD) tooSoon) (history sheetD (freshOf sheetD) tooSoon)
+unfolding historyBy history runDone fresh given nextState nextCodes slot slotAt onward course run checkRow checkReleases checkState checkRoom checkSlot checkRun released fits freeBelow freeAt worked older aged missed ended codeOf freshState legalState legalRecord isZero states.legalAt legal legalAt legalRow firstOf upto allOf
+all-is-shut-out = apart (λ (ds : List Done). length ds) _ _ 2 1 refl refl (λ e. omega arith)
+
+-- the codes 3 1 are no releases
+pub box-swapped-is-shut-out : NoneMeets (boxSwapped sheetD (1 ∷ 2 ∷ []) oneSlotRan (3 ∷ 1 ∷ [])) (boxDone sheetD (1 ∷ 2 ∷ []) oneSlotRan (3 ∷ 1 ∷ []))
+unfolding boxSwapped runDone
+box-swapped-is-shut-out = apart (λ (ds : List Done). codeIn ds 0 0) _ _ 1 3 refl refl (λ e. omega arith)
+
+-- ---- demand 3
+
+-- a bound of one slot less is not kept: row 1 of sheet D, whose bound is 4, is not finished in 3 slots
+pub one-slot-less-is-too-few : FinishedWithin (history sheetD (freshOf sheetD) tight) 0 1 3 → ⊥
+unfolding history runDone fresh given nextState nextCodes slot slotAt onward course run checkRow checkReleases checkState checkRoom checkSlot checkRun released fits freeBelow freeAt worked older aged missed ended codeOf freshState legalState legalRecord isZero states.legalAt legal legalAt legalRow firstOf upto allOf
+one-slot-less-is-too-few f = go (f .later) (f .within) (f .finished)
+  where
+    go : (n : ℕ) → n < 3 → codeIn (history sheetD (freshOf sheetD) tight) (0 + n) 1 ≡ 3 → ⊥
+    go zero l e = let z : _≡_ {A = ℕ} 1 3 = e in omega arith
+    go (suc zero) l e = let z : _≡_ {A = ℕ} 2 3 = e in omega arith
+    go (suc (suc zero)) l e = let z : _≡_ {A = ℕ} 1 3 = e in omega arith
+    go (suc (suc (suc n))) l e = omega arith
+
+-- a claim that no slot has a code 3 is not kept: row 0 of sheet D has one in the first slot
+pub finished-is-no-miss : ((j k : ℕ) → j < 4 → k < 2 → codeIn (history sheetD (freshOf sheetD) tight) j k ≡ 3 → ⊥) → ⊥
+unfolding history runDone fresh given nextState nextCodes slot slotAt onward course run checkRow checkReleases checkState checkRoom checkSlot checkRun released fits freeBelow freeAt worked older aged missed ended codeOf freshState legalState legalRecord isZero states.legalAt legal legalAt legalRow firstOf upto allOf
+finished-is-no-miss none = none 0 0 (omega arith) (omega arith) refl
+
+-- slots that each begin with the state that the first one found are not in time
+pub stuck-slots : StuckSlots sheetD (freshOf sheetD) stuck
+unfolding fresh given nextState nextCodes slot slotAt onward course run checkRow checkReleases checkState checkRoom checkSlot checkRun released fits freeBelow freeAt worked older aged missed ended codeOf freshState legalState legalRecord isZero states.legalAt legal legalAt legalRow firstOf upto allOf
+stuck-slots =
+    once-more (0 ∷ 2 ∷ []) (9 ∷ 9 ∷ []) _ Accepted refl
+    (once-more (0 ∷ 0 ∷ []) (9 ∷ 9 ∷ []) _ Accepted refl
+    (once-more (0 ∷ 0 ∷ []) (9 ∷ 9 ∷ []) _ Accepted refl
+    (once-more (0 ∷ 0 ∷ []) (9 ∷ 9 ∷ []) _ Accepted refl no-more)))
+
+pub stuck-slots-are-late : InTime sheetD (sheetD .count) stuck → ⊥
+unfolding allOf sum begins groups upTo plain label entry entries body head sheet q X x W durationOf amountOf amounts room passes least boundBy judge resultsTo resultOf holds
+stuck-slots-are-late t = go (f .later) (f .within) (f .finished)
+  where
+    f : FinishedWithin stuck 0 1 4
+    f = t .each-finished 0 1 4 (omega arith) refl (omega arith) (omega arith)
+
+    go : (n : ℕ) → n < 4 → codeIn stuck (0 + n) 1 ≡ 3 → ⊥
+    go zero l e = let z : _≡_ {A = ℕ} 2 3 = e in omega arith
+    go (suc zero) l e = let z : _≡_ {A = ℕ} 0 3 = e in omega arith
+    go (suc (suc zero)) l e = let z : _≡_ {A = ℕ} 0 3 = e in omega arith
+    go (suc (suc (suc zero))) l e = let z : _≡_ {A = ℕ} 0 3 = e in omega arith
+    go (suc (suc (suc (suc n)))) l e = omega arith

@@ -1,0 +1,16 @@
+-- `check_run` meets its promise: its checks are those of the lists. Assumes nothing.
+use borrow.Author.Needs.{needs}
+use Rattle.machine.proofs.Lists.{run-check-by-list}
+use Rattle.machine.proofs.state.State.check_run.Statement.{statement}
+use Rattle.machine.proofs.state.State.check_run.Tie as tie
+
+pub check-run-spec : {M : Type 1} → statement M
+check-run-spec =
+    tie.close
+    (tie.spec
+    (λ c κs. search needs)
+    (λ c κs. search needs)
+    (λ c. search needs)
+    (λ c. search needs)
+    (λ c κs. search needs)
+    (λ c. search run-check-by-list))

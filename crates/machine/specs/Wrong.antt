@@ -1,0 +1,190 @@
+-- Wrong rules for a state, each that of 01 but for one thing, and the sheets, states and lists that tell them apart.
+use Prim.Native.Nat.{ℕ, zero, suc, _%_, _/_}
+use mathlib.Core.Bool.{Bool}
+use mathlib.Core.List.{List, [], _∷_}
+use lib.ListN.{length, getD, replicate}
+use lib.IntN.{pos, _-ℤ_}
+use lib.Dec.{eqb}
+use Rattle.basis.specs.Limits.{mostRows}
+use Rattle.basis.specs.Words.{pick}
+use Rattle.basis.specs.Refusals.{Outcome, accepted, orElse, firstOf, needed, roomFor, handed}
+use Rattle.basis.specs.Upto.{upto}
+use Rattle.sheet.specs.Legal.{rowAt, legal}
+use Rattle.sheet.specs.declared.row.Sheet.{Sheet}
+use Rattle.records.specs.declared.record.RowState.{RowState}
+use Rattle.records.specs.Records.{noRecord, hasJob}
+use Rattle.records.specs.Steps.{fits, worked, aged, ended, codeOf}
+use Rattle.records.specs.Wrong.{rec, thirteenFirst, stopsAtUnfit}
+use Rattle.machine.specs.declared.state.State.{State}
+use Rattle.machine.specs.States.{noState, stateOf, recordAt, freshState}
+use Rattle.machine.specs.Slot.{Given, begun, runs, reached, next}
+use Rattle.machine.specs.Checks.{checkState, checkRoom, checkSlot, checkMargin}
+use Rattle.machine.specs.Answers.{given, nextState, nextCodes, slot, Course, notBegun, course, run, Told, no-job, margin-is, marginAt, marginBy, margin}
+use Rattle.machine.specs.Lists.{putState, cleared, freshOn, slotIn, runIn}
+
+-- ---- fresh
+
+-- A fresh state in which row k has this record.
+abbrev pub freshBy : (Sheet → ℕ → RowState) → Sheet → Outcome × State
+freshBy f h = (needed (legal h) 10, pick (legal h) (stateOf (upto (h .count) (f h) (replicate mostRows noRecord))) noState)
+
+-- A fresh row has a job of all its budget.
+unfoldable pub freshWithJobs : Sheet → Outcome × State
+freshWithJobs = freshBy (λ h k. rec (rowAt h k .budget) (rowAt h k .separation))
+
+-- A fresh row has to wait for its separation.
+unfoldable pub freshTooYoung : Sheet → Outcome × State
+freshTooYoung = freshBy (λ h k. rec 0 1)
+
+-- ---- one slot
+
+-- A slot by other rules: what each row becomes, and its code.
+abbrev pub slotBy : (Given → ℕ → RowState) → (Given → ℕ → ℕ) → Sheet → State → List ℕ → List ℕ → Outcome × (State × List ℕ)
+slotBy next code h t releases codes =
+    handed (checkSlot h t releases (length codes))
+    (stateOf (upto (h .count) (next (given h t releases)) (t .rows)), upto (h .count) (code (given h t releases)) codes) (t, codes)
+
+-- A slot in which these rows run.
+abbrev pub slotRunning : (Given → ℕ → Bool) → Sheet → State → List ℕ → List ℕ → Outcome × (State × List ℕ)
+slotRunning ran =
+    slotBy (λ g k. ended (g .rows k) (aged (g .rows k) (worked (ran g k) (begun g k))))
+    (λ g k. codeOf (g .rows k) (ran g k) (begun g k) (aged (g .rows k) (worked (ran g k) (begun g k))))
+
+-- The processors free at row k where nothing is free below a row that does not fit.
+unfoldable pub freeToUnfit : Given → ℕ → ℕ
+freeToUnfit g zero = g .processors
+freeToUnfit g (suc k) = stopsAtUnfit (g .rows k) (begun g k) (freeToUnfit g k) .free
+
+-- It stops at the first row that does not fit.
+unfoldable pub slotToUnfit : Sheet → State → List ℕ → List ℕ → Outcome × (State × List ℕ)
+slotToUnfit = slotRunning (λ g k. fits (freeToUnfit g k) (g .rows k) (begun g k))
+
+-- Every job runs: all processors are free at each row.
+unfoldable pub slotOfAll : Sheet → State → List ℕ → List ℕ → Outcome × (State × List ℕ)
+slotOfAll = slotRunning (λ g k. fits (g .processors) (g .rows k) (begun g k))
+
+-- A miss is judged before the finish of the same slot.
+unfoldable pub slotMissedFirst : Sheet → State → List ℕ → List ℕ → Outcome × (State × List ℕ)
+slotMissedFirst =
+    slotBy next
+    (λ g k. pick (hasJob (begun g k)) (pick (eqb (reached g k .since) (g .rows k .deadline)) 4 (pick (hasJob (reached g k)) (pick (runs g k) 2 1) 3)) 0)
+
+-- The state is handed back untouched.
+unfoldable pub slotUntouched : Sheet → State → List ℕ → List ℕ → Outcome × (State × List ℕ)
+slotUntouched h t releases codes = (slot h t releases codes .0, (t, slot h t releases codes .1 .1))
+
+-- The releases are checked, and then lost.
+unfoldable pub slotUnreleased : Sheet → State → List ℕ → List ℕ → Outcome × (State × List ℕ)
+slotUnreleased h t releases codes = handed (checkSlot h t releases (length codes)) (nextState h t [], nextCodes h t [] codes) (t, codes)
+
+-- A refused slot writes its codes.
+unfoldable pub slotCodesAlways : Sheet → State → List ℕ → List ℕ → Outcome × (State × List ℕ)
+slotCodesAlways h t releases codes =
+    handed (checkSlot h t releases (length codes)) (nextState h t releases, nextCodes h t releases codes) (t, nextCodes h t releases codes)
+
+-- 13 comes before 12.
+unfoldable pub slotThirteenFirst : Sheet → State → List ℕ → List ℕ → Outcome × (State × List ℕ)
+slotThirteenFirst h t releases codes =
+    handed
+    (orElse (checkState h t)
+    (orElse (checkRoom (eqb (length releases) (h .count)) (length releases) (length codes))
+    (firstOf (h .count) (λ k. thirteenFirst (rowAt h k) (recordAt t k) (getD releases k 0) k))))
+    (nextState h t releases, nextCodes h t releases codes) (t, codes)
+
+-- ---- a run
+
+-- It works its first slot and only counts the rest.
+unfoldable pub runOfFirst : Sheet → State → List ℕ → List ℕ → Course
+runOfFirst h t releases codes =
+    record {
+      done = length releases / h .count;
+      outcome = course h releases (notBegun accepted t codes) 1 .outcome;
+      state = course h releases (notBegun accepted t codes) 1 .state;
+      codes = course h releases (notBegun accepted t codes) 1 .codes;
+    }
+
+-- Its number of slots done is made up: it is that of the list, whatever was refused.
+unfoldable pub runMadeUp : Sheet → State → List ℕ → List ℕ → Course
+runMadeUp h t releases codes =
+    record {
+      done = length releases / h .count;
+      outcome = run h t releases codes .outcome;
+      state = run h t releases codes .state;
+      codes = run h t releases codes .codes;
+    }
+
+-- It hands its state back untouched.
+unfoldable pub runUntouched : Sheet → State → List ℕ → List ℕ → Course
+runUntouched h t releases codes =
+    record {
+      done = run h t releases codes .done;
+      outcome = run h t releases codes .outcome;
+      state = t;
+      codes = run h t releases codes .codes;
+    }
+
+-- The checks of a run, but 15 comes before 11.
+unfoldable pub roomFirst : Sheet → State → List ℕ → ℕ → Outcome
+roomFirst h t releases room =
+    orElse (checkState h t) (orElse (roomFor (length releases) room) (needed (eqb (length releases % h .count) 0) 11))
+
+-- The checks of a run, but the state is not looked at.
+unfoldable pub anyState : Sheet → State → List ℕ → ℕ → Outcome
+anyState h t releases room =
+    orElse (needed (legal h) 10) (checkRoom (eqb (length releases % h .count) 0) (length releases) room)
+
+-- ---- the margin
+
+-- A row without a job has a margin of zero.
+unfoldable pub zeroForNone : Sheet → State → ℕ → Told
+zeroForNone h t row =
+    marginBy (checkMargin h t row) (pick (hasJob (recordAt t row)) (marginAt (rowAt h row) (recordAt t row)) (margin-is (pos 0)))
+
+-- The slots since the release are not taken off.
+unfoldable pub sinceLeftOut : Sheet → State → ℕ → Told
+sinceLeftOut h t row =
+    marginBy (checkMargin h t row)
+    (pick (hasJob (recordAt t row)) (margin-is (pos (rowAt h row .deadline) -ℤ pos (recordAt t row .remaining))) no-job)
+
+-- Whatever row is asked for, the margin is that of row 0.
+unfoldable pub marginOfFirst : Sheet → State → ℕ → Told
+marginOfFirst h t row = margin h t 0
+
+-- ---- on lists
+
+-- Fresh, but the list is as it was.
+unfoldable pub freshKept : Sheet → List ℕ → Outcome × List ℕ
+freshKept h list = (freshOn h list .0, list)
+
+-- Fresh, but the room for it is not looked at.
+unfoldable pub freshRoomless : Sheet → List ℕ → Outcome × List ℕ
+freshRoomless h list = handed (needed (legal h) 10) (putState (h .count) (freshState h) (cleared list)) list
+
+-- A slot, but the list is as it was.
+unfoldable pub slotListKept : Sheet → List ℕ → List ℕ → List ℕ → Outcome × (List ℕ × List ℕ)
+slotListKept h list releases codes = (slotIn h list releases codes .0, (list, slotIn h list releases codes .1 .1))
+
+-- A slot, but the codes are as they were.
+unfoldable pub slotCodesKept : Sheet → List ℕ → List ℕ → List ℕ → Outcome × (List ℕ × List ℕ)
+slotCodesKept h list releases codes = (slotIn h list releases codes .0, (slotIn h list releases codes .1 .0, codes))
+
+-- A run, but the list is as it was.
+unfoldable pub runListKept : Sheet → List ℕ → List ℕ → List ℕ → (ℕ × Outcome) × (List ℕ × List ℕ)
+runListKept h list releases codes = (runIn h list releases codes .0, (list, runIn h list releases codes .1 .1))
+
+-- A run, but every slot of the list is said to be done.
+unfoldable pub runListMadeUp : Sheet → List ℕ → List ℕ → List ℕ → (ℕ × Outcome) × (List ℕ × List ℕ)
+runListMadeUp h list releases codes = ((length releases / h .count, runIn h list releases codes .0 .1), runIn h list releases codes .1)
+
+-- ---- what tells them apart
+
+-- Sheet C as a list, and its fresh state.
+abbrev pub listC : List ℕ
+listC = 2 ∷ 2 ∷ 2 ∷ 2 ∷ 2 ∷ 1 ∷ 1 ∷ 4 ∷ 4 ∷ 3 ∷ []
+
+abbrev pub freshListC : List ℕ
+freshListC = 0 ∷ 2 ∷ 0 ∷ 4 ∷ []
+
+-- A state of sheet C: one slot since a job of row 0, which is finished, and since a job of row 1 of which two slots remain.
+abbrev pub busyC : State
+busyC = stateOf (upto 2 (λ k. pick (eqb k 0) (rec 0 1) (rec 2 1)) (noState .rows))

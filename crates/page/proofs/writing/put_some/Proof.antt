@@ -1,0 +1,30 @@
+-- `put_some` meets its promise. The invariant: what is said so far is the bytes passed. Assumes nothing.
+use borrow.Author.Needs.{needs}
+use Prim.Native.Nat.{_-_, _≤_}
+use mathlib.Core.Path.{_≡_}
+use lib.ListN.{length, take}
+use Rattle.page.specs.Pages.{said}
+use Rattle.page.proofs.Saying.{none-said, byte-said, all-said}
+use Rattle.page.proofs.writing.put_some.Statement.{statement}
+use Rattle.page.proofs.writing.put_some.Tie as tie
+
+abbrev Inv-loop : tie.InvT-loop
+Inv-loop text₀ at bytes next₀ i₀ text next i = (i ≤ length bytes) × (length text ≡ length text₀) × ((text, next) ≡ said (text₀, at) (take i bytes))
+
+abbrev μ-loop : tie.MeasureT-loop
+μ-loop text₀ at bytes next₀ i₀ text next i = length bytes - i
+
+pub put-some-spec : {M : Type 1} → statement M
+put-some-spec =
+    tie.close
+    (tie.spec
+    Inv-loop
+    μ-loop
+    (λ c. (search needs, search needs, search none-said))
+    (λ c. search needs)
+    (λ c κs. search needs)
+    (λ c. search needs)
+    (λ c. search needs)
+    (λ c. (search needs, search needs, search byte-said))
+    (λ c. search needs)
+    (λ c. search all-said))

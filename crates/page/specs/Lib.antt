@@ -1,0 +1,3 @@
+pub mod Pages
+pub mod Decimals
+pub mod Wrong

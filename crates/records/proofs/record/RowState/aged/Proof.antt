@@ -1,0 +1,14 @@
+-- `aged` meets its promise. Assumes nothing.
+use borrow.Author.Needs.{needs}
+use Rattle.records.proofs.Records.{age-at, age-else}
+use Rattle.records.proofs.record.RowState.aged.Statement.{statement}
+use Rattle.records.proofs.record.RowState.aged.Tie as tie
+
+returns : tie.Need-returns
+returns c = search age-at
+
+returns-2 : tie.Need-returns-2
+returns-2 c = search age-else
+
+pub aged-spec : {M : Type 1} → statement M
+aged-spec = tie.close (tie.spec (λ c κs. search needs) (λ c κs. search needs) returns returns-2)

@@ -1,0 +1,46 @@
+-- One slot of one row, in five steps: what its record becomes, and its code.
+use Prim.Native.Nat.{ℕ, _+_, _-_}
+use mathlib.Core.Bool.{Bool}
+use lib.Dec.{ltb, leb, eqb}
+use Rattle.basis.specs.Words.{pick, both}
+use Rattle.sheet.specs.declared.row.Row.{Row}
+use Rattle.records.specs.declared.record.RowState.{RowState}
+use Rattle.records.specs.Records.{hasJob}
+
+-- 1. A release of 1..C slots, where it is allowed, sets remaining to that value and since to 0; zero means no release.
+unfoldable pub released : ℕ → RowState → RowState
+released release s = pick (eqb release 0) s (record { remaining = release; since = 0 })
+
+-- 2. From the top with m free: a row with a job runs if its threads are no more than the free processors,
+unfoldable pub fits : ℕ → Row → RowState → Bool
+fits free row s = both (hasJob s) (leb (row .threads) free)
+
+-- which it then takes.
+unfoldable pub freeBelow : ℕ → Row → RowState → ℕ
+freeBelow free row s = pick (fits free row s) (free - row .threads) free
+
+-- 3. Each running row's remaining falls by one.
+unfoldable pub worked : Bool → RowState → RowState
+worked ran s = record { remaining = pick ran (s .remaining - 1) (s .remaining); since = s .since }
+
+-- 4. Each row's since grows by one, up to T.
+unfoldable pub older : ℕ → ℕ → ℕ
+older separation since = pick (ltb since separation) (since + 1) separation
+
+-- The record of a row that has grown older.
+unfoldable pub aged : Row → RowState → RowState
+aged row s = record { remaining = s .remaining; since = older (row .separation) (s .since) }
+
+-- 5. A job with remaining 0 is finished. Else, where since equals D, it is missed
+unfoldable pub missed : Row → RowState → Bool
+missed row s = both (hasJob s) (eqb (s .since) (row .deadline))
+
+-- and the rest is dropped.
+unfoldable pub ended : Row → RowState → RowState
+ended row s = record { remaining = pick (missed row s) 0 (s .remaining); since = s .since }
+
+-- Codes: 0 no job, 1 waited, 2 ran, 3 finished in this slot, 4 missed (running or not).
+-- Before is the record that the slot began with, and after is the one that it came to before anything was dropped.
+unfoldable pub codeOf : Row → Bool → RowState → RowState → ℕ
+codeOf row ran before after =
+    pick (hasJob before) (pick (hasJob after) (pick (missed row after) 4 (pick ran 2 1)) 3) 0
