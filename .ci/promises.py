@@ -4,13 +4,15 @@
 Of the table of public functions it asks that each public function of a crate stands there once, that it has no `requires` and one `ensures`, that this `ensures` names each
 definition listed beside it, imported from a file that is listed and has the definition, and that the type of each law listed names each of these definitions twice, once for each of
 the two answers that it makes equal. A law, like every theorem of the other tables, is a name with a clause of its own in a file that is listed, so no field of a record is taken for
-one. Of every table it asks that each row has all its cells, and that each file listed is there and has one of the names beside it.
+one. Of every table it asks that each row has all its cells, and that each file listed is there and has one of the names beside it; and of the table of wrong answers that it has
+two theorems at least for each public function, each of which names a definition of that function's promise.
 """
 import os
 import re
 import sys
 
 PAGE = "docs/PROMISES.md"
+SHUT_OUT = ("-is-shut-out", "-is-shut-out")
 NAME = r"[^\s(){};,.]+"
 
 
@@ -196,13 +198,14 @@ class Page:
 
     def __init__(self, sources):
         self.sources, self.faults, self.functions, self.theory = sources, [], {}, sources.theory
+        self.wrong = {}
         for section, cells, width in tables(sources):
             self.row(section, cells, width)
         found = [(f"{crate}::{name}", head, scope) for crate in crates(sources) for name, head, scope in public_functions(sources, crate)]
         for full, head, scope in found:
             self.function(full, head, scope)
         self.count = len(found)
-        for full in self.functions.keys() - {full for full, _, _ in found}:
+        for full in (self.functions.keys() | self.wrong.keys()) - {full for full, _, _ in found}:
             self.fault(f"{PAGE} names {full}, which is no public function")
         if "\n## Exceptions\n" not in sources.text(PAGE):
             self.fault(f"{PAGE} has no section Exceptions")
@@ -229,6 +232,10 @@ class Page:
         for path in files:
             if not any(self.theory(path).has(name) for name in names):
                 self.fault(f"{where}: {path} has none of the names beside it")
+        if section == "Wrong answers":
+            types = [self.theory(path).signature(name) for path in files for name in names if name.endswith(SHUT_OUT)]
+            for function in listed(cells[0]):
+                self.wrong.setdefault(function, []).extend(filter(None, types))
         if section == "Public functions":
             functions = listed(cells[0])
             if len(functions) != 1 or functions[0] in self.functions:
@@ -256,6 +263,8 @@ class Page:
                 self.fault(f"{full}: {name} of its ensures is imported from {file}, which is not beside it or has no such definition")
             for law in laws:
                 self.law(full, law, name, file, files)
+        if sum(bool(set(definitions) & set(spaced(signature))) for signature in self.wrong.get(full, [])) < 2:
+            self.fault(f"{full}: the table of wrong answers has not two theorems that name a definition of its promise")
 
     def law(self, full, law, name, file, files):
         """A law of equal answers names the definition, from the same file, once for each of two answers."""

@@ -8,7 +8,7 @@ from promises import PAGE, Page, Sources
 
 ROOT = os.path.join(os.path.dirname(os.path.abspath(__file__)), "..")
 LEGAL = "| `sheet::is_legal` | `legal`, `sheetIn` | `is-legal-same` | `crates/sheet/specs/Legal.antt`, `crates/sheet/specs/Lists.antt`, `crates/sheet/proofs/Same.antt` |\n"
-FRESH = "| `machine::fresh` | `fresh`, `started` | `fresh-same` | `crates/machine/specs/Answers.antt`, `crates/machine/proofs/Same.antt` |\n"
+FRESH = "| `states::fresh` | `fresh`, `started` | `fresh-same` | `crates/machine/specs/Answers.antt`, `crates/states/specs/Values.antt`, `crates/states/proofs/Same.antt` |\n"
 SAME = "crates/sheet/proofs/Same.antt"
 CODE = "crates/sheet/src/legal.rt"
 LAW = "pub is-legal-same : (l : List ℕ) (r r′ : Bool) → r ≡ legal (sheetIn l) → r′ ≡ legal (sheetIn l) → r ≡ r′"
@@ -17,7 +17,7 @@ LAW = "pub is-legal-same : (l : List ℕ) (r r′ : Bool) → r ≡ legal (sheet
 BROKEN = [
     ("a function is missing", PAGE, LEGAL, "", "sheet::is_legal is not in"),
     ("a function stands twice", PAGE, LEGAL, LEGAL + LEGAL, "stands there twice"),
-    ("a function that is none", PAGE, "`sheet::is_legal`", "`sheet::is_lawful`", "sheet::is_lawful, which is no public function"),
+    ("a function that is none", PAGE, "`sheet::is_legal` | ", "`sheet::is_lawful` | ", "sheet::is_lawful, which is no public function"),
     ("a definition that the ensures does not name", PAGE, "`legal`, `sheetIn` | `is-legal-same`", "`legalRow` | `is-legal-same`", "its ensures does not name legalRow"),
     ("a record field for a definition", PAGE, "`legal`, `sheetIn` | `is-legal-same`", "`some-rows` | `is-legal-same`", "no file beside it has some-rows"),
     ("no definition", PAGE, "`legal`, `sheetIn` | `is-legal-same`", "legal | `is-legal-same`", "no definition or no law"),
@@ -31,6 +31,10 @@ BROKEN = [
     ("a cell too few", PAGE, LEGAL, LEGAL.replace(" | `is-legal-same`", ""), "has not the cells of its heading"),
     ("another table's theorem that is none", PAGE, "`no-job-is-late` | `crates/green/proofs/Theorem.antt`", "`no-job-is-early` | `crates/green/proofs/Theorem.antt`", "no file beside it has no-job-is-early"),
     ("another table's record field for a theorem", PAGE, "`number-is-below` | `crates/numbers/proofs/Encoding.antt`", "`number-is-below`, `some-threads` | `crates/numbers/proofs/Encoding.antt`, `crates/sheet/specs/Legal.antt`", "no file beside it has some-threads"),
+    ("a wrong answer of no function", PAGE, "| `sheet::clear_from`: the list", "| `sheet::clear_to`: the list", "sheet::clear_to, which is no public function"),
+    ("a wrong answer of another promise", PAGE, "| `sheet::number_at`: a number", "| `sheet::count`: a number", "sheet::number_at: the table of wrong answers has not two theorems"),
+    ("a theorem of another promise among two", PAGE, "`firstPast`, `first-past-is-shut-out`, ", "`firstThreads`, `threads-for-rows-is-shut-out`, ", "sheet::number_at: the table of wrong answers has not two theorems"),
+    ("one wrong answer alone", PAGE, "`firstPast`, `first-past-is-shut-out`, ", "", "sheet::number_at: the table of wrong answers has not two theorems"),
     ("no section of exceptions", PAGE, "\n## Exceptions\n", "\n## Others\n", "has no section Exceptions"),
     ("a law that speaks of one answer", SAME, LAW, "pub is-legal-same : (l : List ℕ) (r r′ : Bool) → r ≡ legal (sheetIn l) → r ≡ r", "does not name legal of"),
     ("a law of another definition under its name", SAME, LAW, LAW.replace("legal (sheetIn l)", "other (sheetIn l)"), "the type of is-legal-same does not name legal"),

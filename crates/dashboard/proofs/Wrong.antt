@@ -31,63 +31,63 @@ long : Page → ℕ
 long (text, n) = n
 
 -- HOLDS for every sheet: sheet C fails
-pub always-holds-is-wrong : NoneMeets (written (alwaysHolds sheetCBytes) forty) (written (verdictText sheetCBytes) forty)
+pub always-holds-is-shut-out : NoneMeets (written (alwaysHolds sheetCBytes) forty) (written (verdictText sheetCBytes) forty)
 unfolding alwaysHolds textBy boardBy written at allOf sum begins groups upTo plain label entry entries body head sheet labelHead labelIn q X x W durationOf amountOf amounts room passes least boundBy judge resultsTo resultOf holds digits decimal told words.head line ownLabel lines board verdictText
-always-holds-is-wrong = values-apart _ _ (at 29) refl
+always-holds-is-shut-out = values-apart _ _ (at 29) refl
 
 -- the first label again: sheet C's second row is trim
-pub first-label-again-is-wrong : NoneMeets (written (firstLabelAgain sheetCBytes) forty) (written (verdictText sheetCBytes) forty)
+pub first-label-again-is-shut-out : NoneMeets (written (firstLabelAgain sheetCBytes) forty) (written (verdictText sheetCBytes) forty)
 unfolding firstLabelAgain textBy boardBy written at allOf sum begins groups upTo plain label entry entries body head sheet labelHead labelIn q X x W durationOf amountOf amounts room passes least boundBy judge resultsTo resultOf holds digits decimal told words.head line ownLabel lines board verdictText
-first-label-again-is-wrong = values-apart _ _ (at 17) refl
+first-label-again-is-shut-out = values-apart _ _ (at 17) refl
 
 -- the last digit lost: sheet C's first bound, 1, would be 0
-pub short-bounds-is-wrong : NoneMeets (written (shortBounds sheetCBytes) forty) (written (verdictText sheetCBytes) forty)
+pub short-bounds-is-shut-out : NoneMeets (written (shortBounds sheetCBytes) forty) (written (verdictText sheetCBytes) forty)
 unfolding shortBounds digitLost textBy boardBy written at allOf sum begins groups upTo plain label entry entries body head sheet labelHead labelIn q X x W durationOf amountOf amounts room passes least boundBy judge resultsTo resultOf holds digits decimal told words.head line ownLabel lines board verdictText
-short-bounds-is-wrong = values-apart _ _ (at 13) refl
+short-bounds-is-shut-out = values-apart _ _ (at 13) refl
 
 -- the last row lost: the text of sheet C has 35 bytes
-pub last-row-lost-is-wrong : NoneMeets (written (lastRowLost sheetCBytes) forty) (written (verdictText sheetCBytes) forty)
+pub last-row-lost-is-shut-out : NoneMeets (written (lastRowLost sheetCBytes) forty) (written (verdictText sheetCBytes) forty)
 unfolding lastRowLost textBy written long allOf sum begins groups upTo plain label entry entries body head sheet labelHead labelIn q X x W durationOf amountOf amounts room passes least boundBy judge resultsTo resultOf holds digits decimal told words.head line ownLabel lines board verdictText
-last-row-lost-is-wrong = values-apart _ _ long refl
+last-row-lost-is-shut-out = values-apart _ _ long refl
 
 -- the place of a refusal lost: sheet C with a blank is refused at 23
-pub place-zero-is-wrong : NoneMeets (written (placeZero blankCBytes) forty) (written (verdictText blankCBytes) forty)
+pub place-zero-is-shut-out : NoneMeets (written (placeZero blankCBytes) forty) (written (verdictText blankCBytes) forty)
 unfolding placeZero textBy written long begins groups upTo plain label entry entries body head sheet digits decimal refusedBy noVerdict verdictText
-place-zero-is-wrong = values-apart _ _ long refl
+place-zero-is-shut-out = values-apart _ _ long refl
 
 -- a refused sheet that holds: sheet C with a blank has no verdict
-pub refused-is-empty-is-wrong : NoneMeets (written (refusedIsEmpty blankCBytes) forty) (written (verdictText blankCBytes) forty)
+pub refused-is-empty-is-shut-out : NoneMeets (written (refusedIsEmpty blankCBytes) forty) (written (verdictText blankCBytes) forty)
 unfolding refusedIsEmpty textBy written long begins groups upTo plain label entry entries body head sheet digits decimal refusedBy noVerdict verdictText
-refused-is-empty-is-wrong = values-apart _ _ long refl
+refused-is-empty-is-shut-out = values-apart _ _ long refl
 
 -- sheet A each time: the reference would be of another length
-pub sheet-a-each-time-is-wrong : NoneMeets (written sheetAEachTime fourHundred) (written referenceText fourHundred)
+pub sheet-a-each-time-is-shut-out : NoneMeets (written sheetAEachTime fourHundred) (written referenceText fourHundred)
 unfolding sheetAEachTime sameSections sameSection written long allOf sum q X x W durationOf amountOf amounts room passes least boundBy judge resultsTo resultOf holds fixedSheet digits decimal told words.head line numbered lines board section sections referenceText
-sheet-a-each-time-is-wrong = values-apart _ _ long refl
+sheet-a-each-time-is-shut-out = values-apart _ _ long refl
 
 -- sheet E left out
-pub sheet-left-out-is-wrong : NoneMeets (written sheetLeftOut fourHundred) (written referenceText fourHundred)
+pub sheet-left-out-is-shut-out : NoneMeets (written sheetLeftOut fourHundred) (written referenceText fourHundred)
 unfolding sheetLeftOut written long allOf sum q X x W durationOf amountOf amounts room passes least boundBy judge resultsTo resultOf holds fixedSheet digits decimal told words.head line numbered lines board section sections referenceText
-sheet-left-out-is-wrong = values-apart _ _ long refl
+sheet-left-out-is-shut-out = values-apart _ _ long refl
 
 -- the first number of a buffer
 first : List ℕ → ℕ
 first l = getD l 0 0
 
 -- a buffer that is not zero
-pub input-of-ones-is-wrong : NoneMeets inputOfOnes inputBuffer
+pub input-of-ones-is-shut-out : NoneMeets inputOfOnes inputBuffer
 unfolding inputOfOnes inputSize longestSheet longestRow width spelt first
-input-of-ones-is-wrong = values-apart _ _ first refl
+input-of-ones-is-shut-out = values-apart _ _ first refl
 
-pub text-of-ones-is-wrong : NoneMeets textOfOnes textBuffer
+pub text-of-ones-is-shut-out : NoneMeets textOfOnes textBuffer
 unfolding textOfOnes first
-text-of-ones-is-wrong = values-apart _ _ first refl
+text-of-ones-is-shut-out = values-apart _ _ first refl
 
 -- a buffer that is too small
-pub input-too-small-is-wrong : NoneMeets inputTooSmall inputBuffer
+pub input-too-small-is-shut-out : NoneMeets inputTooSmall inputBuffer
 unfolding inputTooSmall inputSize longestSheet longestRow width spelt
-input-too-small-is-wrong = values-apart _ _ length refl
+input-too-small-is-shut-out = values-apart _ _ length refl
 
-pub text-too-small-is-wrong : NoneMeets textTooSmall textBuffer
+pub text-too-small-is-shut-out : NoneMeets textTooSmall textBuffer
 unfolding textTooSmall
-text-too-small-is-wrong = values-apart _ _ length refl
+text-too-small-is-shut-out = values-apart _ _ length refl

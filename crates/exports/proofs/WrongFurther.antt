@@ -30,24 +30,24 @@ value : NumberTold → ℕ
 value ((k, p), (v, after)) = v
 
 -- value and place swapped: 80 01 would be 2
-pub swapped-is-wrong : NoneMeets (swapped (numberOn twoGroups 0 sevens)) (numberOn twoGroups 0 sevens)
+pub swapped-is-shut-out : NoneMeets (swapped (numberOn twoGroups 0 sevens)) (numberOn twoGroups 0 sevens)
 unfolding swapped numberOn stepTold groups value
-swapped-is-wrong = values-apart _ _ value refl
+swapped-is-shut-out = values-apart _ _ value refl
 
 -- zeros beside a refusal: 80 00 leaves what was lent
-pub zeros-written-is-wrong : NoneMeets (zerosWritten (numberOn zeroLast 0 sevens)) (numberOn zeroLast 0 sevens)
+pub zeros-written-is-shut-out : NoneMeets (zerosWritten (numberOn zeroLast 0 sevens)) (numberOn zeroLast 0 sevens)
 unfolding zerosWritten numberOn stepTold groups value
-zeros-written-is-wrong = values-apart _ _ value refl
+zeros-written-is-shut-out = values-apart _ _ value refl
 
 -- no refusal told: 80 01 is over 5
-pub not-told-is-wrong : NoneMeets (notTold (upToOn twoGroups 0 5 sevens)) (upToOn twoGroups 0 5 sevens)
+pub not-told-is-shut-out : NoneMeets (notTold (upToOn twoGroups 0 5 sevens)) (upToOn twoGroups 0 5 sevens)
 unfolding notTold upToOn stepTold upTo groups refusal
-not-told-is-wrong = values-apart _ _ refusal refl
+not-told-is-shut-out = values-apart _ _ refusal refl
 
 -- 8 and 7 for 7 and 8: 80 01 is over 5 by 8
-pub eight-and-seven-is-wrong : NoneMeets (eightAndSeven twoGroups 0 5 sevens) (upToOn twoGroups 0 5 sevens)
+pub eight-and-seven-is-shut-out : NoneMeets (eightAndSeven twoGroups 0 5 sevens) (upToOn twoGroups 0 5 sevens)
 unfolding eightAndSeven upToOn stepTold upTo groups refusal
-eight-and-seven-is-wrong = values-apart _ _ refusal refl
+eight-and-seven-is-shut-out = values-apart _ _ refusal refl
 
 -- the number told, and the number at a place of a list
 told : (ℕ × ℕ) × List ℕ → ℕ
@@ -57,14 +57,14 @@ first : (ℕ × ℕ) × List ℕ → ℕ
 first ((k, p), list) = getD list 0 0
 
 -- sheet A for every number: sheet C is on two processors
-pub sheet-a-always-is-wrong : NoneMeets (sheetAAlways 2 listC) (fixedIn 2 listC)
+pub sheet-a-always-is-shut-out : NoneMeets (sheetAAlways 2 listC) (fixedIn 2 listC)
 unfolding sheetAAlways fixedIn fieldsIn fixedSheet filled upto listCell rowCell first
-sheet-a-always-is-wrong = values-apart _ _ first refl
+sheet-a-always-is-shut-out = values-apart _ _ first refl
 
 -- a sheet cut off: sheet C has no room in two places
-pub cut-off-is-wrong : NoneMeets (cutOff 2 twoPlaces) (fixedIn 2 twoPlaces)
+pub cut-off-is-shut-out : NoneMeets (cutOff 2 twoPlaces) (fixedIn 2 twoPlaces)
 unfolding cutOff fixedIn fieldsIn fixedSheet filled upto listCell rowCell told
-cut-off-is-wrong = values-apart _ _ told refl
+cut-off-is-shut-out = values-apart _ _ told refl
 
 -- the slots done, and what remains of the second row's job
 done : BoxTold → ℕ
@@ -74,11 +74,11 @@ remaining : BoxTold → ℕ
 remaining (refusal, (n, (state, codes))) = getD state 2 0
 
 -- every slot counted: the second slot of sheet C is refused, so that one is done
-pub all-counted-is-wrong : NoneMeets (allCounted listC tooSoon (boxOn listC fourPlaces tooSoon fourPlaces)) (boxOn listC fourPlaces tooSoon fourPlaces)
+pub all-counted-is-shut-out : NoneMeets (allCounted listC tooSoon (boxOn listC fourPlaces tooSoon fourPlaces)) (boxOn listC fourPlaces tooSoon fourPlaces)
 unfolding allCounted done boxOn boxOf sheetIn rowIn fresh given nextState nextCodes slot slotAt onward course run checkRow checkReleases checkState checkRoom checkSlot checkRun released fits freeBelow freeAt worked older aged missed ended codeOf freshState legalState legalRecord isZero states.legalAt legal legalAt legalRow firstOf upto allOf
-all-counted-is-wrong = values-apart _ _ done refl
+all-counted-is-shut-out = values-apart _ _ done refl
 
 -- the state kept: three slots remain of the second row's job
-pub state-kept-is-wrong : NoneMeets (stateKept fourPlaces (boxOn listC fourPlaces tooSoon fourPlaces)) (boxOn listC fourPlaces tooSoon fourPlaces)
+pub state-kept-is-shut-out : NoneMeets (stateKept fourPlaces (boxOn listC fourPlaces tooSoon fourPlaces)) (boxOn listC fourPlaces tooSoon fourPlaces)
 unfolding stateKept remaining filled pairCell boxOn boxOf sheetIn rowIn fresh given nextState nextCodes slot slotAt onward course run checkRow checkReleases checkState checkRoom checkSlot checkRun released fits freeBelow freeAt worked older aged missed ended codeOf freshState legalState legalRecord isZero states.legalAt legal legalAt legalRow firstOf upto allOf
-state-kept-is-wrong = values-apart _ _ remaining refl
+state-kept-is-shut-out = values-apart _ _ remaining refl

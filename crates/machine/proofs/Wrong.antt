@@ -44,14 +44,6 @@ codeAfter k x = getD (x .1 .1) k 0
 abbrev refusedAfter : Outcome × (State × List ℕ) → ℕ
 refusedAfter x = numberOf (x .0)
 
--- ---- a slot and a run shut a rule out on a sheet, a state, releases and a code buffer
-
-abbrev pub SlotShutsOut : (Sheet → State → List ℕ → List ℕ → Outcome × (State × List ℕ)) → Sheet → State → List ℕ → List ℕ → Type 0
-SlotShutsOut faulty h t releases codes = NoneMeets (faulty h t releases codes) (slot h t releases codes)
-
-abbrev pub RunShutsOut : (Sheet → State → List ℕ → List ℕ → Course) → Sheet → State → List ℕ → List ℕ → Type 0
-RunShutsOut faulty h t releases codes = NoneMeets (faulty h t releases codes) (run h t releases codes)
-
 -- ---- `fresh`
 
 pub fresh-with-jobs-is-shut-out : NoneMeets (freshWithJobs sheetC) (fresh sheetC)
@@ -65,52 +57,52 @@ fresh-too-young-is-shut-out = apart (sinceOf 1) _ _ 1 4 refl refl (λ e. omega a
 -- ---- `slot`
 
 -- case H, the first slot: row 1 does not fit, and row 2 does
-pub slot-to-unfit-is-shut-out : SlotShutsOut slotToUnfit sheetB (fresh sheetB .1) (2 ∷ 2 ∷ 3 ∷ []) (9 ∷ 9 ∷ 9 ∷ [])
+pub slot-to-unfit-is-shut-out : NoneMeets (slotToUnfit sheetB (fresh sheetB .1) (2 ∷ 2 ∷ 3 ∷ []) (9 ∷ 9 ∷ 9 ∷ [])) (slot sheetB (fresh sheetB .1) (2 ∷ 2 ∷ 3 ∷ []) (9 ∷ 9 ∷ 9 ∷ []))
 unfolding slotToUnfit freeToUnfit stopsAtUnfit allOf firstOf upto legalRow legalAt legal states.freshState legalRecord isZero states.legalAt states.legalState released fits freeBelow freeAt worked older aged missed ended codeOf checkRow checkReleases checkState checkRoom checkSlot fresh given nextState nextCodes slot
 slot-to-unfit-is-shut-out = apart (codeAfter 2) _ _ 1 2 refl refl (λ e. omega arith)
 
 -- the same slot: row 1 waits
-pub slot-of-all-is-shut-out : SlotShutsOut slotOfAll sheetB (fresh sheetB .1) (2 ∷ 2 ∷ 3 ∷ []) (9 ∷ 9 ∷ 9 ∷ [])
+pub slot-of-all-is-shut-out : NoneMeets (slotOfAll sheetB (fresh sheetB .1) (2 ∷ 2 ∷ 3 ∷ []) (9 ∷ 9 ∷ 9 ∷ [])) (slot sheetB (fresh sheetB .1) (2 ∷ 2 ∷ 3 ∷ []) (9 ∷ 9 ∷ 9 ∷ []))
 unfolding slotOfAll allOf firstOf upto legalRow legalAt legal states.freshState legalRecord isZero states.legalAt states.legalState released fits freeBelow freeAt worked older aged missed ended codeOf checkRow checkReleases checkState checkRoom checkSlot fresh given nextState nextCodes slot
 slot-of-all-is-shut-out = apart (codeAfter 1) _ _ 2 1 refl refl (λ e. omega arith)
 
 -- sheet F: a job finishes in the slot in which since reaches its deadline
-pub slot-missed-first-is-shut-out : SlotShutsOut slotMissedFirst sheetF (fresh sheetF .1) (1 ∷ []) (9 ∷ [])
+pub slot-missed-first-is-shut-out : NoneMeets (slotMissedFirst sheetF (fresh sheetF .1) (1 ∷ []) (9 ∷ [])) (slot sheetF (fresh sheetF .1) (1 ∷ []) (9 ∷ []))
 unfolding slotMissedFirst allOf firstOf upto legalRow legalAt legal states.freshState legalRecord isZero states.legalAt states.legalState released fits freeBelow freeAt worked older aged missed ended codeOf checkRow checkReleases checkState checkRoom checkSlot fresh given nextState nextCodes slot
 slot-missed-first-is-shut-out = apart (codeAfter 0) _ _ 4 3 refl refl (λ e. omega arith)
 
 -- case G, the first slot: row 1 is released for 3
-pub slot-untouched-is-shut-out : SlotShutsOut slotUntouched sheetC (fresh sheetC .1) (1 ∷ 3 ∷ []) (9 ∷ 9 ∷ [])
+pub slot-untouched-is-shut-out : NoneMeets (slotUntouched sheetC (fresh sheetC .1) (1 ∷ 3 ∷ []) (9 ∷ 9 ∷ [])) (slot sheetC (fresh sheetC .1) (1 ∷ 3 ∷ []) (9 ∷ 9 ∷ []))
 unfolding slotUntouched allOf firstOf upto legalRow legalAt legal states.freshState legalRecord isZero states.legalAt states.legalState released fits freeBelow freeAt worked older aged missed ended codeOf checkRow checkReleases checkState checkRoom checkSlot fresh given nextState nextCodes slot
 slot-untouched-is-shut-out = apart (leftAfter 1) _ _ 0 3 refl refl (λ e. omega arith)
 
-pub slot-unreleased-is-shut-out : SlotShutsOut slotUnreleased sheetC (fresh sheetC .1) (1 ∷ 3 ∷ []) (9 ∷ 9 ∷ [])
+pub slot-unreleased-is-shut-out : NoneMeets (slotUnreleased sheetC (fresh sheetC .1) (1 ∷ 3 ∷ []) (9 ∷ 9 ∷ [])) (slot sheetC (fresh sheetC .1) (1 ∷ 3 ∷ []) (9 ∷ 9 ∷ []))
 unfolding slotUnreleased allOf firstOf upto legalRow legalAt legal states.freshState legalRecord isZero states.legalAt states.legalState released fits freeBelow freeAt worked older aged missed ended codeOf checkRow checkReleases checkState checkRoom checkSlot fresh given nextState nextCodes slot
 slot-unreleased-is-shut-out = apart (codeAfter 0) _ _ 0 3 refl refl (λ e. omega arith)
 
 -- a release of 2 in row 0 is over its budget
-pub slot-codes-always-is-shut-out : SlotShutsOut slotCodesAlways sheetC (fresh sheetC .1) (2 ∷ 0 ∷ []) (9 ∷ 9 ∷ [])
+pub slot-codes-always-is-shut-out : NoneMeets (slotCodesAlways sheetC (fresh sheetC .1) (2 ∷ 0 ∷ []) (9 ∷ 9 ∷ [])) (slot sheetC (fresh sheetC .1) (2 ∷ 0 ∷ []) (9 ∷ 9 ∷ []))
 unfolding slotCodesAlways allOf firstOf upto legalRow legalAt legal states.freshState legalRecord isZero states.legalAt states.legalState released fits freeBelow freeAt worked older aged missed ended codeOf checkRow checkReleases checkState checkRoom checkSlot fresh given nextState nextCodes slot
 slot-codes-always-is-shut-out = apart (codeAfter 1) _ _ 0 9 refl refl (λ e. omega arith)
 
 -- and one slot after the last it is too soon as well
-pub slot-thirteen-first-is-shut-out : SlotShutsOut slotThirteenFirst sheetC busyC (2 ∷ 0 ∷ []) (9 ∷ 9 ∷ [])
+pub slot-thirteen-first-is-shut-out : NoneMeets (slotThirteenFirst sheetC busyC (2 ∷ 0 ∷ []) (9 ∷ 9 ∷ [])) (slot sheetC busyC (2 ∷ 0 ∷ []) (9 ∷ 9 ∷ []))
 unfolding slotThirteenFirst checkThirteenFirst thirteenFirst allOf firstOf upto legalRow legalAt legal legalRecord isZero states.legalAt states.legalState checkRow checkReleases checkState checkRoom checkSlot slot
 slot-thirteen-first-is-shut-out = apart refusedAfter _ _ 13 12 refl refl (λ e. omega arith)
 
 -- ---- `run`
 
 -- the first two slots of case G: row 1 runs in the second
-pub run-of-first-is-shut-out : RunShutsOut runOfFirst sheetC (fresh sheetC .1) (1 ∷ 3 ∷ 0 ∷ 0 ∷ []) (9 ∷ 9 ∷ 9 ∷ 9 ∷ [])
+pub run-of-first-is-shut-out : NoneMeets (runOfFirst sheetC (fresh sheetC .1) (1 ∷ 3 ∷ 0 ∷ 0 ∷ []) (9 ∷ 9 ∷ 9 ∷ 9 ∷ [])) (run sheetC (fresh sheetC .1) (1 ∷ 3 ∷ 0 ∷ 0 ∷ []) (9 ∷ 9 ∷ 9 ∷ 9 ∷ []))
 unfolding runOfFirst allOf firstOf upto legalRow legalAt legal states.freshState legalRecord isZero states.legalAt states.legalState released fits freeBelow freeAt worked older aged missed ended codeOf checkRow checkReleases checkState checkRoom checkSlot checkRun fresh given nextState nextCodes slot slotAt onward course run
 run-of-first-is-shut-out = apart (λ (c : Course). getD (c .codes) 3 0) _ _ 9 2 refl refl (λ e. omega arith)
 
 -- a second release of row 0, one slot after the first, is refused
-pub run-made-up-is-shut-out : RunShutsOut runMadeUp sheetC (fresh sheetC .1) (1 ∷ 0 ∷ 1 ∷ 0 ∷ []) (9 ∷ 9 ∷ 9 ∷ 9 ∷ [])
+pub run-made-up-is-shut-out : NoneMeets (runMadeUp sheetC (fresh sheetC .1) (1 ∷ 0 ∷ 1 ∷ 0 ∷ []) (9 ∷ 9 ∷ 9 ∷ 9 ∷ [])) (run sheetC (fresh sheetC .1) (1 ∷ 0 ∷ 1 ∷ 0 ∷ []) (9 ∷ 9 ∷ 9 ∷ 9 ∷ []))
 unfolding runMadeUp allOf firstOf upto legalRow legalAt legal states.freshState legalRecord isZero states.legalAt states.legalState released fits freeBelow freeAt worked older aged missed ended codeOf checkRow checkReleases checkState checkRoom checkSlot checkRun fresh given nextState nextCodes slot slotAt onward course run
 run-made-up-is-shut-out = apart (λ (c : Course). c .done) _ _ 2 1 refl refl (λ e. omega arith)
 
-pub run-untouched-is-shut-out : RunShutsOut runUntouched sheetC (fresh sheetC .1) (1 ∷ 3 ∷ 0 ∷ 0 ∷ []) (9 ∷ 9 ∷ 9 ∷ 9 ∷ [])
+pub run-untouched-is-shut-out : NoneMeets (runUntouched sheetC (fresh sheetC .1) (1 ∷ 3 ∷ 0 ∷ 0 ∷ []) (9 ∷ 9 ∷ 9 ∷ 9 ∷ [])) (run sheetC (fresh sheetC .1) (1 ∷ 3 ∷ 0 ∷ 0 ∷ []) (9 ∷ 9 ∷ 9 ∷ 9 ∷ []))
 unfolding runUntouched allOf firstOf upto legalRow legalAt legal states.freshState legalRecord isZero states.legalAt states.legalState released fits freeBelow freeAt worked older aged missed ended codeOf checkRow checkReleases checkState checkRoom checkSlot checkRun fresh given nextState nextCodes slot slotAt onward course run
 run-untouched-is-shut-out = apart (λ (c : Course). recordAt (c .state) 1 .remaining) _ _ 0 2 refl refl (λ e. omega arith)
 

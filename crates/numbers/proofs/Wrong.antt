@@ -22,41 +22,41 @@ place (ok v n) = n
 place (refuse k p) = p
 
 -- the highest group first: 80 01 would be 1
-pub highest-first-is-wrong : NoAnswer step (highestFirst twoGroups 0) (number twoGroups 0)
+pub highest-first-is-shut-out : NoAnswer step (highestFirst twoGroups 0) (number twoGroups 0)
 unfolding groups highGroups highestFirst value
-highest-first-is-wrong = told-apart step _ _ value refl
+highest-first-is-shut-out = told-apart step _ _ value refl
 
 -- not the shortest form: 80 00 would be 0
-pub any-form-is-wrong : NoAnswer step (anyForm zeroLast 0) (number zeroLast 0)
+pub any-form-is-shut-out : NoAnswer step (anyForm zeroLast 0) (number zeroLast 0)
 unfolding groups looseGroups anyForm refusal
-any-form-is-wrong = told-apart step _ _ refusal refl
+any-form-is-shut-out = told-apart step _ _ refusal refl
 
 -- a group more: 80 80 80 01 would be a number
-pub group-more-is-wrong : NoAnswer step (groupMore fourGroups 0) (number fourGroups 0)
+pub group-more-is-shut-out : NoAnswer step (groupMore fourGroups 0) (number fourGroups 0)
 unfolding groups groupMore refusal
-group-more-is-wrong = told-apart step _ _ refusal refl
+group-more-is-shut-out = told-apart step _ _ refusal refl
 
 -- too long said to be cut off: 80 80 80 01 would be 2
-pub long-is-cut-is-wrong : NoAnswer step (longIsCut fourGroups 0) (number fourGroups 0)
+pub long-is-cut-is-shut-out : NoAnswer step (longIsCut fourGroups 0) (number fourGroups 0)
 unfolding groups threeAs longIsCut refusal
-long-is-cut-is-wrong = told-apart step _ _ refusal refl
+long-is-cut-is-shut-out = told-apart step _ _ refusal refl
 
 -- refused at the place after its first byte: 80 00 would be 3 at 1
-pub place-after-is-wrong : NoAnswer step (placeAfter zeroLast 0) (number zeroLast 0)
+pub place-after-is-shut-out : NoAnswer step (placeAfter zeroLast 0) (number zeroLast 0)
 unfolding groups threeAs placeAfter place
-place-after-is-wrong = told-apart step _ _ place refl
+place-after-is-shut-out = told-apart step _ _ place refl
 
 -- a blank read as zero: 00 would be a budget of 0, and the row would weigh nothing
-pub blank-is-zero-is-wrong : NoAnswer step (blankIsZero 5 7 8 blank 0) (upTo 5 7 8 blank 0)
+pub blank-is-zero-is-shut-out : NoAnswer step (blankIsZero 5 7 8 blank 0) (upTo 5 7 8 blank 0)
 unfolding groups upTo blankIsZero refusal
-blank-is-zero-is-wrong = told-apart step _ _ refusal refl
+blank-is-zero-is-shut-out = told-apart step _ _ refusal refl
 
 -- the largest value refused: 05 would be over 5
-pub most-is-over-is-wrong : NoAnswer step (mostIsOver 5 7 8 five 0) (upTo 5 7 8 five 0)
+pub most-is-over-is-shut-out : NoAnswer step (mostIsOver 5 7 8 five 0) (upTo 5 7 8 five 0)
 unfolding groups upTo mostIsOver refusal
-most-is-over-is-wrong = told-apart step _ _ refusal refl
+most-is-over-is-shut-out = told-apart step _ _ refusal refl
 
 -- zero refused as what is over: 00 would be 8
-pub zero-is-over-is-wrong : NoAnswer step (zeroIsOver 5 7 8 blank 0) (upTo 5 7 8 blank 0)
+pub zero-is-over-is-shut-out : NoAnswer step (zeroIsOver 5 7 8 blank 0) (upTo 5 7 8 blank 0)
 unfolding groups upTo zeroIsOver refusal
-zero-is-over-is-wrong = told-apart step _ _ refusal refl
+zero-is-over-is-shut-out = told-apart step _ _ refusal refl

@@ -41,49 +41,49 @@ count-of : Outcome × Sheet → ℕ
 count-of (o, h) = h .count
 
 -- another kind of file: 47 53 43 01 would be cut off after its mark
-pub another-kind-is-wrong : NoAnswer answer (readBy anotherKind otherMark) (reading otherMark)
+pub another-kind-is-shut-out : NoAnswer answer (readBy anotherKind otherMark) (reading otherMark)
 unfolding anotherKind formBy rowsBy entry label plain upTo groups begins entries body head sheet number-of by
-another-kind-is-wrong = told-apart answer _ _ number-of refl
+another-kind-is-shut-out = told-apart answer _ _ number-of refl
 
 -- bytes after the last row: two pumps and a byte would be a sheet
-pub bytes-after-is-wrong : NoAnswer answer (readBy bytesAfter pumpsAndMore) (reading pumpsAndMore)
+pub bytes-after-is-shut-out : NoAnswer answer (readBy bytesAfter pumpsAndMore) (reading pumpsAndMore)
 unfolding bytesAfter formBy rowsBy entry label plain upTo groups begins entries body head sheet number-of by
-bytes-after-is-wrong = told-apart answer _ _ number-of refl
+bytes-after-is-shut-out = told-apart answer _ _ number-of refl
 
 -- a deadline over the separation
-pub long-deadline-is-wrong : NoAnswer answer (readBy longDeadline lateRow) (reading lateRow)
+pub long-deadline-is-shut-out : NoAnswer answer (readBy longDeadline lateRow) (reading lateRow)
 unfolding longDeadline formBy rowsBy rowBy entry label plain upTo groups begins entries body head sheet number-of by
-long-deadline-is-wrong = told-apart answer _ _ number-of refl
+long-deadline-is-shut-out = told-apart answer _ _ number-of refl
 
 -- a blank budget read as 0
-pub blank-read-is-wrong : NoAnswer answer (readBy blankRead blankRow) (reading blankRow)
+pub blank-read-is-shut-out : NoAnswer answer (readBy blankRead blankRow) (reading blankRow)
 unfolding blankRead formBy rowsBy rowBy entry label plain upTo groups begins entries body head sheet number-of by
-blank-read-is-wrong = told-apart answer _ _ number-of refl
+blank-read-is-shut-out = told-apart answer _ _ number-of refl
 
 -- a blank budget refused by 8
-pub seven-and-eight-is-wrong : NoAnswer answer (readBy sevenAndEight blankRow) (reading blankRow)
+pub seven-and-eight-is-shut-out : NoAnswer answer (readBy sevenAndEight blankRow) (reading blankRow)
 unfolding sevenAndEight formBy rowsBy rowBy entry label plain upTo groups begins entries body head sheet number-of by
-seven-and-eight-is-wrong = told-apart answer _ _ number-of refl
+seven-and-eight-is-shut-out = told-apart answer _ _ number-of refl
 
 -- a label byte of 7F
-pub label-byte-is-wrong : NoAnswer answer (readBy labelByte oddLabel) (reading oddLabel)
+pub label-byte-is-shut-out : NoAnswer answer (readBy labelByte oddLabel) (reading oddLabel)
 unfolding labelByte formBy rowsBy rowBy anyLabel anyBytes entry label plain upTo groups begins entries body head sheet number-of by
-label-byte-is-wrong = told-apart answer _ _ number-of refl
+label-byte-is-shut-out = told-apart answer _ _ number-of refl
 
 -- a label that is cut off, refused at 7 and not at 8
-pub cut-at-start-is-wrong : NoAnswer answer (readBy cutAtStart shortLabel) (reading shortLabel)
+pub cut-at-start-is-shut-out : NoAnswer answer (readBy cutAtStart shortLabel) (reading shortLabel)
 unfolding cutAtStart formBy rowsBy rowBy cutLabel enoughFrom entry label plain upTo groups begins entries body head sheet place-of place
-cut-at-start-is-wrong = told-apart answer _ _ place-of refl
+cut-at-start-is-shut-out = told-apart answer _ _ place-of refl
 
 -- every sheet accepted: a blank budget is not
-pub all-accepted-is-wrong : NoAnswer answer (allAccepted (reading blankRow)) (reading blankRow)
+pub all-accepted-is-shut-out : NoAnswer answer (allAccepted (reading blankRow)) (reading blankRow)
 unfolding allAccepted entry label plain upTo groups begins entries body head sheet number-of by
-all-accepted-is-wrong = told-apart answer _ _ number-of refl
+all-accepted-is-shut-out = told-apart answer _ _ number-of refl
 
 -- a sheet of zeros for what was read: two pumps are two rows
-pub nothing-read-is-wrong : NoAnswer answer (nothingRead (reading twoPumps)) (reading twoPumps)
+pub nothing-read-is-shut-out : NoAnswer answer (nothingRead (reading twoPumps)) (reading twoPumps)
 unfolding nothingRead entry label plain upTo groups begins entries body head sheet count-of
-nothing-read-is-wrong = told-apart answer _ _ count-of refl
+nothing-read-is-shut-out = told-apart answer _ _ count-of refl
 
 -- `read_into`: the same, and the number at a place of the first list and of the second
 into-by : Outcome × (List ℕ × List ℕ) → ℕ
@@ -96,19 +96,19 @@ in-labels : ℕ → Outcome × (List ℕ × List ℕ) → ℕ
 in-labels i (o, (list, labels)) = getD labels i 0
 
 -- bytes after the last row, read into lists
-pub bytes-after-into-is-wrong : NoAnswer intoAnswer (intoLists (readBy bytesAfter pumpsAndMore) pumpsAndMore roomForTwo labelsForTwo) (readInto pumpsAndMore roomForTwo labelsForTwo)
+pub bytes-after-into-is-shut-out : NoAnswer intoAnswer (intoLists (readBy bytesAfter pumpsAndMore) pumpsAndMore roomForTwo labelsForTwo) (readInto pumpsAndMore roomForTwo labelsForTwo)
 unfolding bytesAfter formBy rowsBy intoLists readInto entry label plain upTo groups begins entries body head sheet into-by by
-bytes-after-into-is-wrong = told-apart intoAnswer _ _ into-by refl
+bytes-after-into-is-shut-out = told-apart intoAnswer _ _ into-by refl
 
 -- lists left as they were: two pumps are on four processors
-pub lists-as-they-were-is-wrong : NoAnswer intoAnswer (listsAsTheyWere twoPumps roomForTwo labelsForTwo) (readInto twoPumps roomForTwo labelsForTwo)
+pub lists-as-they-were-is-shut-out : NoAnswer intoAnswer (listsAsTheyWere twoPumps roomForTwo labelsForTwo) (readInto twoPumps roomForTwo labelsForTwo)
 unfolding listsAsTheyWere intoLists readInto upto listCell rowCell entry label plain upTo groups begins entries body head sheet in-list
-lists-as-they-were-is-wrong = told-apart intoAnswer _ _ (in-list 0) refl
+lists-as-they-were-is-shut-out = told-apart intoAnswer _ _ (in-list 0) refl
 
 -- the sheet's numbers for the labels: the first of two pumps starts at 7
-pub numbers-for-labels-is-wrong : NoAnswer intoAnswer (numbersForLabels twoPumps roomForTwo labelsForTwo) (readInto twoPumps roomForTwo labelsForTwo)
+pub numbers-for-labels-is-shut-out : NoAnswer intoAnswer (numbersForLabels twoPumps roomForTwo labelsForTwo) (readInto twoPumps roomForTwo labelsForTwo)
 unfolding numbersForLabels intoLists readInto upto pairCell listCell rowCell labelIn labelHead entry label plain upTo groups begins entries body head sheet in-labels
-numbers-for-labels-is-wrong = told-apart intoAnswer _ _ (in-labels 0) refl
+numbers-for-labels-is-shut-out = told-apart intoAnswer _ _ (in-labels 0) refl
 
 -- `label_part`: where a part starts, and how long it is
 start-of : Part → ℕ
@@ -118,19 +118,19 @@ long-of : Part → ℕ
 long-of p = p .long
 
 -- the first label for every row: the second of two pumps starts at 16
-pub first-label-is-wrong : NoneMeets (firstLabel twoPumps 1) (labelIn twoPumps 1)
+pub first-label-is-shut-out : NoneMeets (firstLabel twoPumps 1) (labelIn twoPumps 1)
 unfolding firstLabel labelIn labelHead entry label plain upTo groups begins entries body head sheet start-of
-first-label-is-wrong = values-apart _ _ start-of refl
+first-label-is-shut-out = values-apart _ _ start-of refl
 
 -- the start for the length: a pump is 4 bytes long
-pub start-for-length-is-wrong : NoneMeets (startForLength twoPumps 0) (labelIn twoPumps 0)
+pub start-for-length-is-shut-out : NoneMeets (startForLength twoPumps 0) (labelIn twoPumps 0)
 unfolding startForLength labelIn labelHead entry label plain upTo groups begins entries body head sheet long-of
-start-for-length-is-wrong = values-apart _ _ long-of refl
+start-for-length-is-shut-out = values-apart _ _ long-of refl
 
 -- a row that there is not shows no label, and not that of a row that there is
-pub label-past-rows-is-wrong : NoneMeets (firstLabel twoPumps 2) (labelIn twoPumps 2)
+pub label-past-rows-is-shut-out : NoneMeets (firstLabel twoPumps 2) (labelIn twoPumps 2)
 unfolding firstLabel labelIn labelHead entry label plain upTo groups begins entries body head sheet long-of
-label-past-rows-is-wrong = values-apart _ _ long-of refl
+label-past-rows-is-shut-out = values-apart _ _ long-of refl
 
 -- `label`, of any lent bytes that are two pumps: the two labels are the same bytes, so the place tells them apart
 module _ (s : RefT (List ℕ)) (e : s .now ≡ twoPumps) where
@@ -146,31 +146,31 @@ module _ (s : RefT (List ℕ)) (e : s .now ≡ twoPumps) where
   unfolding labelIn labelHead entry label plain upTo groups begins entries body head sheet
   second-starts = ap (λ (l : List ℕ). labelIn l 1 .start) e
 
-  pub first-label-shown-is-wrong : NoAnswer shown (part s (firstLabel (s .now) 1)) (part s (labelIn (s .now) 1))
+  pub first-label-shown-is-shut-out : NoAnswer shown (part s (firstLabel (s .now) 1)) (part s (labelIn (s .now) 1))
   unfolding firstLabel
-  first-label-shown-is-wrong r f g =
+  first-label-shown-is-shut-out r f g =
       let z : labelIn (s .now) 0 .start + s .ptr .1 ≡ labelIn (s .now) 1 .start + s .ptr .1 = ap (λ (x : (ℕ × ℕ) × List ℕ). x .0 .1) (sym f ∙ g) in
       absurd (omega (arith, first-starts, second-starts))
 
-  pub after-its-end-is-wrong : NoAnswer shown (part s (afterItsEnd (s .now) 0)) (part s (labelIn (s .now) 0))
+  pub after-its-end-is-shut-out : NoAnswer shown (part s (afterItsEnd (s .now) 0)) (part s (labelIn (s .now) 0))
   unfolding afterItsEnd
-  after-its-end-is-wrong r f g =
+  after-its-end-is-shut-out r f g =
       let z : labelIn (s .now) 0 .start + labelIn (s .now) 0 .long + s .ptr .1 ≡ labelIn (s .now) 0 .start + s .ptr .1 = ap (λ (x : (ℕ × ℕ) × List ℕ). x .0 .1) (sym f ∙ g) in
       absurd (omega (arith, first-is-long))
 
   -- a copy: the same bytes in another block
-  pub copied-is-wrong : (i : ℕ) → NoAnswer shown (copied s (labelIn (s .now) i)) (part s (labelIn (s .now) i))
+  pub copied-is-shut-out : (i : ℕ) → NoAnswer shown (copied s (labelIn (s .now) i)) (part s (labelIn (s .now) i))
   unfolding copied
-  copied-is-wrong i r f g = let z : s .ptr .0 + 1 ≡ s .ptr .0 = ap (λ (x : (ℕ × ℕ) × List ℕ). x .0 .0) (sym f ∙ g) in absurd (omega arith)
+  copied-is-shut-out i r f g = let z : s .ptr .0 + 1 ≡ s .ptr .0 = ap (λ (x : (ℕ × ℕ) × List ℕ). x .0 .0) (sym f ∙ g) in absurd (omega arith)
 
 -- `label_parts`
 second-start : List Part → ℕ
 second-start l = getD l 1 nowhere .start
 
-pub first-for-all-is-wrong : NoAnswer (λ (p : Parts). p .parts) (firstForAll twoPumps) (labelsIn twoPumps)
+pub first-for-all-is-shut-out : NoAnswer (λ (p : Parts). p .parts) (firstForAll twoPumps) (labelsIn twoPumps)
 unfolding firstForAll labelsIn upto labelIn labelHead entry label plain upTo groups begins entries body head sheet second-start
-first-for-all-is-wrong = told-apart (λ (p : Parts). p .parts) _ _ second-start refl
+first-for-all-is-shut-out = told-apart (λ (p : Parts). p .parts) _ _ second-start refl
 
-pub no-labels-is-wrong : NoAnswer (λ (p : Parts). p .parts) (noLabels twoPumps) (labelsIn twoPumps)
+pub no-labels-is-shut-out : NoAnswer (λ (p : Parts). p .parts) (noLabels twoPumps) (labelsIn twoPumps)
 unfolding noLabels labelsIn upto labelIn labelHead entry label plain upTo groups begins entries body head sheet second-start
-no-labels-is-wrong = told-apart (λ (p : Parts). p .parts) _ _ second-start refl
+no-labels-is-shut-out = told-apart (λ (p : Parts). p .parts) _ _ second-start refl

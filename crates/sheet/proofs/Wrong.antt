@@ -17,96 +17,96 @@ own : ℕ → ℕ
 own n = n
 
 -- past its end sheet A's list would go on with 4
-pub first-past-is-wrong : NoneMeets (firstPast listA 10) (numberAt listA 10)
+pub first-past-is-shut-out : NoneMeets (firstPast listA 10) (numberAt listA 10)
 unfolding firstPast own
-first-past-is-wrong = values-apart _ _ own refl
+first-past-is-shut-out = values-apart _ _ own refl
 
 -- the next place: sheet A's list would begin with 2
-pub next-place-is-wrong : NoneMeets (nextPlace listA 0) (numberAt listA 0)
+pub next-place-is-shut-out : NoneMeets (nextPlace listA 0) (numberAt listA 0)
 unfolding nextPlace own
-next-place-is-wrong = values-apart _ _ own refl
+next-place-is-shut-out = values-apart _ _ own refl
 
 -- sheet A would have two processors, or two by the threads of its first row
-pub rows-for-processors-is-wrong : NoneMeets (rowsForProcessors listA) (sheetIn listA .processors)
+pub rows-for-processors-is-shut-out : NoneMeets (rowsForProcessors listA) (sheetIn listA .processors)
 unfolding rowsForProcessors sheetIn own
-rows-for-processors-is-wrong = values-apart _ _ own refl
+rows-for-processors-is-shut-out = values-apart _ _ own refl
 
-pub threads-for-processors-is-wrong : NoneMeets (firstThreads listA) (sheetIn listA .processors)
+pub threads-for-processors-is-shut-out : NoneMeets (firstThreads listA) (sheetIn listA .processors)
 unfolding firstThreads sheetIn own
-threads-for-processors-is-wrong = values-apart _ _ own refl
+threads-for-processors-is-shut-out = values-apart _ _ own refl
 
 -- sheet A would have four rows, and so would sheet E by the threads of its first row
-pub processors-for-rows-is-wrong : NoneMeets (processorsForRows listA) (sheetIn listA .count)
+pub processors-for-rows-is-shut-out : NoneMeets (processorsForRows listA) (sheetIn listA .count)
 unfolding processorsForRows sheetIn own
-processors-for-rows-is-wrong = values-apart _ _ own refl
+processors-for-rows-is-shut-out = values-apart _ _ own refl
 
-pub threads-for-rows-is-wrong : NoneMeets (firstThreads listE) (sheetIn listE .count)
+pub threads-for-rows-is-shut-out : NoneMeets (firstThreads listE) (sheetIn listE .count)
 unfolding firstThreads sheetIn own
-threads-for-rows-is-wrong = values-apart _ _ own refl
+threads-for-rows-is-shut-out = values-apart _ _ own refl
 
 -- every row the first: sheet A's second row would have 2 threads
-pub same-rows-is-wrong : NoneMeets (sameRows listA) (sheetIn listA)
+pub same-rows-is-shut-out : NoneMeets (sameRows listA) (sheetIn listA)
 unfolding sameRows sheetIn rowIn upto
-same-rows-is-wrong = values-apart _ _ (λ (h : Sheet). rowAt h 1 .threads) refl
+same-rows-is-shut-out = values-apart _ _ (λ (h : Sheet). rowAt h 1 .threads) refl
 
 -- as many rows as processors: sheet A would have four
-pub row-for-each-is-wrong : NoneMeets (rowForEach listA) (sheetIn listA)
+pub row-for-each-is-shut-out : NoneMeets (rowForEach listA) (sheetIn listA)
 unfolding rowForEach sheetIn
-row-for-each-is-wrong = values-apart _ _ (λ (h : Sheet). h .count) refl
+row-for-each-is-shut-out = values-apart _ _ (λ (h : Sheet). h .count) refl
 
 -- every sheet legal: one with a blank budget is not
-pub any-sheet-is-wrong : NoneMeets (anySheet (sheetIn blankBudget)) (legal (sheetIn blankBudget))
+pub any-sheet-is-shut-out : NoneMeets (anySheet (sheetIn blankBudget)) (legal (sheetIn blankBudget))
 unfolding anySheet legal legalAt legalRow allOf sheetIn rowIn upto
-any-sheet-is-wrong = values-apart _ _ bit refl
+any-sheet-is-shut-out = values-apart _ _ bit refl
 
 -- no sheet legal: sheet A is
-pub nowhere-legal-is-wrong : NoneMeets (nowhereLegal (sheetIn listA)) (legal (sheetIn listA))
+pub nowhere-legal-is-shut-out : NoneMeets (nowhereLegal (sheetIn listA)) (legal (sheetIn listA))
 unfolding nowhereLegal legal legalAt legalRow allOf sheetIn rowIn upto
-nowhere-legal-is-wrong = values-apart _ _ bit refl
+nowhere-legal-is-shut-out = values-apart _ _ bit refl
 
 -- the largest separation refused
-pub below-largest-is-wrong : NoneMeets (judgedBy belowLargest (sheetIn largest)) (legal (sheetIn largest))
+pub below-largest-is-shut-out : NoneMeets (judgedBy belowLargest (sheetIn largest)) (legal (sheetIn largest))
 unfolding judgedBy belowLargest legal legalAt legalRow allOf sheetIn rowIn upto
-below-largest-is-wrong = values-apart _ _ bit refl
+below-largest-is-shut-out = values-apart _ _ bit refl
 
 -- a blank budget allowed: the row would weigh nothing
-pub with-blank-is-wrong : NoneMeets (judgedBy withBlank (sheetIn blankBudget)) (legal (sheetIn blankBudget))
+pub with-blank-is-shut-out : NoneMeets (judgedBy withBlank (sheetIn blankBudget)) (legal (sheetIn blankBudget))
 unfolding judgedBy withBlank legal legalAt legalRow allOf sheetIn rowIn upto
-with-blank-is-wrong = values-apart _ _ bit refl
+with-blank-is-shut-out = values-apart _ _ bit refl
 
 -- the row after the last looked at: sheet A's third row, which is not there, would break the ranges
-pub row-past-last-is-wrong : NoneMeets (rowPastLast (sheetIn listA)) (legal (sheetIn listA))
+pub row-past-last-is-shut-out : NoneMeets (rowPastLast (sheetIn listA)) (legal (sheetIn listA))
 unfolding rowPastLast legal legalAt legalRow allOf sheetIn rowIn upto
-row-past-last-is-wrong = values-apart _ _ bit refl
+row-past-last-is-shut-out = values-apart _ _ bit refl
 
 -- the number at a place of a list
 at : ℕ → List ℕ → ℕ
 at i l = numberAt l i
 
 -- a list left as it was: sheet A put into three places, and these made zero
-pub kept-by-put-is-wrong : NoneMeets (asItWas nines) (filled (sheetCell (sheetIn listA)) nines)
+pub kept-by-put-is-shut-out : NoneMeets (asItWas nines) (filled (sheetCell (sheetIn listA)) nines)
 unfolding asItWas filled upto listCell rowCell sheetIn rowIn at
-kept-by-put-is-wrong = values-apart _ _ (at 0) refl
+kept-by-put-is-shut-out = values-apart _ _ (at 0) refl
 
-pub kept-by-clear-is-wrong : NoneMeets (asItWas nines) (filled (clearedCell 1 nines) nines)
+pub kept-by-clear-is-shut-out : NoneMeets (asItWas nines) (filled (clearedCell 1 nines) nines)
 unfolding asItWas filled upto clearedCell at
-kept-by-clear-is-wrong = values-apart _ _ (at 1) refl
+kept-by-clear-is-shut-out = values-apart _ _ (at 1) refl
 
 -- two numbers of a row: sheet A's first deadline would be 2
-pub two-numbers-is-wrong : NoneMeets (filled (twoNumbers (sheetIn listA)) listA) (filled (sheetCell (sheetIn listA)) listA)
+pub two-numbers-is-shut-out : NoneMeets (filled (twoNumbers (sheetIn listA)) listA) (filled (sheetCell (sheetIn listA)) listA)
 unfolding twoNumbers filled upto listCell rowCell sheetIn rowIn at
-two-numbers-is-wrong = values-apart _ _ (at 4) refl
+two-numbers-is-shut-out = values-apart _ _ (at 4) refl
 
 -- the budget for the deadline: sheet A's first deadline would be 2
-pub budget-for-deadline-is-wrong : NoneMeets (filled (budgetForDeadline (sheetIn listA)) listA) (filled (sheetCell (sheetIn listA)) listA)
+pub budget-for-deadline-is-shut-out : NoneMeets (filled (budgetForDeadline (sheetIn listA)) listA) (filled (sheetCell (sheetIn listA)) listA)
 unfolding budgetForDeadline filled upto listCell rowCell sheetIn rowIn at
-budget-for-deadline-is-wrong = values-apart _ _ (at 4) refl
+budget-for-deadline-is-shut-out = values-apart _ _ (at 4) refl
 
 -- all of a list made zero, or ones in its rest
-pub all-cleared-is-wrong : NoneMeets (filled (allCleared 1 nines) nines) (filled (clearedCell 1 nines) nines)
+pub all-cleared-is-shut-out : NoneMeets (filled (allCleared 1 nines) nines) (filled (clearedCell 1 nines) nines)
 unfolding allCleared filled upto clearedCell at
-all-cleared-is-wrong = values-apart _ _ (at 0) refl
+all-cleared-is-shut-out = values-apart _ _ (at 0) refl
 
-pub ones-from-is-wrong : NoneMeets (filled (onesFrom 1 nines) nines) (filled (clearedCell 1 nines) nines)
+pub ones-from-is-shut-out : NoneMeets (filled (onesFrom 1 nines) nines) (filled (clearedCell 1 nines) nines)
 unfolding onesFrom filled upto clearedCell at
-ones-from-is-wrong = values-apart _ _ (at 1) refl
+ones-from-is-shut-out = values-apart _ _ (at 1) refl
