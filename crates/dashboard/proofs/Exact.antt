@@ -11,8 +11,8 @@ use borrow.Author.Tests.{lt-ltb}
 use Rattle.basis.specs.Limits.{mostProcessors, mostRows, longestLabel, mostSeparation}
 use Rattle.basis.specs.Words.{sum, allOf, both}
 use Rattle.basis.proofs.Sums.{sum-le, sum-most}
-use Rattle.sheet.specs.Legal.{rowAt}
-use Rattle.sheet.specs.Values.{noRow, noRows}
+use Rattle.sheet.specs.Legal.{noRow, rowAt}
+use Rattle.sheet.specs.Values.{noRows}
 use Rattle.sheet.specs.declared.row.Row.{Row}
 use Rattle.sheet.specs.declared.row.Sheet.{Sheet}
 use Rattle.bound.specs.Quantities.{slots}

@@ -15,11 +15,12 @@ use Rattle.reader.specs.Longest.{longestRow, longestSheet}
 use Rattle.bound.specs.Test.{q, X, x, W, durationOf, amountOf, amounts, room, passes}
 use Rattle.bound.specs.Bound.{least, boundBy, judge, resultsTo, resultOf, holds}
 use Rattle.tables.specs.Tables.{fixedSheet}
-use Rattle.dashboard.specs.Words.{digits, decimal, told, line, refusedBy, noVerdict}
+use Rattle.page.specs.Decimals.{digits, decimal}
+use Rattle.dashboard.specs.Words.{told, line, refusedBy, noVerdict}
 use Rattle.dashboard.specs.Words as words
 use Rattle.dashboard.specs.Labels.{ownLabel, numbered}
 use Rattle.dashboard.specs.Texts.{lines, board, verdictText, section, sections, referenceText}
-use Rattle.dashboard.specs.Pages.{Page, written}
+use Rattle.page.specs.Pages.{Page, written}
 use Rattle.dashboard.specs.Longest.{inputSize, inputBuffer, textBuffer}
 use Rattle.dashboard.specs.Wrong.{boardBy, textBy, alwaysHolds, placeZero, refusedIsEmpty, firstLabelAgain, digitLost, shortBounds, lastRowLost, sameSection, sameSections, sheetAEachTime, sheetLeftOut, inputOfOnes, textOfOnes, inputTooSmall, textTooSmall, sheetCBytes, blankCBytes, forty, fourHundred}
 
