@@ -18,7 +18,7 @@ use Rattle.sheet.specs.declared.row.Sheet.{Sheet}
 use Rattle.bound.specs.Quantities.{slots}
 use Rattle.bound.specs.Test.{q, X, x, W, durationOf, amountOf, amounts, room, passes}
 use Rattle.bound.specs.Bound.{Word, bound, isBound, bounds, bounded, resultOf, holds}
-use Rattle.bound.proofs.Meaning.{Reached, smallest-is-bound}
+use Rattle.bound.proofs.Meaning.{Reached, smallest-is-bound, passing-is-less}
 use Rattle.bound.proofs.Judging.{passes-local}
 use Rattle.page.specs.Decimals.{decimal}
 use Rattle.tables.specs.Tables.{row, sheetOf}
@@ -65,9 +65,19 @@ module _ (k : ℕ) (l : k < mostRows) where
         sum-most k 1 (λ i. 1) (λ i. omega arith),
       )
 
+  X-one : X fullSheet k (slots mostSeparation) .0 ≡ 1
+  unfolding X
+  X-one = rw (row-is k l) (omega arith)
+
+  q-all : q fullSheet k ≡ mostProcessors
+  unfolding q
+  q-all = rw (row-is k l) (omega arith)
+
   passes-at-once : passes fullSheet (bounds (resultOf passes fullSheet)) k (slots mostSeparation) ≡ true
-  unfolding passes room X q
-  passes-at-once = rw (row-is k l) (lt-ltb _ _ (omega (arith, few)))
+  passes-at-once =
+      passing-is-less fullSheet (bounds (resultOf passes fullSheet)) k (slots mostSeparation)
+      ∙ lt-ltb (amounts fullSheet (bounds (resultOf passes fullSheet)) k (slots mostSeparation) k .0) (X fullSheet k (slots mostSeparation) .0 * q fullSheet k)
+      (rw (X-one, q-all) (omega (arith, few)))
 
   bounded-at-once : Reached passes fullSheet k → resultOf passes fullSheet k ≡ bound mostSeparation
   bounded-at-once e =

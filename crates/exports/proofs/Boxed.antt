@@ -18,7 +18,7 @@ use Rattle.sheet.specs.declared.row.Sheet.{Sheet}
 use Rattle.sheet.proofs.Legality.{legal-is}
 use Rattle.records.specs.declared.record.RowState.{RowState}
 use Rattle.states.specs.declared.runs.Ran.{Ran}
-use Rattle.states.specs.Values.{ran}
+use Rattle.states.specs.Values.{held, ran}
 use Rattle.records.specs.Records.{noRecord}
 use Rattle.machine.specs.States.{State, recordAt}
 use Rattle.machine.specs.Lists.{stateLong}
@@ -58,7 +58,7 @@ module _ (s list rel cs : List ℕ) (b : Bool) (eb : b ≡ legal (sheetIn s)) wh
     box-has-no-room m t f = rw (f, sym eb ∙ q, lt-leb (stateLong (sheetIn s .count)) (length list) (omega (arith, en)))
 
     pub box-answered : n * 2 ≤ length list → (h : Sheet) → h ≡ sheetIn s → (r : Ran) (ds : List ℕ) → ran r ds ≡ run h (fresh h .1) rel cs
-        → (after : List ℕ) → after ≡ filled (stateCell (r .state)) list → (t : ℕ × ℕ) → t ≡ told (outcome (r .refusal)) → (t, (r .done, (after, ds))) ≡ boxOn s list rel cs
+        → (after : List ℕ) → after ≡ filled (stateCell (held (r .state))) list → (t : ℕ × ℕ) → t ≡ told (outcome (r .refusal)) → (t, (r .done, (after, ds))) ≡ boxOn s list rel cs
     unfolding boxOn boxOf
     box-answered m h eh r ds er after ea t f =
         let whole : ran r ds ≡ run (sheetIn s) (fresh (sheetIn s) .1) rel cs = er ∙ ap (λ (x : Sheet). run x (fresh x .1) rel cs) eh in

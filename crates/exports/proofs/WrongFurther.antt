@@ -12,11 +12,14 @@ use Rattle.basis.proofs.Faults.{values-apart}
 use Rattle.numbers.specs.Numbers.{groups, upTo}
 use Rattle.sheet.specs.Legal.{legal, legalAt, legalRow}
 use Rattle.sheet.specs.Lists.{filled, rowIn, sheetIn, rowCell, listCell}
-use Rattle.bound.specs.Tables.{fixedSheet}
-use Rattle.machine.specs.States.{freshState, legalState, legalRecord, isZero}
+use Rattle.tables.specs.Tables.{fixedSheet}
+use Rattle.records.specs.Records.{legalRecord, isZero}
+use Rattle.records.specs.Steps.{released, fits, freeBelow, worked, older, aged, missed, ended, codeOf}
+use Rattle.records.specs.Checks.{checkRow}
+use Rattle.machine.specs.States.{freshState, legalState}
 use Rattle.machine.specs.States as states
-use Rattle.machine.specs.Slot.{released, fits, freeBelow, freeAt, worked, older, aged, missed, ended, codeOf}
-use Rattle.machine.specs.Checks.{checkRow, checkReleases, checkState, checkRoom, checkSlot, checkRun}
+use Rattle.machine.specs.Slot.{freeAt}
+use Rattle.machine.specs.Checks.{checkReleases, checkState, checkRoom, checkSlot, checkRun}
 use Rattle.machine.specs.Answers.{fresh, given, nextState, nextCodes, slot, slotAt, onward, course, run}
 use Rattle.exports.specs.Answers.{fieldsIn}
 use Rattle.exports.specs.Further.{stepTold, numberOn, upToOn, fixedIn, boxOf, boxOn}

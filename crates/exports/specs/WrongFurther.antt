@@ -3,7 +3,7 @@ use Prim.Native.Nat.{ℕ, _/_}
 use mathlib.Core.List.{List, [], _∷_}
 use lib.ListN.{length, replicate}
 use Rattle.sheet.specs.Lists.{filled, sheetIn, sheetCell}
-use Rattle.bound.specs.Tables.{fixedSheet}
+use Rattle.tables.specs.Tables.{fixedSheet}
 use Rattle.numbers.specs.Numbers.{upTo}
 use Rattle.exports.specs.Further.{stepTold, fixedIn}
 
