@@ -2,7 +2,7 @@
 """costs.py LOG: holds what the wrong programs of each crate cost, by the seconds that `rt ci` has printed into LOG.
 
 An edit of must-fail/ costs a check of its whole crate, so a crate's cost is its edits times the seconds of one check: the middle one of the seconds printed for its proof and for each
-of its edits. It may be LIMIT seconds on a machine on which the crate SMALL takes as long as BASE. Where that crate takes longer, on a slower machine or a busy one, the limit grows in the
+of its edits. It may be LIMIT seconds on a machine on which the crate SMALL takes BASE seconds, as it did where the limit was set. Where that crate takes longer, on a slower machine or a busy one, the limit grows in the
 same measure; where it takes less, the limit stays.
 """
 import glob
@@ -13,7 +13,7 @@ import sys
 
 LIMIT = 90
 SMALL = "basis"
-BASE = 4
+BASE = 3.3
 
 
 def crates(text):

@@ -1,2 +1,1 @@
-// The starred cases as one list, and right programs that stand on promises alone: wrong ones are tried in their place.
-mod right;
+// The starred cases as one list: laws only, and no code.
