@@ -2,8 +2,8 @@
 #include "../library/giachimu.h"
 #include "sides.h"
 
-static uint8_t text[GIACHIMU_TEXT_LONG], codes[SLOTS * MOST_ROWS];
-static uint64_t state[GIACHIMU_PAIRS_LONG], done;
+static uint8_t text[GIACHIMU_TEXT_LENGTH], codes[SLOTS * MOST_ROWS];
+static uint64_t state[GIACHIMU_PAIRS_LENGTH], done;
 static size_t length, place;
 
 static void verdicts(void) {
@@ -11,15 +11,15 @@ static void verdicts(void) {
 }
 
 static void run(void) {
-  giachimu_fresh(list, GIACHIMU_SHEET_LONG, state, GIACHIMU_PAIRS_LONG, &place);
-  giachimu_run(list, GIACHIMU_SHEET_LONG, state, GIACHIMU_PAIRS_LONG, releases, SLOTS * running.count, codes, sizeof codes, &done, &place);
+  giachimu_fresh(list, GIACHIMU_SHEET_LENGTH, state, GIACHIMU_PAIRS_LENGTH, &place);
+  giachimu_run(list, GIACHIMU_SHEET_LENGTH, state, GIACHIMU_PAIRS_LENGTH, releases, SLOTS * running.count, codes, sizeof codes, &done, &place);
 }
 
 static void one_by_one(void) {
   size_t n = running.count;
-  giachimu_fresh(list, GIACHIMU_SHEET_LONG, state, GIACHIMU_PAIRS_LONG, &place);
+  giachimu_fresh(list, GIACHIMU_SHEET_LENGTH, state, GIACHIMU_PAIRS_LENGTH, &place);
   for (done = 0; done < SLOTS; done++)
-    if (giachimu_slot(list, GIACHIMU_SHEET_LONG, state, GIACHIMU_PAIRS_LONG, releases + done * n, n, codes + done * n, n, &place) != 0) return;
+    if (giachimu_slot(list, GIACHIMU_SHEET_LENGTH, state, GIACHIMU_PAIRS_LENGTH, releases + done * n, n, codes + done * n, n, &place) != 0) return;
 }
 
 const side_t proved = {{verdicts, verdicts, run, one_by_one}, text, codes, state, &length, &done};

@@ -5,19 +5,19 @@ int printf(const char *format, ...);
 
 static const uint8_t SHEET[] = {0x47, 0x53, 0x48, 0x01, 2, 2, 4, 'r', 'o', 'l', 'l', 2, 2, 2, 1, 4, 't', 'r', 'i', 'm', 1, 4, 4, 2};
 
-static const char *const WORDS[] = {"unreached", "bound", "none"};
+static const char *const WORDS[] = {[GIACHIMU_UNREACHED] = "unreached", [GIACHIMU_BOUND] = "bound", [GIACHIMU_NONE] = "none"};
 
 static void show_verdict(const uint8_t *bytes, size_t count) {
-  uint8_t text[GIACHIMU_TEXT_LONG];
+  uint8_t text[GIACHIMU_TEXT_LENGTH];
   size_t length = 0, place;
   giachimu_verdict(bytes, count, text, sizeof text, &length, &place);
   printf("%.*s", (int)length, (const char *)text);
 }
 
 static void show_bounds(const uint64_t *sheet) {
-  uint64_t results[GIACHIMU_PAIRS_LONG], holds;
+  uint64_t results[GIACHIMU_PAIRS_LENGTH], holds;
   size_t place;
-  if (giachimu_bounds(sheet, GIACHIMU_SHEET_LONG, results, GIACHIMU_PAIRS_LONG, &holds, &place) != 0) return;
+  if (giachimu_bounds(sheet, GIACHIMU_SHEET_LENGTH, results, GIACHIMU_PAIRS_LENGTH, &holds, &place) != GIACHIMU_ACCEPTED) return;
   for (uint64_t row = 0; row < sheet[1]; row++) {
     size_t start, length;
     giachimu_label(SHEET, sizeof SHEET, row, &start, &length, &place);
@@ -27,47 +27,47 @@ static void show_bounds(const uint64_t *sheet) {
 
 static void show_run(const uint64_t *sheet) {
   static const uint64_t RELEASES[] = {1, 2, 0, 0, 1, 0, 0, 0, 1, 2, 0, 1};
-  uint64_t state[GIACHIMU_PAIRS_LONG], done, job;
+  uint64_t state[GIACHIMU_PAIRS_LENGTH], done, job;
   uint8_t codes[12] = {0};
   int64_t margin;
   size_t place;
-  giachimu_fresh(sheet, GIACHIMU_SHEET_LONG, state, GIACHIMU_PAIRS_LONG, &place);
-  uint64_t number = giachimu_run(sheet, GIACHIMU_SHEET_LONG, state, GIACHIMU_PAIRS_LONG, RELEASES, 12, codes, sizeof codes, &done, &place);
+  giachimu_fresh(sheet, GIACHIMU_SHEET_LENGTH, state, GIACHIMU_PAIRS_LENGTH, &place);
+  uint64_t number = giachimu_run(sheet, GIACHIMU_SHEET_LENGTH, state, GIACHIMU_PAIRS_LENGTH, RELEASES, 12, codes, sizeof codes, &done, &place);
   printf("%llu slots done, refusal %llu at %zu\n", (unsigned long long)done, (unsigned long long)number, place);
   for (uint64_t slot = 0; slot < done; slot++) printf("slot %llu: %d %d\n", (unsigned long long)slot, codes[2 * slot], codes[2 * slot + 1]);
-  number = giachimu_margin(sheet, GIACHIMU_SHEET_LONG, state, GIACHIMU_PAIRS_LONG, 1, &job, &margin, &place);
-  if (number == 0 && job == 1) printf("trim has a margin of %lld\n", (long long)margin);
-  number = giachimu_margin(sheet, GIACHIMU_SHEET_LONG, state, GIACHIMU_PAIRS_LONG, 2, &job, &margin, &place);
+  number = giachimu_margin(sheet, GIACHIMU_SHEET_LENGTH, state, GIACHIMU_PAIRS_LENGTH, 1, &job, &margin, &place);
+  if (number == GIACHIMU_ACCEPTED && job == 1) printf("trim has a margin of %lld\n", (long long)margin);
+  number = giachimu_margin(sheet, GIACHIMU_SHEET_LENGTH, state, GIACHIMU_PAIRS_LENGTH, 2, &job, &margin, &place);
   printf("row 2: refusal %llu\n", (unsigned long long)number);
   static const uint64_t NONE[] = {0, 0};
-  giachimu_slot(sheet, GIACHIMU_SHEET_LONG, state, GIACHIMU_PAIRS_LONG, NONE, 2, codes, sizeof codes, &place);
+  giachimu_slot(sheet, GIACHIMU_SHEET_LENGTH, state, GIACHIMU_PAIRS_LENGTH, NONE, 2, codes, sizeof codes, &place);
   printf("one slot more: %d %d\n", codes[0], codes[1]);
 }
 
 static void show_further(const uint64_t *sheet) {
   static const uint64_t RELEASES[] = {1, 2, 0, 0, 1, 0, 0, 0, 1, 2, 0, 1};
-  uint64_t state[GIACHIMU_PAIRS_LONG], worked[GIACHIMU_SHEET_LONG], value = 0, done;
+  uint64_t state[GIACHIMU_PAIRS_LENGTH], worked[GIACHIMU_SHEET_LENGTH], value = 0, done;
   uint8_t codes[12];
   size_t after = 0, place;
   giachimu_number(SHEET, sizeof SHEET, 4, &value, &after, &place);
   printf("the number at 4 is %llu, and the next is at %zu\n", (unsigned long long)value, after);
   uint64_t number = giachimu_number_up_to(SHEET, sizeof SHEET, 4, 1, &value, &after, &place);
   printf("a most of 1: refusal %llu at %zu\n", (unsigned long long)number, place);
-  giachimu_fixed(3, worked, GIACHIMU_SHEET_LONG, &place);
+  giachimu_fixed(3, worked, GIACHIMU_SHEET_LENGTH, &place);
   bool same = true;
-  for (size_t i = 0; i < GIACHIMU_SHEET_LONG; i++) same = same && worked[i] == sheet[i];
-  printf("legal: %d, sheet D: %d\n", giachimu_legal(sheet, GIACHIMU_SHEET_LONG), same);
-  number = giachimu_box(sheet, GIACHIMU_SHEET_LONG, state, GIACHIMU_PAIRS_LONG, RELEASES, 12, codes, sizeof codes, &done, &place);
+  for (size_t i = 0; i < GIACHIMU_SHEET_LENGTH; i++) same = same && worked[i] == sheet[i];
+  printf("legal: %d, sheet D: %d\n", giachimu_legal(sheet, GIACHIMU_SHEET_LENGTH), same);
+  number = giachimu_box(sheet, GIACHIMU_SHEET_LENGTH, state, GIACHIMU_PAIRS_LENGTH, RELEASES, 12, codes, sizeof codes, &done, &place);
   printf("the box: %llu slots done, refusal %llu at %zu\n", (unsigned long long)done, (unsigned long long)number, place);
 }
 
 int main(void) {
-  uint64_t sheet[GIACHIMU_SHEET_LONG];
+  uint64_t sheet[GIACHIMU_SHEET_LENGTH];
   size_t place;
   show_verdict(SHEET, sizeof SHEET);
   printf("green: %d\n", giachimu_green(SHEET, sizeof SHEET));
   show_verdict(SHEET, sizeof SHEET - 1);
-  if (giachimu_read(SHEET, sizeof SHEET, sheet, GIACHIMU_SHEET_LONG, &place) != 0) return 1;
+  if (giachimu_read(SHEET, sizeof SHEET, sheet, GIACHIMU_SHEET_LENGTH, &place) != GIACHIMU_ACCEPTED) return 1;
   show_bounds(sheet);
   show_run(sheet);
   show_further(sheet);

@@ -1,10 +1,10 @@
 """Giachimu's library through ctypes: the Python that loads it has to be an x86-64 one."""
 import ctypes
-from typing import NamedTuple
+import enum
+from typing import List, NamedTuple, Optional, Union
 
 MOST_ROWS = 32
-TEXT_LONG = 1084
-CODES = ("no job", "waited", "ran", "finished", "missed")
+TEXT_LENGTH = 1084
 
 
 class Refused(Exception):
@@ -13,6 +13,33 @@ class Refused(Exception):
     def __init__(self, number, place):
         super().__init__(f"refusal {number} at {place}")
         self.number, self.place = number, place
+
+
+class Code(enum.IntEnum):
+    """What a row did in a slot."""
+
+    NO_JOB = 0
+    WAITED = 1
+    RAN = 2
+    FINISHED = 3
+    MISSED = 4
+
+
+class Bound(NamedTuple):
+    """A row's result: every job of the row is finished within so many slots."""
+
+    slots: int
+
+
+class NoBound(NamedTuple):
+    """A row's result: no length up to its deadline passes the test."""
+
+
+class Unreached(NamedTuple):
+    """A row's result: a row above it has no bound, so that it was not tested."""
+
+
+Result = Union[Bound, NoBound, Unreached]
 
 
 class Row(NamedTuple):
@@ -24,11 +51,18 @@ class Row(NamedTuple):
     budget: int
 
 
+class Sheet(NamedTuple):
+    """A sheet by its numbers; any numbers whatever may stand in it."""
+
+    processors: int
+    rows: List[Row]
+
+
 class Ran(NamedTuple):
     """What came of a run: the codes of each slot done, and the refusal that ended it, if one did."""
 
-    codes: list
-    refusal: Refused
+    codes: List[List[Code]]
+    refusal: Optional[Refused]
 
 
 class Giachimu:
@@ -37,7 +71,6 @@ class Giachimu:
     def __init__(self, path):
         self._library = ctypes.CDLL(path)
         self._library.giachimu_green.restype = ctypes.c_bool
-        self._library.giachimu_green.argtypes = [ctypes.c_char_p, ctypes.c_size_t]
         self._library.giachimu_legal.restype = ctypes.c_bool
 
     def _call(self, name, *arguments):
@@ -54,111 +87,113 @@ class Giachimu:
         if number:
             raise Refused(number, place)
 
-    def green(self, sheet):
+    def green(self, data):
         """Whether the bytes are a sheet whose every row has a bound: then no job is ever late."""
-        return self._library.giachimu_green(sheet, len(sheet))
+        return self._library.giachimu_green(data, _length(data))
 
-    def verdict(self, sheet):
+    def verdict(self, data):
         """The text of the verdict on some bytes."""
-        text, length = (ctypes.c_uint8 * TEXT_LONG)(), ctypes.c_size_t()
-        self._ask("giachimu_verdict", sheet, _count(sheet), text, _count(text), ctypes.byref(length))
+        text, length = (ctypes.c_uint8 * TEXT_LENGTH)(), ctypes.c_size_t()
+        self._ask("giachimu_verdict", data, _length(data), text, _length(text), ctypes.byref(length))
         return bytes(text[: length.value]).decode("ascii")
 
-    def read(self, sheet):
-        """Processors, and the rows."""
+    def read(self, data):
+        """The sheet in some bytes."""
         numbers = _numbers([0] * (4 * MOST_ROWS + 2))
-        self._ask("giachimu_read", sheet, _count(sheet), numbers, _count(numbers))
-        return numbers[0], _rows(numbers)
+        self._ask("giachimu_read", data, _length(data), numbers, _length(numbers))
+        return _sheet(numbers)
 
-    def number(self, bytes_, at):
+    def label(self, data, row):
+        """The label of a row."""
+        start, length = ctypes.c_size_t(), ctypes.c_size_t()
+        self._ask("giachimu_label", data, _length(data), ctypes.c_size_t(row), ctypes.byref(start), ctypes.byref(length))
+        return data[start.value : start.value + length.value].decode("ascii")
+
+    def number(self, data, at):
         """The number at a place of some bytes, and the place after it."""
         value, after = ctypes.c_uint64(), ctypes.c_size_t()
-        self._ask("giachimu_number", bytes_, _count(bytes_), ctypes.c_size_t(at), ctypes.byref(value), ctypes.byref(after))
+        self._ask("giachimu_number", data, _length(data), ctypes.c_size_t(at), ctypes.byref(value), ctypes.byref(after))
         return value.value, after.value
 
-    def number_up_to(self, bytes_, at, most):
+    def number_up_to(self, data, at, most):
         """The same for a number from 1 to the most."""
         value, after = ctypes.c_uint64(), ctypes.c_size_t()
         self._ask(
-            "giachimu_number_up_to", bytes_, _count(bytes_), ctypes.c_size_t(at), ctypes.c_uint64(most), ctypes.byref(value), ctypes.byref(after)
+            "giachimu_number_up_to", data, _length(data), ctypes.c_size_t(at), ctypes.c_uint64(most), ctypes.byref(value), ctypes.byref(after)
         )
         return value.value, after.value
 
     def fixed(self, number):
-        """Processors and rows of a worked sheet, A to F by 0 to 5; of no sheet by any other number."""
+        """A worked sheet, A to F by 0 to 5; a sheet of zeros by any other number."""
         numbers = _numbers([0] * (4 * MOST_ROWS + 2))
-        self._ask("giachimu_fixed", ctypes.c_size_t(number), numbers, _count(numbers))
-        return numbers[0], _rows(numbers)
+        self._ask("giachimu_fixed", ctypes.c_size_t(number), numbers, _length(numbers))
+        return _sheet(numbers)
 
-    def legal(self, processors, rows):
+    def legal(self, sheet):
         """Whether a sheet is in the ranges."""
-        sheet = _sheet(processors, rows)
-        return self._library.giachimu_legal(sheet, _count(sheet))
+        numbers = _listed(sheet)
+        return self._library.giachimu_legal(numbers, _length(numbers))
 
-    def label(self, sheet, row):
-        """The label of a row."""
-        start, length = ctypes.c_size_t(), ctypes.c_size_t()
-        self._ask("giachimu_label", sheet, _count(sheet), ctypes.c_size_t(row), ctypes.byref(start), ctypes.byref(length))
-        return sheet[start.value : start.value + length.value].decode("ascii")
+    def bounds(self, sheet):
+        """The result of each row; the sheet holds where every one is a bound."""
+        numbers, results, holds = _listed(sheet), _numbers([0] * (2 * MOST_ROWS)), ctypes.c_uint64()
+        self._ask("giachimu_bounds", numbers, _length(numbers), results, _length(results), ctypes.byref(holds))
+        return [_result(results[2 * row], results[2 * row + 1]) for row in range(len(sheet.rows))]
 
-    def bounds(self, processors, rows):
-        """Of each row its bound, None where it has none, and False where it is not reached."""
-        sheet, results, holds = _sheet(processors, rows), _numbers([0] * (2 * MOST_ROWS)), ctypes.c_uint64()
-        self._ask("giachimu_bounds", sheet, _count(sheet), results, _count(results), ctypes.byref(holds))
-        return [(False, results[2 * row + 1], None)[results[2 * row]] for row in range(len(rows))]
-
-    def fresh(self, processors, rows):
+    def fresh(self, sheet):
         """The fresh state, a list that the other calls take and change."""
-        sheet, state = _sheet(processors, rows), _numbers([0] * (2 * MOST_ROWS))
-        self._ask("giachimu_fresh", sheet, _count(sheet), state, _count(state))
+        numbers, state = _listed(sheet), _numbers([0] * (2 * MOST_ROWS))
+        self._ask("giachimu_fresh", numbers, _length(numbers), state, _length(state))
         return state
 
-    def slot(self, processors, rows, state, releases):
+    def slot(self, sheet, state, releases):
         """One slot, which changes the state: the code of each row."""
-        sheet, list_, codes = _sheet(processors, rows), _numbers(releases), (ctypes.c_uint8 * len(releases))()
-        self._ask("giachimu_slot", sheet, _count(sheet), state, _count(state), list_, _count(list_), codes, _count(codes))
-        return list(codes)
+        numbers, list_, codes = _listed(sheet), _numbers(releases), (ctypes.c_uint8 * len(releases))()
+        self._ask("giachimu_slot", numbers, _length(numbers), state, _length(state), list_, _length(list_), codes, _length(codes))
+        return [Code(code) for code in codes]
 
-    def run(self, processors, rows, state, releases):
-        """Slots one after another, to the first that is refused."""
-        sheet, list_, codes = _sheet(processors, rows), _numbers(releases), (ctypes.c_uint8 * len(releases))()
-        done = ctypes.c_uint64()
+    def run(self, sheet, state, releases):
+        """Slots one after another, which change the state, to the first that is refused."""
+        return self._run("giachimu_run", sheet, state, releases)
+
+    def boxed(self, sheet, releases):
+        """Slots one after another from the fresh state, by the box's own loop: what came of them, and the state after them."""
+        state = _numbers([0] * (2 * MOST_ROWS))
+        return self._run("giachimu_box", sheet, state, releases), state
+
+    def _run(self, name, sheet, state, releases):
+        numbers, list_, codes, done = _listed(sheet), _numbers(releases), (ctypes.c_uint8 * len(releases))(), ctypes.c_uint64()
         number, place = self._call(
-            "giachimu_run", sheet, _count(sheet), state, _count(state), list_, _count(list_), codes, _count(codes), ctypes.byref(done)
+            name, numbers, _length(numbers), state, _length(state), list_, _length(list_), codes, _length(codes), ctypes.byref(done)
         )
-        slots = [list(codes[slot * len(rows) : (slot + 1) * len(rows)]) for slot in range(done.value)]
+        width = len(sheet.rows)
+        slots = [[Code(code) for code in codes[slot * width : (slot + 1) * width]] for slot in range(done.value)]
         return Ran(slots, Refused(number, place) if number else None)
 
-    def boxed(self, processors, rows, releases):
-        """Slots one after another from the fresh state, by the box's own loop: what came of them, and the state after them."""
-        sheet, list_, codes = _sheet(processors, rows), _numbers(releases), (ctypes.c_uint8 * len(releases))()
-        state, done = _numbers([0] * (2 * MOST_ROWS)), ctypes.c_uint64()
-        number, place = self._call(
-            "giachimu_box", sheet, _count(sheet), state, _count(state), list_, _count(list_), codes, _count(codes), ctypes.byref(done)
-        )
-        slots = [list(codes[slot * len(rows) : (slot + 1) * len(rows)]) for slot in range(done.value)]
-        return Ran(slots, Refused(number, place) if number else None), state
-
-    def margin(self, processors, rows, state, row):
+    def margin(self, sheet, state, row):
         """The margin of a row; None where it has no job."""
-        sheet, job, margin = _sheet(processors, rows), ctypes.c_uint64(), ctypes.c_int64()
+        numbers, job, margin = _listed(sheet), ctypes.c_uint64(), ctypes.c_int64()
         self._ask(
-            "giachimu_margin", sheet, _count(sheet), state, _count(state), ctypes.c_size_t(row), ctypes.byref(job), ctypes.byref(margin)
+            "giachimu_margin", numbers, _length(numbers), state, _length(state), ctypes.c_size_t(row), ctypes.byref(job), ctypes.byref(margin)
         )
         return margin.value if job.value else None
 
 
-def _count(of):
+def _length(of):
     return ctypes.c_size_t(len(of))
-
-
-def _rows(numbers):
-    return [Row(*numbers[2 + 4 * row : 6 + 4 * row]) for row in range(numbers[1])]
 
 
 def _numbers(values):
     return (ctypes.c_uint64 * len(values))(*values)
 
 
-def _sheet(processors, rows):
-    return _numbers([processors, len(rows)] + [number for row in rows for number in row])
+def _result(word, slots):
+    return (Unreached(), Bound(slots), NoBound())[word]
+
+
+def _sheet(numbers):
+    return Sheet(numbers[0], [Row(*numbers[2 + 4 * row : 6 + 4 * row]) for row in range(numbers[1])])
+
+
+def _listed(sheet):
+    return _numbers([sheet.processors, len(sheet.rows)] + [number for row in sheet.rows for number in row])

@@ -2,32 +2,32 @@
 
 #[link(name = "exports", kind = "static")]
 extern "C" {
-    fn giachimu_green(bytes: *const u8, bytes_count: usize) -> bool;
-    fn giachimu_verdict(bytes: *const u8, bytes_count: usize, text: *mut u8, text_count: usize, length: *mut usize, place: *mut usize) -> u64;
-    fn giachimu_read(bytes: *const u8, bytes_count: usize, sheet: *mut u64, sheet_count: usize, place: *mut usize) -> u64;
-    fn giachimu_label(bytes: *const u8, bytes_count: usize, row: usize, start: *mut usize, length: *mut usize, place: *mut usize) -> u64;
-    fn giachimu_bounds(sheet: *const u64, sheet_count: usize, results: *mut u64, results_count: usize, holds: *mut u64, place: *mut usize) -> u64;
-    fn giachimu_fresh(sheet: *const u64, sheet_count: usize, state: *mut u64, state_count: usize, place: *mut usize) -> u64;
+    fn giachimu_green(bytes: *const u8, bytes_length: usize) -> bool;
+    fn giachimu_verdict(bytes: *const u8, bytes_length: usize, text: *mut u8, text_length: usize, length: *mut usize, place: *mut usize) -> u64;
+    fn giachimu_read(bytes: *const u8, bytes_length: usize, sheet: *mut u64, sheet_length: usize, place: *mut usize) -> u64;
+    fn giachimu_label(bytes: *const u8, bytes_length: usize, row: usize, start: *mut usize, length: *mut usize, place: *mut usize) -> u64;
+    fn giachimu_bounds(sheet: *const u64, sheet_length: usize, results: *mut u64, results_length: usize, holds: *mut u64, place: *mut usize) -> u64;
+    fn giachimu_fresh(sheet: *const u64, sheet_length: usize, state: *mut u64, state_length: usize, place: *mut usize) -> u64;
     #[rustfmt::skip]
-    fn giachimu_slot(sheet: *const u64, sheet_count: usize, state: *mut u64, state_count: usize, releases: *const u64, releases_count: usize, codes: *mut u8, codes_count: usize, place: *mut usize) -> u64;
+    fn giachimu_slot(sheet: *const u64, sheet_length: usize, state: *mut u64, state_length: usize, releases: *const u64, releases_length: usize, codes: *mut u8, codes_length: usize, place: *mut usize) -> u64;
     #[rustfmt::skip]
-    fn giachimu_run(sheet: *const u64, sheet_count: usize, state: *mut u64, state_count: usize, releases: *const u64, releases_count: usize, codes: *mut u8, codes_count: usize, done: *mut u64, place: *mut usize) -> u64;
+    fn giachimu_run(sheet: *const u64, sheet_length: usize, state: *mut u64, state_length: usize, releases: *const u64, releases_length: usize, codes: *mut u8, codes_length: usize, done: *mut u64, place: *mut usize) -> u64;
     #[rustfmt::skip]
-    fn giachimu_box(sheet: *const u64, sheet_count: usize, state: *mut u64, state_count: usize, releases: *const u64, releases_count: usize, codes: *mut u8, codes_count: usize, done: *mut u64, place: *mut usize) -> u64;
-    fn giachimu_legal(sheet: *const u64, sheet_count: usize) -> bool;
-    fn giachimu_fixed(number: usize, sheet: *mut u64, sheet_count: usize, place: *mut usize) -> u64;
-    fn giachimu_number(bytes: *const u8, bytes_count: usize, at: usize, value: *mut u64, after: *mut usize, place: *mut usize) -> u64;
+    fn giachimu_box(sheet: *const u64, sheet_length: usize, state: *mut u64, state_length: usize, releases: *const u64, releases_length: usize, codes: *mut u8, codes_length: usize, done: *mut u64, place: *mut usize) -> u64;
+    fn giachimu_legal(sheet: *const u64, sheet_length: usize) -> bool;
+    fn giachimu_fixed(number: usize, sheet: *mut u64, sheet_length: usize, place: *mut usize) -> u64;
+    fn giachimu_number(bytes: *const u8, bytes_length: usize, at: usize, value: *mut u64, after: *mut usize, place: *mut usize) -> u64;
     #[rustfmt::skip]
-    fn giachimu_number_up_to(bytes: *const u8, bytes_count: usize, at: usize, most: u64, value: *mut u64, after: *mut usize, place: *mut usize) -> u64;
+    fn giachimu_number_up_to(bytes: *const u8, bytes_length: usize, at: usize, most: u64, value: *mut u64, after: *mut usize, place: *mut usize) -> u64;
     #[rustfmt::skip]
-    fn giachimu_margin(sheet: *const u64, sheet_count: usize, state: *const u64, state_count: usize, row: usize, job: *mut u64, margin: *mut i64, place: *mut usize) -> u64;
+    fn giachimu_margin(sheet: *const u64, sheet_length: usize, state: *const u64, state_length: usize, row: usize, job: *mut u64, margin: *mut i64, place: *mut usize) -> u64;
 }
 
 /// The most rows of a sheet.
 pub const MOST_ROWS: usize = 32;
 
 /// The bytes of the longest verdict.
-const TEXT_LONG: usize = 1084;
+const TEXT_LENGTH: usize = 1084;
 
 /// Why a call was refused: the number and the place of the table of refusals.
 #[derive(Clone, Copy, Debug, PartialEq, Eq)]
@@ -98,7 +98,7 @@ pub fn green(bytes: &[u8]) -> bool {
 
 /// The text of the verdict on some bytes.
 pub fn verdict(bytes: &[u8]) -> String {
-    let (mut text, mut length, mut place) = (vec![0; TEXT_LONG], 0, 0);
+    let (mut text, mut length, mut place) = (vec![0; TEXT_LENGTH], 0, 0);
     // SAFETY: the pointers and counts are those of slices, and what is written lies apart.
     let number = unsafe { giachimu_verdict(bytes.as_ptr(), bytes.len(), text.as_mut_ptr(), text.len(), &mut length, &mut place) };
     assert_eq!(number, 0, "no verdict is longer");

@@ -138,14 +138,14 @@ static void answer_green(void) {
 /* Kind 12: bytes; what reading them with each byte after them tells, a byte for its number and one for its place. */
 static void answer_sweep(void) {
   static uint8_t longer[ROOM + 1];
-  uint64_t numbers[GIACHIMU_SHEET_LONG];
+  uint64_t numbers[GIACHIMU_SHEET_LENGTH];
   size_t count;
   const uint8_t *bytes = take_rest(&count);
   for (size_t i = 0; i < count; i++) longer[i] = bytes[i];
   for (unsigned last = 0; last < 256; last++) {
     size_t place = 7;
     longer[count] = (uint8_t)last;
-    uint64_t number = giachimu_read(longer, count + 1, numbers, GIACHIMU_SHEET_LONG, &place);
+    uint64_t number = giachimu_read(longer, count + 1, numbers, GIACHIMU_SHEET_LENGTH, &place);
     put_byte((uint8_t)number);
     put_byte((uint8_t)place);
   }

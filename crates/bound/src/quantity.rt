@@ -1,4 +1,5 @@
-// The two kinds of quantity, whole and in 256ths. No sum adds one to another, and only the two `on` lead from one kind to the other.
+// The two kinds of quantity, whole and in 256ths. No sum adds one to another, and only the two `on` lead from a duration to an amount; back from an amount leads only
+// the count of slots that `fills` divides it into.
 ghost use mathlib.Core.Path.{_≡_};
 ghost use Prim.Native.Nat.{_+_, _*_, _≤_, _<_};
 ghost use mir.Val.{Fits};
