@@ -1,2 +1,0 @@
-// Right programs that stand on promises alone: wrong ones are tried in their place.
-mod right;
