@@ -1,7 +1,7 @@
 -- q, X and the sum of the amounts: they fit, and the sum never falls as the length grows.
 -- Assumes nothing.
 use Prim.Native.Nat.{ℕ, _+_, _*_, _-_, _≤_, _<_, min}
-use mathlib.Core.Path.{_≡_, ap, _∙_}
+use mathlib.Core.Path.{_≡_, refl, ap, _∙_}
 use mathlib.Core.Bool.{Bool, false}
 use borrow.Author.Tests.{le-ltb}
 use lib.Dec.{ltb}
@@ -30,12 +30,12 @@ module _ (h : Sheet) (k : ℕ) (l : Legal h) (b : k < h .count) where
     pub threads-fit : row .threads ≤ m
     threads-fit = rw (em, er) (l .rows k b .most-threads)
 
-    pub busy-fits : Fits w64 (m - row .threads + 1)
-    busy-fits = omega (arith, l .most-processors)
+    pub q-fits : Fits w64 (m - row .threads + 1)
+    q-fits = omega (arith, l .most-processors)
 
-    pub busy-is : m - row .threads + 1 ≡ q h k
+    pub q-is : m - row .threads + 1 ≡ q h k
     unfolding q
-    busy-is = rw (em, er)
+    q-is = rw (em, er)
 
   pub q-small : q h k ≤ mostProcessors
   unfolding q
@@ -60,12 +60,12 @@ module _ (h : Sheet) (k : ℕ) (l : Legal h) (b : k < h .count) where
     pub window-small : (w : Duration) → w ≡ X h k L → w .0 ≤ widestSeparation
     window-small w e = omega (arith, number e, X-small)
 
-    pub room-is : (w : Duration) (c e : ℕ) (a : Amount) → w ≡ X h k L → c ≡ q h k → e ≡ min c c → a .0 ≡ w .0 * e → a ≡ room h k L
+    pub room-is : (w : Duration) (c : ℕ) (a : Amount) → w ≡ X h k L → c ≡ q h k → a .0 ≡ w .0 * c → a ≡ room h k L
     unfolding room
-    room-is w c e a ew ec ee ea = same-amount a (room h k L) (ea ∙ rw (ew, ee, ec))
+    room-is w c a ew ec ea = same-amount a (room h k L) (ea ∙ rw (ew, ec))
 
-  pub busy-small : (c : ℕ) → c ≡ q h k → c ≤ mostProcessors
-  busy-small c e = omega (arith, q-small)
+  pub q-of-small : (c : ℕ) → c ≡ q h k → c ≤ mostProcessors
+  q-of-small c e = omega (arith, q-small)
 
   pub capped-small : (c e g : ℕ) → c ≡ q h k → e ≡ min g c → e ≤ mostProcessors
   capped-small c e g ec ee = omega (arith, q-small)
@@ -87,7 +87,7 @@ X-mono h k L l m = omega arith
 
 pub room-by-q : (h : Sheet) (k : ℕ) (L : Duration) → room h k L .0 ≡ X h k L .0 * q h k
 unfolding room
-room-by-q h k L = let e : min (q h k) (q h k) ≡ q h k = omega arith in rw e
+room-by-q h k L = refl
 
 -- a length fails where the sum reaches X on q processors
 pub fails-where : (h : Sheet) (R : ℕ → Duration) (k : ℕ) (L : Duration) → X h k L .0 * q h k ≤ amounts h R k L k .0 → passes h R k L ≡ false

@@ -67,7 +67,7 @@ bounded ws i = isBound (ws i)
 unfoldable pub judge : Test → Sheet → (ℕ → Word) → ℕ → Word
 judge test h ws k = pick (allOf k (bounded ws)) (boundBy test h (bounds ws) k) unreached
 
--- The results of the first n rows, from the top.
+-- The results of the first n rows, from the top; of a row past them it says what the last of them has, and where n is 0 that it is not reached.
 unfoldable pub resultsTo : Test → Sheet → ℕ → ℕ → Word
 resultsTo test h zero i = unreached
 resultsTo test h (suc n) i = pick (ltb i n) (resultsTo test h n i) (judge test h (resultsTo test h n) n)

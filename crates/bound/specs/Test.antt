@@ -53,9 +53,9 @@ amountOf h R k L i = on (durationOf (rowAt h i) (R i) L (X h k L)) (min (rowAt h
 unfoldable pub amounts : Sheet → (ℕ → Duration) → ℕ → Duration → ℕ → Amount
 amounts h R k L n = together n (amountOf h R k L)
 
--- q × X: X on q processors, which is q capped at q; the right side of (4).
+-- q × X: X on q processors; the right side of (4).
 unfoldable pub room : Sheet → ℕ → Duration → Amount
-room h k L = on (X h k L) (min (q h k) (q h k))
+room h k L = on (X h k L) (q h k)
 
 -- A test says of a sheet, the bounds of the rows above, a row and a length whether it passes.
 abbrev pub Test : Type 0

@@ -9,11 +9,11 @@ ghost use Rattle.bound.specs.Skipping.{stayOf, joined, Paces, Steep};
 use crate::inside::row_inside;
 use crate::quantity::Amount;
 use crate::quantity::Duration;
-use crate::test::busy_of;
 use crate::test::fewer;
-use crate::test::span_above;
+use crate::test::q_of;
+use crate::test::span_of;
 use crate::test::window_of;
-use crate::test::work_above;
+use crate::test::work_of;
 use basis::MOST_SEPARATION;
 use sheet::Row;
 
@@ -24,15 +24,15 @@ pub struct Pace {
 }
 
 // The slots for which a row above, with this bound, keeps pace with the length.
-fn stay_of_row(row: Row, bound: Duration, length: Duration, window: Duration) -> Duration
+fn stay_of_row(row: Row, bound: Duration, length: Duration, X: Duration) -> Duration
     requires { ⌜ Above row bound length ⌝ }
-    ensures { λ r. ⌜ r ≡ stayOf row bound length window ⌝ }
+    ensures { λ r. ⌜ r ≡ stayOf row bound length X ⌝ }
 {
-    let span = span_above(row, bound, length);
-    let work = work_above(row, span);
-    let ran = span.left(Duration(row.separation));
+    let x = span_of(row, bound, length);
+    let W = work_of(row, x);
+    let ran = x.left(Duration(row.separation));
     let job = Duration(row.budget).minus(ran);
-    job.plus(work.minus(window))
+    job.plus(W.minus(X))
 }
 
 // The pace with a row more.
@@ -55,8 +55,8 @@ pub(crate) fn pace_above(sheet: &[u64], results: &[u64], k: usize, length: Durat
     requires { ⌜ (Lent (now sheet) (now results)) × (Ready (sheetIn (now sheet)) (heldIn (now results)) k) × (Length (sheetIn (now sheet)) k length) ⌝ }
     ensures { λ r. ⌜ Paces (sheetIn (now (sheet .entry))) (heldIn (now (results .entry))) k length k r ⌝ }
 {
-    let busy = busy_of(sheet, k);
-    let window = window_of(sheet, k, length);
+    let q = q_of(sheet, k);
+    let X = window_of(sheet, k, length);
     let mut pace = Pace {
         width: 0,
         stay: Duration(MOST_SEPARATION),
@@ -65,8 +65,8 @@ pub(crate) fn pace_above(sheet: &[u64], results: &[u64], k: usize, length: Durat
     while i < k {
         let row = row_inside(sheet, i);
         let bound = Duration(results[i * 2 + 1]);
-        let stay = stay_of_row(row, bound, length, window);
-        let capped = fewer(row.threads, busy);
+        let stay = stay_of_row(row, bound, length, X);
+        let capped = fewer(row.threads, q);
         pace = joined(pace, capped, stay);
         i += 1;
     }
@@ -74,14 +74,14 @@ pub(crate) fn pace_above(sheet: &[u64], results: &[u64], k: usize, length: Durat
 }
 
 // The slots for which a length so far over goes on failing at this pace.
-pub(crate) fn steep(over: Amount, busy: u64, pace: Pace) -> Duration
-    ensures { λ r. ⌜ Steep over busy pace r ⌝ }
+pub(crate) fn steep(over: Amount, q: u64, pace: Pace) -> Duration
+    ensures { λ r. ⌜ Steep over q pace r ⌝ }
 {
     let width = pace.width;
     let stay = pace.stay;
-    if busy <= width {
+    if q <= width {
         return stay;
     }
-    let count = over.fills(busy - width);
+    let count = over.fills(q - width);
     stay.lesser(Duration(count))
 }

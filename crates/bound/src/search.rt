@@ -18,8 +18,8 @@ use crate::results::Result;
 use crate::share::no_room;
 use crate::start::first_length;
 use crate::stretch::all_fail;
-use crate::test::busy_of;
 use crate::test::passes;
+use crate::test::q_of;
 use crate::test::room_of;
 use crate::test::sum_above;
 
@@ -41,12 +41,12 @@ fn next_length(sheet: &[u64], results: &[u64], k: usize, length: Duration, sum: 
     requires { ⌜ (Lent (now sheet) (now results)) × (Ready (sheetIn (now sheet)) (heldIn (now results)) k) × (Length (sheetIn (now sheet)) k length) × (sum ≡ amounts (sheetIn (now sheet)) (heldIn (now results)) k length k) × (passes (sheetIn (now sheet)) (heldIn (now results)) k length ≡ false) ⌝ }
     ensures { λ r. ⌜ Skips (sheetIn (now (sheet .entry))) (heldIn (now (results .entry))) k length r ⌝ }
 {
-    let busy = busy_of(sheet, k);
+    let q = q_of(sheet, k);
     let room = room_of(sheet, k, length);
     let over = sum.minus(room);
-    let count = over.fills(busy);
+    let count = over.fills(q);
     let pace = pace_above(sheet, results, k, length);
-    let further = steep(over, busy, pace).greater(Duration(count));
+    let further = steep(over, q, pace).greater(Duration(count));
     length.plus(further).plus(Duration(1))
 }
 

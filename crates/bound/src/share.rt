@@ -10,10 +10,10 @@ ghost use Rattle.bound.specs.Skipping.{shareOf, Shares, AllFail};
 use crate::inside::row_inside;
 use crate::quantity::Duration;
 use crate::quantity::FineAmount;
-use crate::test::busy_of;
 use crate::test::fewer;
+use crate::test::q_of;
 use crate::test::room_of;
-use crate::test::span_above;
+use crate::test::span_of;
 use crate::test::window_of;
 use sheet::Row;
 
@@ -22,16 +22,16 @@ pub(crate) fn share_above(
     row: Row,
     bound: Duration,
     length: Duration,
-    window: Duration,
-    busy: u64,
+    X: Duration,
+    q: u64,
 ) -> FineAmount
-    requires { ⌜ (Above row bound length) × (window .0 ≤ widestSeparation) × (busy ≤ mostProcessors) ⌝ }
-    ensures { λ r. ⌜ r ≡ onFine (shareOf row bound length window) (min (row .threads) busy) ⌝ }
+    requires { ⌜ (Above row bound length) × (X .0 ≤ widestSeparation) × (q ≤ mostProcessors) ⌝ }
+    ensures { λ r. ⌜ r ≡ onFine (shareOf row bound length X) (min (row .threads) q) ⌝ }
 {
-    let span = span_above(row, bound, length);
-    let part = span.part(row.budget, Duration(row.separation));
-    let share = part.lesser(window.fine());
-    let capped = fewer(row.threads, busy);
+    let x = span_of(row, bound, length);
+    let part = x.part(row.budget, Duration(row.separation));
+    let share = part.lesser(X.fine());
+    let capped = fewer(row.threads, q);
     share.on(capped)
 }
 
@@ -40,14 +40,14 @@ fn shares_above(sheet: &[u64], results: &[u64], k: usize, length: Duration) -> F
     requires { ⌜ (Lent (now sheet) (now results)) × (Ready (sheetIn (now sheet)) (heldIn (now results)) k) × (Length (sheetIn (now sheet)) k length) ⌝ }
     ensures { λ r. ⌜ Shares (sheetIn (now (sheet .entry))) (heldIn (now (results .entry))) k length k r ⌝ }
 {
-    let busy = busy_of(sheet, k);
-    let window = window_of(sheet, k, length);
+    let q = q_of(sheet, k);
+    let X = window_of(sheet, k, length);
     let mut sum = FineAmount::none();
     let mut i: usize = 0;
     while i < k {
         let row = row_inside(sheet, i);
         let bound = Duration(results[i * 2 + 1]);
-        let share = share_above(row, bound, length, window, busy);
+        let share = share_above(row, bound, length, X, q);
         sum = sum.plus(share);
         i += 1;
     }

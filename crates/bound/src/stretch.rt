@@ -14,9 +14,9 @@ use crate::quantity::Duration;
 use crate::quantity::FineAmount;
 use crate::share::share_above;
 use crate::test::amount_above;
-use crate::test::busy_of;
+use crate::test::q_of;
 use crate::test::room_of;
-use crate::test::span_above;
+use crate::test::span_of;
 use crate::test::window_of;
 use sheet::Row;
 
@@ -36,29 +36,29 @@ pub struct Ends {
 }
 
 // Whether the present separation of a row above lasts to the end of a stretch.
-fn lasts(row: Row, bound: Duration, s: Stretch, busy: u64) -> bool
-    requires { ⌜ Along row bound s busy ⌝ }
+fn lasts(row: Row, bound: Duration, s: Stretch, q: u64) -> bool
+    requires { ⌜ Along row bound s q ⌝ }
     ensures { λ r. ⌜ r ≡ lasts row bound s ⌝ }
 {
     let from = s.from;
     let to = s.to;
-    let span = span_above(row, bound, from);
-    let ran = span.left(Duration(row.separation));
+    let x = span_of(row, bound, from);
+    let ran = x.left(Duration(row.separation));
     let end = ran.plus(to.after(from));
     end.0 <= row.separation
 }
 
 // The ends of a row above whose present separation lasts: its own amounts.
-fn exact_ends(row: Row, bound: Duration, s: Stretch, busy: u64, spare: FineAmount) -> Ends
-    requires { ⌜ (Along row bound s busy) × (lasts row bound s ≡ true) ⌝ }
-    ensures { λ r. ⌜ RowMeets row bound s busy r ⌝ }
+fn exact_ends(row: Row, bound: Duration, s: Stretch, q: u64, spare: FineAmount) -> Ends
+    requires { ⌜ (Along row bound s q) × (lasts row bound s ≡ true) ⌝ }
+    ensures { λ r. ⌜ RowMeets row bound s q r ⌝ }
 {
     let from = s.from;
     let early = s.early;
     let to = s.to;
     let late = s.late;
-    let now = amount_above(row, bound, from, early, busy);
-    let then = amount_above(row, bound, to, late, busy);
+    let now = amount_above(row, bound, from, early, q);
+    let then = amount_above(row, bound, to, late, q);
     Ends {
         now: now.fine(),
         then: then.fine(),
@@ -67,15 +67,15 @@ fn exact_ends(row: Row, bound: Duration, s: Stretch, busy: u64, spare: FineAmoun
 }
 
 // The ends of any row above, as if it had run no more at the end than at the start.
-fn level_ends(row: Row, bound: Duration, s: Stretch, busy: u64, spare: FineAmount) -> Ends
-    requires { ⌜ Along row bound s busy ⌝ }
-    ensures { λ r. ⌜ RowMeets row bound s busy r ⌝ }
+fn level_ends(row: Row, bound: Duration, s: Stretch, q: u64, spare: FineAmount) -> Ends
+    requires { ⌜ Along row bound s q ⌝ }
+    ensures { λ r. ⌜ RowMeets row bound s q r ⌝ }
 {
     let from = s.from;
     let early = s.early;
     let late = s.late;
-    let now = amount_above(row, bound, from, early, busy);
-    let then = amount_above(row, bound, from, late, busy);
+    let now = amount_above(row, bound, from, early, q);
+    let then = amount_above(row, bound, from, late, q);
     Ends {
         now: now.fine(),
         then: then.fine(),
@@ -84,29 +84,29 @@ fn level_ends(row: Row, bound: Duration, s: Stretch, busy: u64, spare: FineAmoun
 }
 
 // The ends of any row above, by its share.
-fn share_ends(row: Row, bound: Duration, s: Stretch, busy: u64, spare: FineAmount) -> Ends
-    requires { ⌜ Along row bound s busy ⌝ }
-    ensures { λ r. ⌜ RowMeets row bound s busy r ⌝ }
+fn share_ends(row: Row, bound: Duration, s: Stretch, q: u64, spare: FineAmount) -> Ends
+    requires { ⌜ Along row bound s q ⌝ }
+    ensures { λ r. ⌜ RowMeets row bound s q r ⌝ }
 {
     let from = s.from;
     let early = s.early;
     let to = s.to;
     let late = s.late;
-    let now = share_above(row, bound, from, early, busy);
-    let then = share_above(row, bound, to, late, busy);
+    let now = share_above(row, bound, from, early, q);
+    let then = share_above(row, bound, to, late, q);
     Ends { now, then, spare }
 }
 
 // The ends of a row above: its own amounts, or by its share if what that loses at the first end can be spared, or level.
-fn ends_above(row: Row, bound: Duration, s: Stretch, busy: u64, spare: FineAmount) -> Ends
-    requires { ⌜ Along row bound s busy ⌝ }
-    ensures { λ r. ⌜ RowMeets row bound s busy r ⌝ }
+fn ends_above(row: Row, bound: Duration, s: Stretch, q: u64, spare: FineAmount) -> Ends
+    requires { ⌜ Along row bound s q ⌝ }
+    ensures { λ r. ⌜ RowMeets row bound s q r ⌝ }
 {
-    if lasts(row, bound, s, busy) {
-        return exact_ends(row, bound, s, busy, spare);
+    if lasts(row, bound, s, q) {
+        return exact_ends(row, bound, s, q, spare);
     }
-    let level = level_ends(row, bound, s, busy, spare);
-    let shared = share_ends(row, bound, s, busy, spare);
+    let level = level_ends(row, bound, s, q, spare);
+    let shared = share_ends(row, bound, s, q, spare);
     let full = level.now;
     let now = shared.now;
     let then = shared.then;
@@ -143,11 +143,11 @@ fn with_row(sheet: &[u64], results: &[u64], k: usize, s: Stretch, i: usize, ends
     requires { ⌜ (Lent (now sheet) (now results)) × (Ready (sheetIn (now sheet)) (heldIn (now results)) k) × (Stretches (sheetIn (now sheet)) k s) × (i < k) × (RowsMeet (sheetIn (now sheet)) (heldIn (now results)) k s i ends) ⌝ }
     ensures { λ r. ⌜ RowsMeet (sheetIn (now (sheet .entry))) (heldIn (now (results .entry))) k s (i + 1) r ⌝ }
 {
-    let busy = busy_of(sheet, k);
+    let q = q_of(sheet, k);
     let row = row_inside(sheet, i);
     let bound = Duration(results[i * 2 + 1]);
     let spare = ends.spare;
-    let more = ends_above(row, bound, s, busy, spare);
+    let more = ends_above(row, bound, s, q, spare);
     both_ends(ends, more)
 }
 

@@ -22,7 +22,7 @@ pub(crate) fn fewer(a: u64, b: u64) -> u64
 }
 
 // q, of row `k`.
-pub(crate) fn busy_of(sheet: &[u64], k: usize) -> u64
+pub(crate) fn q_of(sheet: &[u64], k: usize) -> u64
     requires { ⌜ (Long (now sheet)) × (Legal (sheetIn (now sheet))) × (k < sheetIn (now sheet) .count) ⌝ }
     ensures { λ r. ⌜ r ≡ q (sheetIn (now (sheet .entry))) k ⌝ }
 {
@@ -41,7 +41,7 @@ pub(crate) fn window_of(sheet: &[u64], k: usize, length: Duration) -> Duration
 }
 
 // x, of a row above with this bound.
-pub(crate) fn span_above(row: Row, bound: Duration, length: Duration) -> Duration
+pub(crate) fn span_of(row: Row, bound: Duration, length: Duration) -> Duration
     requires { ⌜ Above row bound length ⌝ }
     ensures { λ r. ⌜ r ≡ x row bound length ⌝ }
 {
@@ -50,26 +50,26 @@ pub(crate) fn span_above(row: Row, bound: Duration, length: Duration) -> Duratio
 }
 
 // W, of a row above in so many slots.
-pub(crate) fn work_above(row: Row, span: Duration) -> Duration
-    requires { ⌜ Spans row span ⌝ }
-    ensures { λ r. ⌜ r ≡ W row span ⌝ }
+pub(crate) fn work_of(row: Row, x: Duration) -> Duration
+    requires { ⌜ Spans row x ⌝ }
+    ensures { λ r. ⌜ r ≡ W row x ⌝ }
 {
     let budget = Duration(row.budget);
     let separation = Duration(row.separation);
-    let periods = span.rounds(separation);
+    let periods = x.rounds(separation);
     let jobs = budget.times(periods);
-    let rest = span.left(separation);
+    let rest = x.left(separation);
     jobs.plus(budget.lesser(rest))
 }
 
 // The duration of a row above with this bound.
-fn duration_above(row: Row, bound: Duration, length: Duration, window: Duration) -> Duration
+fn duration_above(row: Row, bound: Duration, length: Duration, X: Duration) -> Duration
     requires { ⌜ Above row bound length ⌝ }
-    ensures { λ r. ⌜ r ≡ durationOf row bound length window ⌝ }
+    ensures { λ r. ⌜ r ≡ durationOf row bound length X ⌝ }
 {
-    let span = span_above(row, bound, length);
-    let work = work_above(row, span);
-    work.lesser(window)
+    let x = span_of(row, bound, length);
+    let W = work_of(row, x);
+    W.lesser(X)
 }
 
 // The amount of a row above with this bound.
@@ -77,14 +77,14 @@ pub(crate) fn amount_above(
     row: Row,
     bound: Duration,
     length: Duration,
-    window: Duration,
-    busy: u64,
+    X: Duration,
+    q: u64,
 ) -> Amount
-    requires { ⌜ (Above row bound length) × (window .0 ≤ widestSeparation) × (busy ≤ mostProcessors) ⌝ }
-    ensures { λ r. ⌜ r ≡ on (durationOf row bound length window) (min (row .threads) busy) ⌝ }
+    requires { ⌜ (Above row bound length) × (X .0 ≤ widestSeparation) × (q ≤ mostProcessors) ⌝ }
+    ensures { λ r. ⌜ r ≡ on (durationOf row bound length X) (min (row .threads) q) ⌝ }
 {
-    let duration = duration_above(row, bound, length, window);
-    let capped = fewer(row.threads, busy);
+    let duration = duration_above(row, bound, length, X);
+    let capped = fewer(row.threads, q);
     duration.on(capped)
 }
 
@@ -93,14 +93,14 @@ pub(crate) fn sum_above(sheet: &[u64], results: &[u64], k: usize, length: Durati
     requires { ⌜ (Lent (now sheet) (now results)) × (Ready (sheetIn (now sheet)) (heldIn (now results)) k) × (Length (sheetIn (now sheet)) k length) ⌝ }
     ensures { λ r. ⌜ r ≡ amounts (sheetIn (now (sheet .entry))) (heldIn (now (results .entry))) k length k ⌝ }
 {
-    let busy = busy_of(sheet, k);
-    let window = window_of(sheet, k, length);
+    let q = q_of(sheet, k);
+    let X = window_of(sheet, k, length);
     let mut sum = Amount::none();
     let mut i: usize = 0;
     while i < k {
         let row = row_looked_at(sheet, i);
         let bound = Duration(results[i * 2 + 1]);
-        let amount = amount_above(row, bound, length, window, busy);
+        let amount = amount_above(row, bound, length, X, q);
         sum = sum.plus(amount);
         i += 1;
     }
@@ -112,10 +112,9 @@ pub(crate) fn room_of(sheet: &[u64], k: usize, length: Duration) -> Amount
     requires { ⌜ (Long (now sheet)) × (Legal (sheetIn (now sheet))) × (k < sheetIn (now sheet) .count) × (Length (sheetIn (now sheet)) k length) ⌝ }
     ensures { λ r. ⌜ r ≡ room (sheetIn (now (sheet .entry))) k length ⌝ }
 {
-    let busy = busy_of(sheet, k);
-    let window = window_of(sheet, k, length);
-    let capped = fewer(busy, busy);
-    window.on(capped)
+    let q = q_of(sheet, k);
+    let X = window_of(sheet, k, length);
+    X.on(q)
 }
 
 // Whether a length passes, of which this is the sum.

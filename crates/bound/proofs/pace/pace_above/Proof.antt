@@ -10,10 +10,10 @@ use Rattle.bound.proofs.pace.pace_above.Statement.{statement}
 use Rattle.bound.proofs.pace.pace_above.Tie as tie
 
 abbrev Inv-loop : tie.InvT-loop
-Inv-loop sheet results k length busy window pace₀ i₀ pace i = (i ≤ k) × (Paces (sheetIn sheet) (heldIn results) k length i pace)
+Inv-loop sheet results k length q X pace₀ i₀ pace i = (i ≤ k) × (Paces (sheetIn sheet) (heldIn results) k length i pace)
 
 abbrev μ-loop : tie.MeasureT-loop
-μ-loop sheet results k length busy window pace₀ i₀ pace i = k - i
+μ-loop sheet results k length q X pace₀ i₀ pace i = k - i
 
 loop-holds : tie.Need-loop-holds Inv-loop μ-loop
 loop-holds c = (search needs, search paces-none)

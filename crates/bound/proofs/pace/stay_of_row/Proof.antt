@@ -4,8 +4,8 @@ use Rattle.bound.proofs.Durations.{spans, span-small, stay-fits, stay-i
 use Rattle.bound.proofs.pace.stay_of_row.Statement.{statement}
 use Rattle.bound.proofs.pace.stay_of_row.Tie as tie
 
-work-above-requires : tie.Need-work-above-requires
-work-above-requires c κs = search spans
+work-of-requires : tie.Need-work-of-requires
+work-of-requires c κs = search spans
 
 left-requires : tie.Need-left-requires
 left-requires c κs = (search needs, search needs, search span-small)
@@ -21,7 +21,7 @@ stay-of-row-spec =
     tie.close
     (tie.spec
     (λ c κs. search needs)
-    work-above-requires
+    work-of-requires
     left-requires
     (λ c κs. search needs)
     (λ c κs. search needs)

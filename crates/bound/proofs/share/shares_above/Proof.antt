@@ -4,22 +4,22 @@ use Prim.Native.Nat.{_≤_, _-_}
 use Rattle.sheet.specs.Lists.{sheetIn}
 use Rattle.bound.specs.Ready.{heldIn}
 use Rattle.bound.specs.Skipping.{Shares}
-use Rattle.bound.proofs.Amounts.{row-above, window-small, busy-small}
+use Rattle.bound.proofs.Amounts.{row-above, window-small, q-of-small}
 use Rattle.bound.proofs.Shares.{shares-none, shares-fit, shares-more, shares-done}
 use Rattle.bound.proofs.share.shares_above.Statement.{statement}
 use Rattle.bound.proofs.share.shares_above.Tie as tie
 
 abbrev Inv-loop : tie.InvT-loop
-Inv-loop sheet results k length busy window sum₀ i₀ sum i = (i ≤ k) × (Shares (sheetIn sheet) (heldIn results) k length i sum)
+Inv-loop sheet results k length q X sum₀ i₀ sum i = (i ≤ k) × (Shares (sheetIn sheet) (heldIn results) k length i sum)
 
 abbrev μ-loop : tie.MeasureT-loop
-μ-loop sheet results k length busy window sum₀ i₀ sum i = k - i
+μ-loop sheet results k length q X sum₀ i₀ sum i = k - i
 
 loop-holds : tie.Need-loop-holds Inv-loop μ-loop
 loop-holds c = (search needs, search shares-none)
 
 share-above-requires : tie.Need-share-above-requires Inv-loop μ-loop
-share-above-requires c κs = (search row-above, search window-small, search busy-small)
+share-above-requires c κs = (search row-above, search window-small, search q-of-small)
 
 plus-requires : tie.Need-plus-requires Inv-loop μ-loop
 plus-requires c κs = search shares-fit

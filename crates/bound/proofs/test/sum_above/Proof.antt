@@ -5,21 +5,21 @@ use mathlib.Core.Path.{_≡_}
 use Rattle.bound.specs.Test.{amounts}
 use Rattle.sheet.specs.Lists.{sheetIn}
 use Rattle.bound.specs.Ready.{heldIn}
-use Rattle.bound.proofs.Amounts.{row-above, window-small, busy-small, sum-none, sum-fits, sum-more, sum-done}
+use Rattle.bound.proofs.Amounts.{row-above, window-small, q-of-small, sum-none, sum-fits, sum-more, sum-done}
 use Rattle.bound.proofs.test.sum_above.Statement.{statement}
 use Rattle.bound.proofs.test.sum_above.Tie as tie
 
 abbrev Inv-loop : tie.InvT-loop
-Inv-loop sheet results k length busy window sum₀ i₀ sum i = (i ≤ k) × (sum ≡ amounts (sheetIn sheet) (heldIn results) k length i)
+Inv-loop sheet results k length q X sum₀ i₀ sum i = (i ≤ k) × (sum ≡ amounts (sheetIn sheet) (heldIn results) k length i)
 
 abbrev μ-loop : tie.MeasureT-loop
-μ-loop sheet results k length busy window sum₀ i₀ sum i = k - i
+μ-loop sheet results k length q X sum₀ i₀ sum i = k - i
 
 loop-holds : tie.Need-loop-holds Inv-loop μ-loop
 loop-holds c = (search needs, search sum-none)
 
 amount-above-requires : tie.Need-amount-above-requires Inv-loop μ-loop
-amount-above-requires c κs = (search row-above, search window-small, search busy-small)
+amount-above-requires c κs = (search row-above, search window-small, search q-of-small)
 
 plus-requires : tie.Need-plus-requires Inv-loop μ-loop
 plus-requires c κs = search sum-fits

@@ -1,8 +1,8 @@
--- `work_above` is W: whole periods fit into x, and jobs into periods. Assumes nothing.
+-- `work_of` is W: whole periods fit into x, and jobs into periods. Assumes nothing.
 use borrow.Author.Needs.{needs}
 use Rattle.bound.proofs.Durations.{jobs-fit, work-fits, work-is}
-use Rattle.bound.proofs.test.work_above.Statement.{statement}
-use Rattle.bound.proofs.test.work_above.Tie as tie
+use Rattle.bound.proofs.test.work_of.Statement.{statement}
+use Rattle.bound.proofs.test.work_of.Tie as tie
 
 times-requires : tie.Need-times-requires
 times-requires c κs = search jobs-fit
@@ -13,8 +13,8 @@ plus-requires c κs = search work-fits
 returns : tie.Need-returns
 returns c = search work-is
 
-pub work-above-spec : {M : Type 1} → statement M
-work-above-spec =
+pub work-of-spec : {M : Type 1} → statement M
+work-of-spec =
     tie.close
     (tie.spec
     (λ c κs. search needs)
