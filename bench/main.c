@@ -122,6 +122,9 @@ static void against(const char *table, int job) {
   one(nearly_saturated(32, 1000000)), verdicts(table, "hard: climb 1, nearly saturated", job);
   one(two_taken()), verdicts(table, "hard: climb 2, two of three processors taken", job);
   one(long_beside_always(32, 1000000)), verdicts(table, "hard: climb 3, a long wide row beside one that always runs", job);
+  uint64_t seed = 77;
+  brim(&seed, 3, 10, 32, 1000000);
+  one(brim(&seed, 5, 10, 32, 1000000)), verdicts(table, "hard: brim, five rows about 10 slots", job);
 }
 
 /* Sheets of 16 rows, with longer and longer separations. */
