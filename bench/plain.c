@@ -168,14 +168,13 @@ static uint64_t first_length(const sheet_t *sheet, const uint64_t *bounds, size_
 
 uint64_t skipping_bound(const sheet_t *sheet, const uint64_t *bounds, size_t k) {
   const row_t *row = &sheet->rows[k];
-  uint64_t q = sheet->processors - row->threads + 1;
-  if (no_room(sheet, bounds, k, q)) return 0;
-  uint64_t length = first_length(sheet, bounds, k), guess = 0;
-  for (unsigned calm = 8; length <= row->deadline; calm -= calm > 0) {
+  uint64_t q = sheet->processors - row->threads + 1, length = first_length(sheet, bounds, k), guess = 0;
+  for (unsigned tried = 1; length <= row->deadline; tried++) {
     uint64_t sum = sum_above(sheet, bounds, k, length, q), room = q * (length - row->budget + 1);
     if (sum < room) return length;
     uint64_t next = next_length(sheet, bounds, k, length, q, sum - room);
-    if (calm == 0 && next <= row->deadline) {
+    if (tried == 1 && no_room(sheet, bounds, k, q)) return 0;
+    if (tried > 8 && next <= row->deadline) {
       uint64_t twice = 2 * (next - length), reach = smaller(guess < twice ? twice : guess, row->deadline - length);
       if (all_fail(sheet, bounds, k, length, length + reach, q, 256 * (sum - room) + 255)) {
         next = length + reach + 1;

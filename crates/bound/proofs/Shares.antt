@@ -18,9 +18,8 @@ use Rattle.sheet.specs.declared.row.Row.{Row}
 use Rattle.sheet.specs.declared.row.Sheet.{Sheet}
 use Rattle.bound.specs.Quantities.{widestSeparation, slots, onFine}
 use Rattle.bound.specs.Test.{q, X, x, W, durationOf, amountOf, amounts, room, passes}
-use Rattle.bound.specs.Bound.{none, boundBy}
 use Rattle.bound.specs.Ready.{Ready, Length}
-use Rattle.bound.specs.Skipping.{shareOf, Shares, AllFail}
+use Rattle.bound.specs.Skipping.{Skips, shareOf, Shares, AllFail}
 use Rattle.bound.specs.declared.quantity.Duration.{Duration}
 use Rattle.bound.specs.declared.quantity.Amount.{Amount}
 use Rattle.bound.specs.declared.quantity.Fine.{Fine}
@@ -28,7 +27,6 @@ use Rattle.bound.specs.declared.quantity.FineAmount.{FineAmount}
 use Rattle.bound.proofs.Durations.{same-fine, same-fine-amount, number-in}
 use Rattle.bound.proofs.Workload.{W-shares}
 use Rattle.bound.proofs.Amounts.{few-rows, row, q-small, X-small, X-some, X-mono, room-by-q, fails-where}
-use Rattle.bound.proofs.Lengths.{none-is-least}
 
 -- ---- one row
 
@@ -152,15 +150,19 @@ module _ (h : Sheet) (R : ℕ → Duration) (k : ℕ) (r : Ready h R k) (L : Dur
   pub shares-round : (a : FineAmount) → Shares h R k L k a → Fits w64 (a .0 + 256)
   shares-round a s = omega (arith, s .small, few-rows h R k r)
 
--- ---- none at once
+-- ---- past the deadline
 
 -- the deadline is a length
 pub deadline-is-length : (h : Sheet) (R : ℕ → Duration) (k : ℕ) (row : Row) → row ≡ rowAt h k → Ready h R k → Length h k (slots (row .deadline))
 deadline-is-length h R k row er r = rw er (record { low = r .legal .rows k (r .below) .most-budget; high = omega arith })
 
-pub none-at-once : (h : Sheet) (R : ℕ → Duration) (k : ℕ) (row : Row) (t : Bool) → row ≡ rowAt h k → AllFail h R k (rowAt h k .budget) (row .deadline) t → t ≡ true
-    → none ≡ boundBy passes h R k
-unfolding boundBy
-none-at-once h R k row false er s e = absurd (let z : _≡_ {A = ℕ} 0 1 = cc in omega arith)
-none-at-once h R k row true er s e =
-    sym (none-is-least (λ l. passes h R k (slots l)) (rowAt h k .budget) (rowAt h k .deadline + 1) (λ j a b. s j a (omega (arith, ap (λ (z : Row). z .deadline) er))))
+pub after-deadline-fits : (h : Sheet) (R : ℕ → Duration) (k n : ℕ) (row : Row) → row ≡ rowAt h k → Ready h R k → n ≤ widestSeparation → Fits w64 (row .deadline + n)
+after-deadline-fits h R k n row er r l = rw er (omega (arith, r .legal .rows k (r .below)))
+
+-- past it, where no length up to it passes
+pub past-deadline : (h : Sheet) (R : ℕ → Duration) (k : ℕ) (row : Row) (t : Bool) (L z : Duration) → z .0 ≡ row .deadline + 1 → AllFail h R k (rowAt h k .budget) (row .deadline) t
+    → t ≡ true → row ≡ rowAt h k → Length h k L → Skips h R k L z
+past-deadline h R k row false L z ez s e er len = absurd (let w : _≡_ {A = ℕ} 0 1 = cc in omega arith)
+past-deadline h R k row true L z ez s e er len =
+    let same : row .deadline ≡ rowAt h k .deadline = ap (λ (x : Row). x .deadline) er in
+    record { further = omega (arith, len .high); fails = λ l low high. s l (omega (arith, len .low)) (omega arith) }

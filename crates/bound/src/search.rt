@@ -29,6 +29,9 @@ pub enum Tried {
     Next(Duration, FineAmount),
 }
 
+// The trials after the first that go by what is known, before stretches are guessed.
+const CALM: u64 = 7;
+
 // Where the search is: the length to try, the slots to guess next, and how many trials are left before it guesses.
 pub struct Pursuit {
     pub length: Duration,
@@ -111,7 +114,29 @@ fn leap(
     }
 }
 
-// The step from a length that fails: to the next that is known, and after some trials by a guess.
+// The step from the first length, which fails: past the deadline where the rows above leave no room up to it, else to the next that is known.
+fn from_first(sheet: &[u64], results: &[u64], k: usize, at: Pursuit, next: Duration) -> Pursuit
+    requires { ⌜ (Lent (now sheet) (now results)) × (Ready (sheetIn (now sheet)) (heldIn (now results)) k) × (Length (sheetIn (now sheet)) k (at .length)) × (Skips (sheetIn (now sheet)) (heldIn (now results)) k (at .length) next) ⌝ }
+    ensures { λ r. ⌜ Skips (sheetIn (now (sheet .entry))) (heldIn (now (results .entry))) k (at .length) (r .length) ⌝ }
+{
+    let row = row_inside(sheet, k);
+    let deadline = Duration(row.deadline);
+    let guess = at.guess;
+    if no_room(sheet, results, k, deadline) {
+        return Pursuit {
+            length: deadline.plus(Duration(1)),
+            guess,
+            calm: 0,
+        };
+    }
+    Pursuit {
+        length: next,
+        guess,
+        calm: CALM,
+    }
+}
+
+// The step from a length that fails: from the first one, to the next that is known, and after some trials by a guess.
 fn further(
     sheet: &[u64],
     results: &[u64],
@@ -125,6 +150,9 @@ fn further(
 {
     let guess = at.guess;
     let calm = at.calm;
+    if CALM < calm {
+        return from_first(sheet, results, k, at, next);
+    }
     if 0 < calm {
         return Pursuit {
             length: next,
@@ -135,8 +163,8 @@ fn further(
     leap(sheet, results, k, at, next, spare)
 }
 
-// The smallest length of row `k` that passes.
-fn smallest(sheet: &[u64], results: &[u64], k: usize) -> Result
+// The bound of row `k`, by the bounds above: the smallest length that passes.
+pub(crate) fn bound_of(sheet: &[u64], results: &[u64], k: usize) -> Result
     requires { ⌜ (Lent (now sheet) (now results)) × (Ready (sheetIn (now sheet)) (heldIn (now results)) k) ⌝ }
     ensures { λ r. ⌜ word r ≡ boundBy passes (sheetIn (now (sheet .entry))) (heldIn (now (results .entry))) k ⌝ }
 {
@@ -146,7 +174,7 @@ fn smallest(sheet: &[u64], results: &[u64], k: usize) -> Result
     let mut at = Pursuit {
         length: first,
         guess: Duration(0),
-        calm: 8,
+        calm: CALM + 1,
     };
     while at.length.0 <= deadline.0 {
         let length = at.length;
@@ -157,16 +185,4 @@ fn smallest(sheet: &[u64], results: &[u64], k: usize) -> Result
         at = further(sheet, results, k, at, next, spare);
     }
     Result::NoBound
-}
-
-// The bound of row `k`, by the bounds above; none at once where the rows above leave no room up to the deadline.
-pub(crate) fn bound_of(sheet: &[u64], results: &[u64], k: usize) -> Result
-    requires { ⌜ (Lent (now sheet) (now results)) × (Ready (sheetIn (now sheet)) (heldIn (now results)) k) ⌝ }
-    ensures { λ r. ⌜ word r ≡ boundBy passes (sheetIn (now (sheet .entry))) (heldIn (now (results .entry))) k ⌝ }
-{
-    let row = row_inside(sheet, k);
-    if no_room(sheet, results, k, Duration(row.deadline)) {
-        return Result::NoBound;
-    }
-    smallest(sheet, results, k)
 }
