@@ -5,15 +5,6 @@ use Rattle.numbers.specs.Numbers.{step, upToBy}
 use Rattle.numbers.proofs.number.read_up_to.Statement.{statement}
 use Rattle.numbers.proofs.number.read_up_to.Tie as tie
 
-read-number-requires : tie.Need-read-number-requires
-read-number-requires c κs = search needs
-
-enum-known-k : tie.Need-enum-known-k
-enum-known-k c = search needs
-
-enum-known-v : tie.Need-enum-known-v
-enum-known-v c = search needs
-
 returns : tie.Need-returns
 unfolding upToBy
 returns c = simp (sym (c .before .before .before .read-number .ensures) ∙ ap step (c .before .k .given .1))
@@ -39,4 +30,11 @@ returns-4 c =
 pub read-up-to-spec : {M : Type 1} → statement M
 read-up-to-spec =
     tie.close
-    (tie.spec read-number-requires enum-known-k enum-known-v returns returns-2 returns-3 returns-4)
+    (tie.spec
+    (λ c κs. search needs)
+    (λ c. search needs)
+    (λ c. search needs)
+    returns
+    returns-2
+    returns-3
+    returns-4)
