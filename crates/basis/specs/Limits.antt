@@ -1,4 +1,4 @@
--- The limits of a sheet, each by its name.
+-- The limits of a sheet, each by its name, and all together.
 use Prim.Native.Nat.{ℕ}
 
 -- A number has one to so many groups.
@@ -20,3 +20,15 @@ longestLabel = 16
 -- A separation is 1 to so many slots.
 abbrev pub mostSeparation : ℕ
 mostSeparation = 1000000
+
+-- The limits that a sheet is read by: groups of a number, processors, rows, bytes of a label, slots of a separation.
+pub record Limits : Type 0 where
+  pub groups : ℕ
+  pub processors : ℕ
+  pub rows : ℕ
+  pub label : ℕ
+  pub separation : ℕ
+
+-- Those above.
+abbrev pub limits : Limits
+limits = record { groups = mostGroups; processors = mostProcessors; rows = mostRows; label = longestLabel; separation = mostSeparation }

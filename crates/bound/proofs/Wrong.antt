@@ -16,7 +16,7 @@ use Rattle.sheet.specs.Legal.{legalRow, legalAt, legal}
 use Rattle.sheet.specs.Values.{noSheet}
 use Rattle.sheet.specs.Lists.{rowIn, sheetIn, filled}
 use Rattle.sheet.specs.declared.row.Sheet.{Sheet}
-use Rattle.reader.specs.Form.{head, sheet}
+use Rattle.reader.specs.Form.{headBy, sheetBy}
 use Rattle.reader.specs.Lists.{intoLists, readInto}
 use Rattle.bound.specs.Test.{q, X, x, W, durationOf, amountOf, amounts, room, passes}
 use Rattle.bound.specs.Bound.{unreached, least, boundBy, judge, resultsTo, resultOf, holds, Answer, judged, boundsBy, boundsOf}
@@ -108,10 +108,10 @@ past-left-is-shut-out = apart (listAt 2) (pastLeft listF (9 ∷ 9 ∷ 9 ∷ []))
 
 -- no bytes, a list of labels, and no room for results
 pub room-ignored-is-shut-out : NoneMeets (roomIgnored [] [] (9 ∷ 9 ∷ []) []) (judgedBytes [] [] (9 ∷ 9 ∷ []) [])
-unfolding begins head sheet intoLists readInto judgedBytes roomIgnored
+unfolding begins headBy sheetBy intoLists readInto judgedBytes roomIgnored
 room-ignored-is-shut-out = apart refusalOf (roomIgnored [] [] (9 ∷ 9 ∷ []) []) (judgedBytes [] [] (9 ∷ 9 ∷ []) []) 1 15 refl refl (λ e. omega arith)
 
 -- no bytes, and a sheet's list of one number
 pub cleared-on-refusal-is-shut-out : NoneMeets (clearedOnRefusal [] (9 ∷ []) [] []) (judgedBytes [] (9 ∷ []) [] [])
-unfolding begins upto filled head sheet intoLists readInto judgedBytes clearedOnRefusal
+unfolding begins upto filled headBy sheetBy intoLists readInto judgedBytes clearedOnRefusal
 cleared-on-refusal-is-shut-out = apart firstNumber (clearedOnRefusal [] (9 ∷ []) [] []) (judgedBytes [] (9 ∷ []) [] []) 0 9 refl refl (λ e. omega arith)

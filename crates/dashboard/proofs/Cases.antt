@@ -4,8 +4,8 @@ use mathlib.Core.Path.{_≡_, refl}
 use mathlib.Core.List.{[], _∷_, _++_}
 use Rattle.basis.specs.Words.{allOf, sum}
 use Rattle.basis.specs.Readers.{begins}
-use Rattle.numbers.specs.Numbers.{groups, upTo}
-use Rattle.reader.specs.Form.{plain, label, entry, entries, body, head, sheet, labelHead}
+use Rattle.numbers.specs.Numbers.{groups, upToBy}
+use Rattle.reader.specs.Form.{plain, labelBy, entryBy, entriesBy, bodyBy, headBy, sheetBy, labelHead}
 use Rattle.reader.specs.Answers.{labelIn}
 use Rattle.bound.specs.Test.{q, X, x, W, durationOf, amountOf, amounts, room, passes}
 use Rattle.bound.specs.Bound.{least, boundBy, judge, resultsTo, resultOf, holds}
@@ -19,12 +19,12 @@ use Rattle.dashboard.specs.Cases.{rollAndTrim, rollAndTrimText, sevenAt2
 
 -- sheet C with labels roll and trim
 pub roll-and-trim : verdictText (rollAndTrim ++ (0x03 ∷ [])) ≡ rollAndTrimText
-unfolding allOf sum begins groups upTo plain label entry entries body head sheet labelHead labelIn q X x W durationOf amountOf amounts room passes least boundBy judge resultsTo resultOf holds digits decimal told words.head line ownLabel lines board verdictText
+unfolding allOf sum begins groups upToBy plain labelBy entryBy entriesBy bodyBy headBy sheetBy labelHead labelIn q X x W durationOf amountOf amounts room passes least boundBy judge resultsTo resultOf holds digits decimal told words.head line ownLabel lines board verdictText
 roll-and-trim = refl
 
 -- and with its last byte 00
 pub seven-at-23 : verdictText (rollAndTrim ++ (0x00 ∷ [])) ≡ sevenAt23
-unfolding begins groups upTo plain label entry entries body head sheet digits decimal refusedBy noVerdict verdictText
+unfolding begins groups upToBy plain labelBy entryBy entriesBy bodyBy headBy sheetBy digits decimal refusedBy noVerdict verdictText
 seven-at-23 = refl
 
 -- sheets A to E

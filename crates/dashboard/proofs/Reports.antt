@@ -22,7 +22,7 @@ use Rattle.sheet.specs.declared.row.Sheet.{Sheet}
 use Rattle.sheet.proofs.Legality.{legal-is}
 use Rattle.sheet.proofs.Back.{whole-sheet-comes-back}
 use Rattle.sheet.proofs.Filling.{zeros, zeros-long}
-use Rattle.reader.specs.Form.{head, sheet}
+use Rattle.reader.specs.Form.{headBy, sheetBy}
 use Rattle.reader.specs.Answers.{reading}
 use Rattle.reader.specs.Lists.{labelsLong}
 use Rattle.reader.specs.Steps.{partIn}
@@ -129,7 +129,7 @@ fixed-long (suc (suc (suc (suc (suc i))))) l = absurd (omega arith)
 
 -- the bytes of the prefix are no sheet, so they have no label
 pub no-labels-lie : (n : ℕ) → LabelsLie prefix (zeros (labelsLong mostRows)) n
-unfolding partIn sheet head begins
+unfolding partIn sheetBy headBy begins
 no-labels-lie n i l =
     ap₂ (λ (x y : ℕ). record { start = x; long = y }) (getD-all (labelsLong mostRows) (i * 2) 0) (getD-all (labelsLong mostRows) (i * 2 + 1) 0)
     ∙ sym (no-label prefix i (omega arith))

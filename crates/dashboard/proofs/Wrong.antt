@@ -8,8 +8,8 @@ use Rattle.basis.specs.Words.{allOf, sum}
 use Rattle.basis.specs.Readers.{begins}
 use Rattle.basis.specs.Faults.{NoneMeets}
 use Rattle.basis.proofs.Faults.{values-apart}
-use Rattle.numbers.specs.Numbers.{groups, upTo, spelt, width}
-use Rattle.reader.specs.Form.{plain, label, entry, entries, body, head, sheet, labelHead}
+use Rattle.numbers.specs.Numbers.{groups, upToBy, spelt, width}
+use Rattle.reader.specs.Form.{plain, labelBy, entryBy, entriesBy, bodyBy, headBy, sheetBy, labelHead}
 use Rattle.reader.specs.Answers.{labelIn}
 use Rattle.reader.specs.Longest.{longestRow, longestSheet}
 use Rattle.bound.specs.Test.{q, X, x, W, durationOf, amountOf, amounts, room, passes}
@@ -33,32 +33,32 @@ long (text, n) = n
 
 -- HOLDS for every sheet: sheet C fails
 pub always-holds-is-shut-out : NoneMeets (written (alwaysHolds sheetCBytes) forty) (written (verdictText sheetCBytes) forty)
-unfolding alwaysHolds textBy boardBy written at allOf sum begins groups upTo plain label entry entries body head sheet labelHead labelIn q X x W durationOf amountOf amounts room passes least boundBy judge resultsTo resultOf holds digits decimal told words.head line ownLabel lines board verdictText
+unfolding alwaysHolds textBy boardBy written at allOf sum begins groups upToBy plain labelBy entryBy entriesBy bodyBy headBy sheetBy labelHead labelIn q X x W durationOf amountOf amounts room passes least boundBy judge resultsTo resultOf holds digits decimal told words.head line ownLabel lines board verdictText
 always-holds-is-shut-out = values-apart _ _ (at 29) refl
 
 -- the first label again: sheet C's second row is trim
 pub first-label-again-is-shut-out : NoneMeets (written (firstLabelAgain sheetCBytes) forty) (written (verdictText sheetCBytes) forty)
-unfolding firstLabelAgain textBy boardBy written at allOf sum begins groups upTo plain label entry entries body head sheet labelHead labelIn q X x W durationOf amountOf amounts room passes least boundBy judge resultsTo resultOf holds digits decimal told words.head line ownLabel lines board verdictText
+unfolding firstLabelAgain textBy boardBy written at allOf sum begins groups upToBy plain labelBy entryBy entriesBy bodyBy headBy sheetBy labelHead labelIn q X x W durationOf amountOf amounts room passes least boundBy judge resultsTo resultOf holds digits decimal told words.head line ownLabel lines board verdictText
 first-label-again-is-shut-out = values-apart _ _ (at 17) refl
 
 -- the last digit lost: sheet C's first bound, 1, would be 0
 pub short-bounds-is-shut-out : NoneMeets (written (shortBounds sheetCBytes) forty) (written (verdictText sheetCBytes) forty)
-unfolding shortBounds digitLost textBy boardBy written at allOf sum begins groups upTo plain label entry entries body head sheet labelHead labelIn q X x W durationOf amountOf amounts room passes least boundBy judge resultsTo resultOf holds digits decimal told words.head line ownLabel lines board verdictText
+unfolding shortBounds digitLost textBy boardBy written at allOf sum begins groups upToBy plain labelBy entryBy entriesBy bodyBy headBy sheetBy labelHead labelIn q X x W durationOf amountOf amounts room passes least boundBy judge resultsTo resultOf holds digits decimal told words.head line ownLabel lines board verdictText
 short-bounds-is-shut-out = values-apart _ _ (at 13) refl
 
 -- the last row lost: the text of sheet C has 35 bytes
 pub last-row-lost-is-shut-out : NoneMeets (written (lastRowLost sheetCBytes) forty) (written (verdictText sheetCBytes) forty)
-unfolding lastRowLost textBy written long allOf sum begins groups upTo plain label entry entries body head sheet labelHead labelIn q X x W durationOf amountOf amounts room passes least boundBy judge resultsTo resultOf holds digits decimal told words.head line ownLabel lines board verdictText
+unfolding lastRowLost textBy written long allOf sum begins groups upToBy plain labelBy entryBy entriesBy bodyBy headBy sheetBy labelHead labelIn q X x W durationOf amountOf amounts room passes least boundBy judge resultsTo resultOf holds digits decimal told words.head line ownLabel lines board verdictText
 last-row-lost-is-shut-out = values-apart _ _ long refl
 
 -- the place of a refusal lost: sheet C with a blank is refused at 23
 pub place-zero-is-shut-out : NoneMeets (written (placeZero blankCBytes) forty) (written (verdictText blankCBytes) forty)
-unfolding placeZero textBy written long begins groups upTo plain label entry entries body head sheet digits decimal refusedBy noVerdict verdictText
+unfolding placeZero textBy written long begins groups upToBy plain labelBy entryBy entriesBy bodyBy headBy sheetBy digits decimal refusedBy noVerdict verdictText
 place-zero-is-shut-out = values-apart _ _ long refl
 
 -- a refused sheet that holds: sheet C with a blank has no verdict
 pub refused-is-empty-is-shut-out : NoneMeets (written (refusedIsEmpty blankCBytes) forty) (written (verdictText blankCBytes) forty)
-unfolding refusedIsEmpty textBy written long begins groups upTo plain label entry entries body head sheet digits decimal refusedBy noVerdict verdictText
+unfolding refusedIsEmpty textBy written long begins groups upToBy plain labelBy entryBy entriesBy bodyBy headBy sheetBy digits decimal refusedBy noVerdict verdictText
 refused-is-empty-is-shut-out = values-apart _ _ long refl
 
 -- sheet A each time: the reference would be of another length

@@ -12,10 +12,10 @@ use Rattle.basis.specs.Refusals.{firstOf}
 use Rattle.basis.specs.Upto.{upto}
 use Rattle.basis.specs.Faults.{NoneMeets}
 use Rattle.basis.proofs.Faults.{apart}
-use Rattle.numbers.specs.Numbers.{groups, upTo}
+use Rattle.numbers.specs.Numbers.{groups, upToBy}
 use Rattle.sheet.specs.Legal.{legalRow, legalAt, legal}
 use Rattle.sheet.specs.Lists.{filled, rowIn, sheetIn, rowCell, listCell}
-use Rattle.reader.specs.Form.{plain, label, entry, entries, body, head, sheet, labelHead}
+use Rattle.reader.specs.Form.{plain, labelBy, entryBy, entriesBy, bodyBy, headBy, sheetBy, labelHead}
 use Rattle.reader.specs.Answers.{labelIn}
 use Rattle.bound.specs.Test.{passes, amounts, amountOf, durationOf, room, q, X, x, W}
 use Rattle.bound.specs.Bound.{holds, resultOf, resultsTo, judge, boundBy, least, judged, boundsBy}
@@ -43,32 +43,32 @@ toldNumber x = x .0 .0
 -- ---- `giachimu_verdict`: of no bytes, the 15 bytes `NO VERDICT 1 0`
 
 pub verdict-cut-is-shut-out : NoneMeets (verdictCut [] (9 ∷ 9 ∷ 9 ∷ []) 0) (verdictIn [] (9 ∷ 9 ∷ 9 ∷ []) 0)
-unfolding verdictCut verdictIn verdictText begins groups upTo plain label entry entries body head sheet noVerdict refusedBy decimal digits
+unfolding verdictCut verdictIn verdictText begins groups upToBy plain labelBy entryBy entriesBy bodyBy headBy sheetBy noVerdict refusedBy decimal digits
 verdict-cut-is-shut-out = apart toldNumber _ _ 0 15 refl refl (λ e. omega arith)
 
 pub verdict-untold-is-shut-out : NoneMeets (verdictUntold [] (replicate 20 9) 7) (verdictIn [] (replicate 20 9) 7)
-unfolding verdictUntold verdictIn written verdictText begins groups upTo plain label entry entries body head sheet noVerdict refusedBy decimal digits
+unfolding verdictUntold verdictIn written verdictText begins groups upToBy plain labelBy entryBy entriesBy bodyBy headBy sheetBy noVerdict refusedBy decimal digits
 verdict-untold-is-shut-out = apart (λ (r : (ℕ × ℕ) × Page). r .1 .1) _ _ 7 15 refl refl (λ e. omega arith)
 
 -- ---- `giachimu_read`: no bytes are refused by 1
 
 pub read-filled-is-shut-out : NoneMeets (readFilled [] (9 ∷ [])) (readIn [] (9 ∷ []))
-unfolding readFilled readIn fieldsIn begins groups upTo plain label entry entries body head sheet filled upto listCell rowCell
+unfolding readFilled readIn fieldsIn begins groups upToBy plain labelBy entryBy entriesBy bodyBy headBy sheetBy filled upto listCell rowCell
 read-filled-is-shut-out = apart (λ (r : (ℕ × ℕ) × List ℕ). getD (r .1) 0 0) _ _ 0 9 refl refl (λ e. omega arith)
 
 pub read-told-zero-is-shut-out : NoneMeets (toldZero (readIn [] (9 ∷ []))) (readIn [] (9 ∷ []))
-unfolding readIn fieldsIn begins groups upTo plain label entry entries body head sheet
+unfolding readIn fieldsIn begins groups upToBy plain labelBy entryBy entriesBy bodyBy headBy sheetBy
 read-told-zero-is-shut-out = apart toldNumber _ _ 0 1 refl refl (λ e. omega arith)
 
 -- ---- `giachimu_label`: sheet C, label a
 
 pub label-swapped-is-shut-out : NoneMeets (labelSwapped bytesC 0 (0, 0)) (labelAnswer bytesC 0 (0, 0))
-unfolding labelSwapped labelAnswer labelIn labelHead begins groups upTo plain label entry entries body head sheet
+unfolding labelSwapped labelAnswer labelIn labelHead begins groups upToBy plain labelBy entryBy entriesBy bodyBy headBy sheetBy
 label-swapped-is-shut-out = apart (λ (r : (ℕ × ℕ) × (ℕ × ℕ)). r .1 .0) _ _ 1 7 refl refl (λ e. omega arith)
 
 -- and there is no row 5
 pub label-told-zero-is-shut-out : NoneMeets (toldZero (labelAnswer bytesC 5 (0, 0))) (labelAnswer bytesC 5 (0, 0))
-unfolding labelAnswer labelIn labelHead begins groups upTo plain label entry entries body head sheet
+unfolding labelAnswer labelIn labelHead begins groups upToBy plain labelBy entryBy entriesBy bodyBy headBy sheetBy
 label-told-zero-is-shut-out = apart toldNumber _ _ 0 14 refl refl (λ e. omega arith)
 
 -- ---- `giachimu_bounds`: sheet C does not hold

@@ -9,7 +9,7 @@ use Rattle.basis.specs.Refusals.{firstOf}
 use Rattle.basis.specs.Upto.{upto, pairCell}
 use Rattle.basis.specs.Faults.{NoneMeets}
 use Rattle.basis.proofs.Faults.{values-apart}
-use Rattle.numbers.specs.Numbers.{groups, upTo}
+use Rattle.numbers.specs.Numbers.{groups, upToBy}
 use Rattle.sheet.specs.Legal.{legal, legalAt, legalRow}
 use Rattle.sheet.specs.Lists.{filled, rowIn, sheetIn, rowCell, listCell}
 use Rattle.tables.specs.Tables.{fixedSheet}
@@ -44,12 +44,12 @@ zeros-written-is-shut-out = values-apart _ _ value refl
 
 -- no refusal told: 80 01 is over 5
 pub not-told-is-shut-out : NoneMeets (notTold (upToOn twoGroups 0 5 sevens)) (upToOn twoGroups 0 5 sevens)
-unfolding notTold upToOn stepTold upTo groups refusal
+unfolding notTold upToOn stepTold upToBy groups refusal
 not-told-is-shut-out = values-apart _ _ refusal refl
 
 -- 8 and 7 for 7 and 8: 80 01 is over 5 by 8
 pub eight-and-seven-is-shut-out : NoneMeets (eightAndSeven twoGroups 0 5 sevens) (upToOn twoGroups 0 5 sevens)
-unfolding eightAndSeven upToOn stepTold upTo groups refusal
+unfolding eightAndSeven upToOn stepTold upToBy groups refusal
 eight-and-seven-is-shut-out = values-apart _ _ refusal refl
 
 -- the number told, and the number at a place of a list

@@ -12,9 +12,9 @@ use Rattle.basis.specs.declared.refusal.Refusal.the-variants.{Accepted}
 use Rattle.basis.specs.Upto.{upto}
 use Rattle.basis.specs.Faults.{NoneMeets}
 use Rattle.basis.proofs.Faults.{apart, bit}
-use Rattle.numbers.specs.Numbers.{groups, upTo}
+use Rattle.numbers.specs.Numbers.{groups, upToBy}
 use Rattle.sheet.specs.Legal.{legal, legalAt, legalRow}
-use Rattle.reader.specs.Form.{plain, label, entry, entries, body, head, sheet}
+use Rattle.reader.specs.Form.{plain, labelBy, entryBy, entriesBy, bodyBy, headBy, sheetBy}
 use Rattle.bound.specs.Test.{passes, amounts, amountOf, durationOf, room, q, X, x, W}
 use Rattle.bound.specs.Bound.{holds, resultOf, resultsTo, judge, boundBy, least}
 use Rattle.tables.specs.Tables.{sheetD}
@@ -37,15 +37,15 @@ use Rattle.green.specs.Wrong.{bytesC, bytesD, alwaysGreen, neverGreen, g
 -- ---- `green`
 
 pub always-green-is-shut-out : NoneMeets (alwaysGreen bytesC) (greenOf bytesC)
-unfolding greenOf allOf sum begins groups upTo plain label entry entries body head sheet q X x W durationOf amountOf amounts room passes least boundBy judge resultsTo resultOf holds
+unfolding greenOf allOf sum begins groups upToBy plain labelBy entryBy entriesBy bodyBy headBy sheetBy q X x W durationOf amountOf amounts room passes least boundBy judge resultsTo resultOf holds
 always-green-is-shut-out = apart bit _ _ 1 0 refl refl (λ e. omega arith)
 
 pub never-green-is-shut-out : NoneMeets (neverGreen bytesD) (greenOf bytesD)
-unfolding greenOf allOf sum begins groups upTo plain label entry entries body head sheet q X x W durationOf amountOf amounts room passes least boundBy judge resultsTo resultOf holds
+unfolding greenOf allOf sum begins groups upToBy plain labelBy entryBy entriesBy bodyBy headBy sheetBy q X x W durationOf amountOf amounts room passes least boundBy judge resultsTo resultOf holds
 never-green-is-shut-out = apart bit _ _ 0 1 refl refl (λ e. omega arith)
 
 pub green-if-read-is-shut-out : NoneMeets (greenIfRead bytesC) (greenOf bytesC)
-unfolding greenIfRead greenOf allOf sum begins groups upTo plain label entry entries body head sheet q X x W durationOf amountOf amounts room passes least boundBy judge resultsTo resultOf holds
+unfolding greenIfRead greenOf allOf sum begins groups upToBy plain labelBy entryBy entriesBy bodyBy headBy sheetBy q X x W durationOf amountOf amounts room passes least boundBy judge resultsTo resultOf holds
 green-if-read-is-shut-out = apart bit _ _ 1 0 refl refl (λ e. omega arith)
 
 -- ---- the history that demand 3 is about
@@ -97,7 +97,7 @@ stuck-slots =
     (once-more {after = after (0 ∷ 0 ∷ [])} (0 ∷ 0 ∷ []) (9 ∷ 9 ∷ []) _ Accepted refl no-more)))
 
 pub stuck-slots-are-late : InTime sheetD (sheetD .count) stuck → ⊥
-unfolding allOf sum begins groups upTo plain label entry entries body head sheet q X x W durationOf amountOf amounts room passes least boundBy judge resultsTo resultOf holds
+unfolding allOf sum begins groups upToBy plain labelBy entryBy entriesBy bodyBy headBy sheetBy q X x W durationOf amountOf amounts room passes least boundBy judge resultsTo resultOf holds
 stuck-slots-are-late t = go (f .later) (f .within) (f .finished)
   where
     f : FinishedWithin stuck 0 1 4

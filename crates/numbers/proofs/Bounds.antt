@@ -11,7 +11,7 @@ use borrow.Author.Tests.{eqb-false, leb-true}
 use Rattle.basis.specs.Words.{pick}
 use Rattle.basis.specs.Readers.{Step, ok, refuse, after, give, refuse-at}
 use Rattle.basis.specs.Limits.{mostGroups}
-use Rattle.numbers.specs.Numbers.{groups, number, upTo}
+use Rattle.numbers.specs.Numbers.{groups, number, upToBy, upTo}
 use Rattle.numbers.proofs.Laws.{one-less, ends, over, low, last, more}
 use Rattle.basis.proofs.Words.{lt-or-le}
 use Rattle.basis.proofs.Steps.{never-ok, after-ok, ok-same, passed, not-stopped}
@@ -47,7 +47,7 @@ pub record Bounded (most : ℕ) (s : List ℕ) (at v n : ℕ) : Type 0 where
   pub read : number s at ≡ ok v n
 
 pub bounded : (most under beyond : ℕ) (s : List ℕ) (at v n : ℕ) → upTo most under beyond s at ≡ ok v n → Bounded most s at v n
-unfolding upTo
+unfolding upToBy
 bounded most under beyond s at v n e =
     after-ok (number s at) _ e λ u m eu e₁.
     let nz = not-stopped _ under at s m (eqb u 0) e₁ in

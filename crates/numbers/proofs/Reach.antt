@@ -16,7 +16,7 @@ use Rattle.basis.specs.Readers.{Step, ok, refuse, Reader, after, _>>=_, byte, r
 use Rattle.basis.proofs.Steps.{never-ok, ok-same, refuse-same}
 use Rattle.basis.proofs.Tame.{Listed, Agree, Tame, listed, listed-two, listed-as, pick-alike}
 use Rattle.basis.proofs.Words.{lt-or-le}
-use Rattle.numbers.specs.Numbers.{groups, number, upTo, spelt, spell, width}
+use Rattle.numbers.specs.Numbers.{groups, number, upToBy, upTo, spelt, spell, width}
 use Rattle.numbers.proofs.Laws.{one-less, ends, over, low, last, more}
 use Rattle.numbers.proofs.Spelling.{spelt-one, spelt-more}
 use Rattle.numbers.proofs.Bounds.{inside, bounded}
@@ -117,7 +117,7 @@ groups-alike (suc g) first least l s t a at h =
 -- ---- together
 
 up-to-refuses : (s : List ℕ) (at k p most under beyond : ℕ) → 3 ≤ under → under ≤ 9 → 3 ≤ beyond → beyond ≤ 9 → at ≤ length s → upTo most under beyond s at ≡ refuse k p → Listed s k p
-unfolding upTo
+unfolding upToBy
 up-to-refuses s at k p most under beyond u₁ u₂ o₁ o₂ l e = go (number s at) refl e
   where
     tests : (v n : ℕ) (t x : Bool) → pick t (refuse-at under at) (pick x (give v) (refuse-at beyond at)) s n ≡ refuse k p → Listed s k p
@@ -130,7 +130,7 @@ up-to-refuses s at k p most under beyond u₁ u₂ o₁ o₂ l e = go (number s 
     go (refuse j i) e₁ q = let (a, b) = refuse-same {A = ℕ} q in listed-as s a b (groups-refuses mostGroups at 0 s at j i l e₁)
 
 up-to-alike : (most under beyond at : ℕ) (s t : List ℕ) → number s at ≡ number t at → upTo most under beyond s at ≡ upTo most under beyond t at
-unfolding upTo
+unfolding upToBy
 up-to-alike most under beyond at s t e =
     let r : ℕ → Reader ℕ = λ v. pick (eqb v 0) (refuse-at under at) (pick (leb v most) (give v) (refuse-at beyond at)) in
     ap (λ (y : Step ℕ). after y (λ v n. r v s n)) e ∙ go (number t at)

@@ -5,7 +5,7 @@ use mathlib.Core.Path.{refl}
 use Rattle.basis.specs.Readers.{Step, ok, refuse}
 use Rattle.basis.specs.Faults.{NoAnswer}
 use Rattle.basis.proofs.Faults.{told-apart}
-use Rattle.numbers.specs.Numbers.{step, groups, number, upTo}
+use Rattle.numbers.specs.Numbers.{step, groups, number, upToBy, upTo}
 use Rattle.numbers.specs.Wrong.{highGroups, highestFirst, looseGroups, anyForm, groupMore, threeAs, longIsCut, placeAfter, blankIsZero, mostIsOver, zeroIsOver, twoGroups, zeroLast, fourGroups, blank, five}
 
 -- the value of a step, the number that it is refused by, and its place
@@ -48,15 +48,15 @@ place-after-is-shut-out = told-apart step _ _ place refl
 
 -- a blank read as zero: 00 would be a budget of 0, and the row would weigh nothing
 pub blank-is-zero-is-shut-out : NoAnswer step (blankIsZero 5 7 8 blank 0) (upTo 5 7 8 blank 0)
-unfolding groups upTo blankIsZero refusal
+unfolding groups upToBy blankIsZero refusal
 blank-is-zero-is-shut-out = told-apart step _ _ refusal refl
 
 -- the largest value refused: 05 would be over 5
 pub most-is-over-is-shut-out : NoAnswer step (mostIsOver 5 7 8 five 0) (upTo 5 7 8 five 0)
-unfolding groups upTo mostIsOver refusal
+unfolding groups upToBy mostIsOver refusal
 most-is-over-is-shut-out = told-apart step _ _ refusal refl
 
 -- zero refused as what is over: 00 would be 8
 pub zero-is-over-is-shut-out : NoAnswer step (zeroIsOver 5 7 8 blank 0) (upTo 5 7 8 blank 0)
-unfolding groups upTo zeroIsOver refusal
+unfolding groups upToBy zeroIsOver refusal
 zero-is-over-is-shut-out = told-apart step _ _ refusal refl

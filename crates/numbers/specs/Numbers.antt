@@ -26,16 +26,23 @@ groups (suc g) first least = do
         v ← groups g first 1
         give (b - 128 + 128 * v))
 
--- The number at a place: the last of several groups is not zero, and a single one may be.
-abbrev pub number : Reader ℕ
-number s at = groups mostGroups at 0 s at
+-- The number at a place, of at most g groups: the last of several is not zero, and a single one may be.
+abbrev pub numberBy : ℕ → Reader ℕ
+numberBy g s at = groups g at 0 s at
 
--- A number from 1 to most; refused at its first byte by one number where it is zero, and by another where it is over.
-unfoldable pub upTo : ℕ → ℕ → ℕ → Reader ℕ
-upTo most under over = do
+-- A number from 1 to most, of at most g groups; refused at its first byte by one number where it is zero, and by another where it is over.
+unfoldable pub upToBy : ℕ → ℕ → ℕ → ℕ → Reader ℕ
+upToBy g most under over = do
   first ← here
-  v ← number
+  v ← numberBy g
   pick (eqb v 0) (refuse-at under first) (pick (leb v most) (give v) (refuse-at over first))
+
+-- Both by the limit of the project.
+abbrev pub number : Reader ℕ
+number = numberBy mostGroups
+
+abbrev pub upTo : ℕ → ℕ → ℕ → Reader ℕ
+upTo = upToBy mostGroups
 
 -- The encoding of a value, in at most g groups.
 unfoldable pub spelt : ℕ → ℕ → List ℕ

@@ -16,7 +16,7 @@ use Rattle.basis.proofs.Steps.{after-ok, ok-same}
 use Rattle.basis.proofs.Words.{lt-or-le}
 use Rattle.numbers.specs.Numbers.{upTo}
 use Rattle.numbers.proofs.Bounds.{bounded}
-use Rattle.reader.specs.Form.{Entry, Held, rowOf, label, entry, entries, sheet}
+use Rattle.reader.specs.Form.{Entry, Held, rowOf, label, entryBy, entry, entriesBy, entries, sheet}
 use Rattle.sheet.specs.Legal.{noRow, rowAt, legal, ZeroPast, LegalRow, Legal}
 use Rattle.sheet.specs.Values.{noRows, padded, noSheet}
 use Rattle.reader.specs.Answers.{sheetOf, handed, reading}
@@ -26,7 +26,7 @@ use Rattle.reader.proofs.Heads.{headed}
 use Rattle.sheet.proofs.Legality.{legal-says}
 
 entry-legal : (m : ℕ) (s : List ℕ) (at : ℕ) (x : Entry) (n : ℕ) → entry m s at ≡ ok x n → LegalRow m (rowOf x)
-unfolding entry
+unfolding entryBy
 entry-legal m s at x n e =
     after-ok (label s at) _ e λ l a e₁ e₂.
     after-ok (upTo m 7 8 s a) _ e₂ λ t b e₃ e₄.
@@ -50,7 +50,7 @@ entry-legal m s at x n e =
     })
 
 entries-legal : (m n i : ℕ) (s : List ℕ) (at : ℕ) (es : List Entry) (f : ℕ) → entries m n s at ≡ ok es f → i < n → LegalRow m (getD (map rowOf es) i noRow)
-unfolding entries
+unfolding entriesBy
 entries-legal m zero i s at es f e h = absurd (not-suc-le-zero h)
 entries-legal m (suc n) i s at es f e h =
     after-ok (entry m s at) _ e λ x q e₁ e₂.

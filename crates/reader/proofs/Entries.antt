@@ -11,7 +11,7 @@ use Rattle.numbers.specs.Numbers.{step, upTo}
 use Rattle.numbers.specs.declared.number.Number.{Number}
 use Rattle.numbers.specs.declared.number.Number.the-variants.{Is, Refused}
 use Rattle.sheet.specs.declared.row.Row.{Row}
-use Rattle.reader.specs.Form.{rowOf, label, entry}
+use Rattle.reader.specs.Form.{rowOf, label, entryBy, entry}
 use Rattle.reader.specs.Answers.{partAfter}
 use Rattle.reader.specs.Steps.{labelStep, LabelAt, numbers, rowStep}
 use Rattle.reader.specs.declared.row.Part.{Part}
@@ -54,12 +54,12 @@ through f (refuse k p) K K′ h = refl
 -- a label, and the numbers after it
 module _ (m : ℕ) (s : List ℕ) (at : ℕ) (r₀ : LabelRead) (e₀ : labelStep r₀ ≡ told length (label s at)) where
   pub no-label : (k p : ℕ) → r₀ ≡ label-variants.Refused k p → refuse k p ≡ told rowOf (entry m s at)
-  unfolding entry told
+  unfolding entryBy told
   no-label k p g = simp (told-no length (label s at) (got labelStep e₀ g))
 
   module _ (w : Part) (a : ℕ) (g₀ : r₀ ≡ label-variants.Is w a) (x : RowRead) (q : rowStep x ≡ numbers m s a) where
     after-label : numbers m s a ≡ told rowOf (entry m s at)
-    unfolding entry numbers told
+    unfolding entryBy numbers told
     after-label =
         let (l, el, _) = told-ok length (label s at) (got labelStep e₀ g₀) in
         sym (simp el

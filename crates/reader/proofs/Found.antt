@@ -11,7 +11,7 @@ use Rattle.basis.specs.Readers.{Step, ok, refuse, enough, end}
 use Rattle.basis.proofs.Steps.{after-ok, ok-same, enough-ok, end-ok, end-stays}
 use Rattle.numbers.specs.Numbers.{upTo}
 use Rattle.sheet.specs.Legal.{noRow}
-use Rattle.reader.specs.Form.{Entry, Held, rowOf, plain, label, entry, entries, body, Head, head, sheet, labelHead}
+use Rattle.reader.specs.Form.{Entry, Held, rowOf, plain, labelBy, label, entryBy, entry, entriesBy, entries, bodyBy, Head, head, sheetBy, sheet, labelHead}
 use Rattle.reader.specs.Steps.{rowFrom, rowAfter}
 use Rattle.reader.proofs.Plain.{plain-ok}
 
@@ -28,7 +28,7 @@ pub record Lies (s : List ℕ) (at : ℕ) (bs : List ℕ) : Type 0 where
   pub bytes : bs ≡ take (length bs) (drop start s)
 
 label-lies : (s : List ℕ) (at : ℕ) (bs : List ℕ) (n : ℕ) → label s at ≡ ok bs n → Lies s at bs
-unfolding label
+unfolding labelBy
 label-lies s at bs n e =
     after-ok (upTo longestLabel 6 6 s at) _ e λ k st e₁ e₂.
     after-ok (enough k s st) _ e₂ λ u m e₃ e₄.
@@ -43,7 +43,7 @@ label-lies s at bs n e =
     }
 
 entry-label : (m : ℕ) (s : List ℕ) (at : ℕ) (x : Entry) (n : ℕ) → entry m s at ≡ ok x n → (a : ℕ) × (label s at ≡ ok (labelOf x) a)
-unfolding entry
+unfolding entryBy
 entry-label m s at x n e =
     after-ok (label s at) _ e λ l a e₁ e₂.
     after-ok (upTo m 7 8 s a) _ e₂ λ t b e₃ e₄.
@@ -60,7 +60,7 @@ noEntry = record { label = []; row = noRow }
 -- row i of n rows, where all are accepted
 entries-at : (m n i : ℕ) (s : List ℕ) (at : ℕ) (es : List Entry) (f : ℕ) → entries m n s at ≡ ok es f → i < n
     → (fs : List Entry) × (p : ℕ) × (x : Entry) × (q : ℕ) × (entries m i s at ≡ ok fs p) × (entry m s p ≡ ok x q) × (getD es i noEntry ≡ x)
-unfolding entries
+unfolding entriesBy
 entries-at m zero i s at es f e h = absurd (not-suc-le-zero h)
 entries-at m (suc n) zero s at es f e h =
     after-ok (entry m s at) _ e λ x q e₁ e₂.
@@ -75,7 +75,7 @@ entries-at m (suc n) (suc i) s at es f e h =
     (x ∷ fs, p, y, r, simp (e₁, f₁), f₂, ap (λ (z : List Entry). getD z (suc i) noEntry) (sym same) ∙ f₃)
 
 pub entries-length : (m n : ℕ) (s : List ℕ) (at : ℕ) (es : List Entry) (f : ℕ) → entries m n s at ≡ ok es f → length es ≡ n
-unfolding entries
+unfolding entriesBy
 entries-length m zero s at es f e = let (same, _) = ok-same e in ap length (sym same)
 entries-length m (suc n) s at es f e =
     after-ok (entry m s at) _ e λ x q e₁ e₂.
@@ -95,7 +95,7 @@ pub record Whole (s : List ℕ) (h : Held) : Type 0 where
   pub many : top .count ≡ length (h .entries)
 
 pub whole : (s : List ℕ) (h : Held) (n : ℕ) → sheet s 0 ≡ ok h n → Whole s h
-unfolding sheet body
+unfolding sheetBy bodyBy
 whole s h n e =
     after-ok (head s 0) _ e λ top from e₁ e₂.
     after-ok (entries (top .processors) (top .count) s from) _ e₂ λ es to e₃ e₄.
@@ -115,7 +115,7 @@ whole s h n e =
 
 -- it ends where its bytes end
 pub whole-length : (s : List ℕ) (h : Held) (n : ℕ) → sheet s 0 ≡ ok h n → length s ≤ n
-unfolding sheet body
+unfolding sheetBy bodyBy
 whole-length s h n e =
     after-ok (head s 0) _ e λ top from e₁ e₂.
     after-ok (entries (top .processors) (top .count) s from) _ e₂ λ es to e₃ e₄.

@@ -17,7 +17,7 @@ use Rattle.numbers.proofs.Bounds.{bounded}
 use Rattle.sheet.specs.Legal.{rowAt}
 use Rattle.sheet.specs.Lists.{numberAt, listCell, sheetCell, sheetLong}
 use Rattle.sheet.proofs.Stores.{rows-agree}
-use Rattle.reader.specs.Form.{Entry, Held, entries, body, head, sheet, labelHead}
+use Rattle.reader.specs.Form.{Entry, Held, entries, bodyBy, head, sheetBy, sheet, labelHead}
 use Rattle.reader.specs.Answers.{sheetOf, labelIn}
 use Rattle.reader.specs.Answers as answers
 use Rattle.reader.specs.Lists.{labelsLong, labelCell, intoLists, readInto}
@@ -50,7 +50,7 @@ module _ (n : ℕ) (own parts list labels : List ℕ) where
 -- `read_into`
 module _ (s : List ℕ) (x : HeadRead) (e : headStep x ≡ head s 0) where
   pub head-refused : (k p : ℕ) → x ≡ head-variants.Refused k p → (list labels : List ℕ) → (refused k p, (list, labels)) ≡ readInto s list labels
-  unfolding readInto intoLists sheet
+  unfolding readInto intoLists sheetBy
   head-refused k p g list labels = simp (got headStep e g)
 
   pub head-told : (m n z : ℕ) → x ≡ head-variants.Is m n z → head s 0 ≡ ok (headed m n) z
@@ -75,12 +75,12 @@ module _ (s : List ℕ) (m n at : ℕ) (e : head s 0 ≡ ok (headed m n) at) whe
 
   module _ (x : Passed) (q : passedStep x ≡ told nothing (entries m n s at)) (list labels : List ℕ) where
     pub rows-refused : (k p : ℕ) → x ≡ passed-variants.Refused k p → (refused k p, (list, labels)) ≡ readInto s list labels
-    unfolding readInto intoLists sheet body
+    unfolding readInto intoLists sheetBy bodyBy
     rows-refused k p g = simp (e, told-no nothing (entries m n s at) (got passedStep q g))
 
     module _ (next : ℕ) (g : x ≡ passed-variants.To next) where
       pub bytes-over : next < length s → (refused 9 next, (list, labels)) ≡ readInto s list labels
-      unfolding readInto intoLists sheet body
+      unfolding readInto intoLists sheetBy bodyBy
       bytes-over l = simp (e, told-ok nothing (entries m n s at) (got passedStep q g) .1, lt-ltb next (length s) l)
 
       module _ (l : length s ≤ next) (es : List Entry) (ee : entries m n s at ≡ ok es next) where
@@ -88,7 +88,7 @@ module _ (s : List ℕ) (m n at : ℕ) (e : head s 0 ≡ ok (headed m n) at) whe
         this = record { processors = m; entries = es }
 
         was-read : sheet s 0 ≡ ok (record { processors = m; entries = es }) next
-        unfolding sheet body
+        unfolding sheetBy bodyBy
         was-read = simp (e, ee, le-ltb next (length s) l)
 
         many : length es ≡ n

@@ -10,26 +10,26 @@ use Rattle.basis.proofs.Steps.{got, after-ok, ok-same, marked-ok}
 use Rattle.numbers.specs.Numbers.{step, upTo}
 use Rattle.numbers.specs.declared.number.Number.{Number}
 use Rattle.numbers.specs.declared.number.Number.the-variants.{Is, Refused}
-use Rattle.reader.specs.Form.{Head, markBytes, head}
+use Rattle.reader.specs.Form.{Head, markBytes, headBy, head}
 
 -- the ways out of `read_head`
 module _ (s : List ℕ) (b : Bool) (e : b ≡ begins markBytes s) where
   pub head-unmarked : b ≡ false → refuse 1 0 ≡ head s 0
-  unfolding head
+  unfolding headBy
   head-unmarked q = simp (sym e ∙ q)
 
   module _ (q : b ≡ true) (r : Number) (m : step r ≡ upTo mostProcessors 4 4 s 4) where
     pub head-no-processors : (k p : ℕ) → r ≡ Refused k p → refuse k p ≡ head s 0
-    unfolding head
+    unfolding headBy
     head-no-processors k p g = simp (sym e ∙ q, got step m g)
 
     module _ (v a : ℕ) (g : r ≡ Is v a) (r₂ : Number) (n : step r₂ ≡ upTo mostRows 5 5 s a) where
       pub head-no-count : (k p : ℕ) → r₂ ≡ Refused k p → refuse k p ≡ head s 0
-      unfolding head
+      unfolding headBy
       head-no-count k p g₂ = simp (sym e ∙ q, got step m g, got step n g₂)
 
       pub head-whole : (c z : ℕ) → r₂ ≡ Is c z → ok (record { processors = v; count = c }) z ≡ head s 0
-      unfolding head
+      unfolding headBy
       head-whole c z g₂ = simp (sym e ∙ q, got step m g, got step n g₂)
 
 -- what is known where it is accepted
@@ -40,7 +40,7 @@ pub record Headed (s : List ℕ) (h : Head) (n : ℕ) : Type 0 where
   pub count : upTo mostRows 5 5 s from ≡ ok (h .count) n
 
 pub headed : (s : List ℕ) (h : Head) (n : ℕ) → head s 0 ≡ ok h n → Headed s h n
-unfolding head
+unfolding headBy
 headed s h n e =
     after-ok (marked markBytes s 0) _ e λ u z m₁ m₂.
     let (is, ez) = marked-ok markBytes s 0 u z m₁ in

@@ -11,7 +11,7 @@ use Rattle.basis.specs.Readers.{Step, ok, refuse, enough}
 use Rattle.basis.proofs.Steps.{after-ok, ok-same, enough-ok}
 use Rattle.numbers.specs.Numbers.{upTo}
 use Rattle.numbers.proofs.Bounds.{bounded}
-use Rattle.reader.specs.Form.{Entry, Held, label, entry, entries, sheet}
+use Rattle.reader.specs.Form.{Entry, Held, labelBy, label, entryBy, entry, entriesBy, entries, sheet}
 use Rattle.reader.specs.Answers.{handed, reading}
 use Rattle.reader.proofs.Found.{whole}
 use Rattle.reader.proofs.Heads.{headed}
@@ -19,7 +19,7 @@ use Rattle.reader.proofs.Plain.{plain-ok}
 
 -- a label: its length, and a byte at least
 label-bytes : (s : List ℕ) (at : ℕ) (bs : List ℕ) (n : ℕ) → label s at ≡ ok bs n → at + 2 ≤ n
-unfolding label
+unfolding labelBy
 label-bytes s at bs n e =
     after-ok (upTo longestLabel 6 6 s at) _ e λ k st e₁ e₂.
     after-ok (enough k s st) _ e₂ λ u m e₃ e₄.
@@ -27,7 +27,7 @@ label-bytes s at bs n e =
 
 -- a row: a label, and four numbers
 entry-bytes : (m : ℕ) (s : List ℕ) (at : ℕ) (x : Entry) (n : ℕ) → entry m s at ≡ ok x n → (at + 6 ≤ n) × (n ≤ length s)
-unfolding entry
+unfolding entryBy
 entry-bytes m s at x n e =
     after-ok (label s at) _ e λ l a e₁ e₂.
     after-ok (upTo m 7 8 s a) _ e₂ λ t b e₃ e₄.
@@ -40,7 +40,7 @@ entry-bytes m s at x n e =
     )
 
 entries-bytes : (m k : ℕ) (s : List ℕ) (at : ℕ) (es : List Entry) (n : ℕ) → entries m k s at ≡ ok es n → at ≤ length s → (at + k * 6 ≤ n) × (n ≤ length s)
-unfolding entries
+unfolding entriesBy
 entries-bytes m zero s at es n e h = (omega (arith, ok-same e .1), omega (arith, ok-same e .1))
 entries-bytes m (suc k) s at es n e h =
     after-ok (entry m s at) _ e λ x q e₁ e₂.

@@ -16,7 +16,7 @@ use Rattle.basis.proofs.Words.{lt-or-le}
 use Rattle.numbers.specs.Numbers.{upTo, spelt, width}
 use Rattle.numbers.proofs.Bounds.{bounded}
 use Rattle.numbers.proofs.Reach.{tame-up-to, width-grows}
-use Rattle.reader.specs.Form.{Held, markBytes, isPlain, plain, label, entry, entries, body, head, sheet}
+use Rattle.reader.specs.Form.{Held, markBytes, isPlain, plain, labelBy, label, entryBy, entry, entriesBy, entries, bodyBy, body, headBy, head, sheetBy, sheet}
 use Rattle.reader.specs.Longest.{longestRow, longestSheet}
 use Rattle.reader.specs.Answers.{handed, reading}
 use Rattle.reader.proofs.Found.{whole-length}
@@ -49,7 +49,7 @@ tame-plain (suc k) =
     (omega arith) (omega arith))
 
 tame-label : Tame label (width longestLabel + longestLabel) (width longestLabel + longestLabel)
-unfolding label
+unfolding labelBy
 tame-label =
     tame-number longestLabel longestLabel 6 6 _ (omega arith) (omega arith) (omega arith) (omega arith) (omega arith)
     (λ k few. tame-more longestLabel longestLabel (omega arith) (omega arith) (tame-then (enough k) (λ u. plain k) (tame-enough k) (λ s at u n l e. tame-plain k) (omega arith)))
@@ -57,7 +57,7 @@ tame-label =
 
 -- threads, separation, deadline, budget
 tame-entry : (m : ℕ) → m ≤ mostProcessors → Tame (entry m) longestRow longestRow
-unfolding entry longestRow
+unfolding entryBy longestRow
 tame-entry m few =
     tame-then label _ tame-label
     (λ s at l n k e.
@@ -74,7 +74,7 @@ tame-entry m few =
     (omega arith)
 
 tame-entries : (m n : ℕ) → m ≤ mostProcessors → Tame (entries m n) (n * longestRow) (n * longestRow)
-unfolding entries
+unfolding entriesBy
 tame-entries m zero few = tame-more (0 * longestRow) (0 * longestRow) (omega arith) (omega arith) (tame-give [])
 tame-entries m (suc n) few =
     tame-more (suc n * longestRow) (suc n * longestRow) (omega arith) (omega arith)
@@ -87,7 +87,7 @@ unfolding longestRow width spelt
 groups-rows = omega arith
 
 tame-head : Tame head (length markBytes + (width mostProcessors + (width mostRows + mostGroups))) (length markBytes + (width mostProcessors + (width mostRows + 0)))
-unfolding head
+unfolding headBy
 tame-head =
     tame-then (marked markBytes) _ (tame-marked markBytes)
     (λ s at u n l e.
@@ -99,7 +99,7 @@ tame-head =
     (omega arith)
 
 tame-body : (m n : ℕ) → m ≤ mostProcessors → n ≤ mostRows → Tame (body m n) (mostRows * longestRow + 1) (mostRows * longestRow)
-unfolding body
+unfolding bodyBy
 tame-body m n few h =
     let most : n * longestRow ≤ mostRows * longestRow = mul-le-mul-right longestRow h in
     tame-more (mostRows * longestRow + 1) (mostRows * longestRow) (omega arith) (omega arith)
@@ -109,7 +109,7 @@ tame-body m n few h =
 
 -- a whole sheet looks at one byte more than the longest has
 pub tame-sheet : Tame sheet (longestSheet + 1) longestSheet
-unfolding sheet head longestSheet
+unfolding sheetBy headBy longestSheet
 tame-sheet =
     tame-more (longestSheet + 1) longestSheet (omega arith) (omega arith)
     (tame-then head _ tame-head

@@ -16,7 +16,7 @@ use Rattle.numbers.specs.Numbers.{step, upTo}
 use Rattle.numbers.specs.declared.number.Number.{Number}
 use Rattle.numbers.specs.declared.number.Number.the-variants.{Is, Refused}
 use Rattle.numbers.proofs.Bounds.{bounded}
-use Rattle.reader.specs.Form.{plain, label}
+use Rattle.reader.specs.Form.{plain, labelBy, label}
 use Rattle.reader.specs.Answers.{partAfter}
 use Rattle.reader.specs.Steps.{passedStep, nothing}
 use Rattle.reader.specs.declared.row.Passed.{Passed}
@@ -25,7 +25,7 @@ use Rattle.reader.proofs.Plain.{plain-ok}
 
 module _ (s : List ℕ) (at : ℕ) (x : Number) (e : step x ≡ upTo longestLabel 6 6 s at) where
   pub label-no-length : (k p : ℕ) → x ≡ Refused k p → refuse k p ≡ told length (label s at)
-  unfolding label told
+  unfolding labelBy told
   label-no-length k p g = simp (got step e g)
 
   module _ (k st : ℕ) (g : x ≡ Is k st) where
@@ -38,7 +38,7 @@ module _ (s : List ℕ) (at : ℕ) (x : Number) (e : step x ≡ upTo longestLabe
     label-lies-at = ap partAfter (sym (got step e g))
 
     pub label-too-long : length s < st + k → refuse 2 (length s) ≡ told length (label s at)
-    unfolding label told
+    unfolding labelBy told
     label-too-long l = simp (got step e g, lt-leb (st + k) (length s) l)
 
     module _ (l : st + k ≤ length s) (y : Passed) (f : passedStep y ≡ told nothing (plain (st + k - st) s st)) where
@@ -46,11 +46,11 @@ module _ (s : List ℕ) (at : ℕ) (x : Number) (e : step x ≡ upTo longestLabe
       bytes-of = simp add-sub-cancel-left at f
 
       pub label-bad-byte : (j p : ℕ) → y ≡ passed-variants.Refused j p → refuse j p ≡ told length (label s at)
-      unfolding label told
+      unfolding labelBy told
       label-bad-byte j p h = simp (got step e g, le-leb (st + k) (length s) l, told-no nothing (plain k s st) (got passedStep bytes-of h))
 
       pub label-whole : (n : ℕ) → y ≡ passed-variants.To n → ok k n ≡ told length (label s at)
-      unfolding label told
+      unfolding labelBy told
       label-whole n h =
           let (bs, eb, _) = told-ok nothing (plain k s st) (got passedStep bytes-of h) in
           simp (got step e g, le-leb (st + k) (length s) l, eb, plain-ok k s st bs n eb .long)

@@ -16,7 +16,7 @@ use Rattle.numbers.specs.Numbers.{upTo}
 use Rattle.sheet.specs.Lists.{listCell, sheetLong}
 use Rattle.sheet.specs.declared.row.Row.{Row}
 use Rattle.sheet.proofs.Stores.{head-stored, row-stored}
-use Rattle.reader.specs.Form.{Entry, rowOf, entry, entries}
+use Rattle.reader.specs.Form.{Entry, rowOf, entry, entriesBy, entries}
 use Rattle.reader.specs.Answers.{partAfter}
 use Rattle.reader.specs.Lists.{labelsLong}
 use Rattle.reader.specs.Steps.{entryStep, EntryAt, nothing, rowFrom, rowGot, rowAfter, labelFrom, labelAfter, putRow, putPart, rowsIn, partsIn}
@@ -26,7 +26,7 @@ use Rattle.reader.specs.declared.row.EntryRead.the-variants as entry-var
 
 -- what follows the first i rows is read as if it began there
 split : (m i k : ℕ) (s : List ℕ) (at : ℕ) (es : List Entry) (next : ℕ) → entries m i s at ≡ ok es next → told nothing (entries m (i + k) s at) ≡ told nothing (entries m k s next)
-unfolding entries
+unfolding entriesBy
 split m zero k s at es next e =
     let z : 0 + k ≡ k = omega arith in
     ap (λ (j : ℕ). told nothing (entries m j s at)) z ∙ ap (λ (j : ℕ). told nothing (entries m k s j)) (ok-same e .1)
@@ -40,7 +40,7 @@ split m (suc i) k s at es next e =
 
 -- before the first row
 pub none-passed : (m : ℕ) (s : List ℕ) (at : ℕ) → told nothing (entries m 0 s at) ≡ ok tt at
-unfolding entries told
+unfolding entriesBy told
 none-passed m s at = refl
 
 -- a list after its first two numbers were stored
@@ -70,13 +70,13 @@ module _ (m n : ℕ) (s : List ℕ) (at i next : ℕ) (so-far : told nothing (en
   module _ (x : EntryRead) (q : entryStep x ≡ told rowOf (entry m s next)) where
     -- a row is refused
     pub row-refused : i < n → (k p : ℕ) → x ≡ entry-variants.Refused k p → refuse k p ≡ told nothing (entries m n s at)
-    unfolding entries told
+    unfolding entriesBy told
     row-refused h k p g = sym (left (suc (n - (i + 1))) n (omega arith) ∙ simp (told-no rowOf (entry m s next) (got entryStep q g)))
 
     module _ (r : Row) (p : Part) (e : ℕ) (g : x ≡ entry-variants.Is r p e) where
       -- a row more is passed
       pub one-passed : told nothing (entries m (i + 1) s at) ≡ ok tt e
-      unfolding entries told
+      unfolding entriesBy told
       one-passed = left 1 (i + 1) refl ∙ simp (told-ok rowOf (entry m s next) (got entryStep q g) .1)
 
       -- and stands in the list

@@ -11,10 +11,10 @@ use Rattle.basis.specs.Readers.{begins}
 use Rattle.basis.specs.Upto.{upto, pairCell}
 use Rattle.basis.specs.Faults.{NoAnswer, NoneMeets}
 use Rattle.basis.proofs.Faults.{told-apart, values-apart}
-use Rattle.numbers.specs.Numbers.{groups, upTo}
+use Rattle.numbers.specs.Numbers.{groups, upToBy}
 use Rattle.sheet.specs.Lists.{rowCell, listCell}
 use Rattle.sheet.specs.declared.row.Sheet.{Sheet}
-use Rattle.reader.specs.Form.{plain, label, entry, entries, body, head, sheet, labelHead}
+use Rattle.reader.specs.Form.{plain, labelBy, entryBy, entriesBy, bodyBy, headBy, sheetBy, labelHead}
 use Rattle.reader.specs.Answers.{answer, reading, nowhere, labelIn, labelsIn, shown, part}
 use Rattle.reader.specs.Lists.{intoLists, readInto}
 use Rattle.reader.specs.Cases.{twoPumps}
@@ -42,47 +42,47 @@ count-of (o, h) = h .count
 
 -- another kind of file: 47 53 43 01 would be cut off after its mark
 pub another-kind-is-shut-out : NoAnswer answer (readBy anotherKind otherMark) (reading otherMark)
-unfolding anotherKind formBy rowsBy entry label plain upTo groups begins entries body head sheet number-of by
+unfolding anotherKind formBy rowsBy entryBy labelBy plain upToBy groups begins entriesBy bodyBy headBy sheetBy number-of by
 another-kind-is-shut-out = told-apart answer _ _ number-of refl
 
 -- bytes after the last row: two pumps and a byte would be a sheet
 pub bytes-after-is-shut-out : NoAnswer answer (readBy bytesAfter pumpsAndMore) (reading pumpsAndMore)
-unfolding bytesAfter formBy rowsBy entry label plain upTo groups begins entries body head sheet number-of by
+unfolding bytesAfter formBy rowsBy entryBy labelBy plain upToBy groups begins entriesBy bodyBy headBy sheetBy number-of by
 bytes-after-is-shut-out = told-apart answer _ _ number-of refl
 
 -- a deadline over the separation
 pub long-deadline-is-shut-out : NoAnswer answer (readBy longDeadline lateRow) (reading lateRow)
-unfolding longDeadline formBy rowsBy rowBy entry label plain upTo groups begins entries body head sheet number-of by
+unfolding longDeadline formBy rowsBy rowBy entryBy labelBy plain upToBy groups begins entriesBy bodyBy headBy sheetBy number-of by
 long-deadline-is-shut-out = told-apart answer _ _ number-of refl
 
 -- a blank budget read as 0
 pub blank-read-is-shut-out : NoAnswer answer (readBy blankRead blankRow) (reading blankRow)
-unfolding blankRead formBy rowsBy rowBy entry label plain upTo groups begins entries body head sheet number-of by
+unfolding blankRead formBy rowsBy rowBy entryBy labelBy plain upToBy groups begins entriesBy bodyBy headBy sheetBy number-of by
 blank-read-is-shut-out = told-apart answer _ _ number-of refl
 
 -- a blank budget refused by 8
 pub seven-and-eight-is-shut-out : NoAnswer answer (readBy sevenAndEight blankRow) (reading blankRow)
-unfolding sevenAndEight formBy rowsBy rowBy entry label plain upTo groups begins entries body head sheet number-of by
+unfolding sevenAndEight formBy rowsBy rowBy entryBy labelBy plain upToBy groups begins entriesBy bodyBy headBy sheetBy number-of by
 seven-and-eight-is-shut-out = told-apart answer _ _ number-of refl
 
 -- a label byte of 7F
 pub label-byte-is-shut-out : NoAnswer answer (readBy labelByte oddLabel) (reading oddLabel)
-unfolding labelByte formBy rowsBy rowBy anyLabel anyBytes entry label plain upTo groups begins entries body head sheet number-of by
+unfolding labelByte formBy rowsBy rowBy anyLabel anyBytes entryBy labelBy plain upToBy groups begins entriesBy bodyBy headBy sheetBy number-of by
 label-byte-is-shut-out = told-apart answer _ _ number-of refl
 
 -- a label that is cut off, refused at 7 and not at 8
 pub cut-at-start-is-shut-out : NoAnswer answer (readBy cutAtStart shortLabel) (reading shortLabel)
-unfolding cutAtStart formBy rowsBy rowBy cutLabel enoughFrom entry label plain upTo groups begins entries body head sheet place-of place
+unfolding cutAtStart formBy rowsBy rowBy cutLabel enoughFrom entryBy labelBy plain upToBy groups begins entriesBy bodyBy headBy sheetBy place-of place
 cut-at-start-is-shut-out = told-apart answer _ _ place-of refl
 
 -- every sheet accepted: a blank budget is not
 pub all-accepted-is-shut-out : NoAnswer answer (allAccepted (reading blankRow)) (reading blankRow)
-unfolding allAccepted entry label plain upTo groups begins entries body head sheet number-of by
+unfolding allAccepted entryBy labelBy plain upToBy groups begins entriesBy bodyBy headBy sheetBy number-of by
 all-accepted-is-shut-out = told-apart answer _ _ number-of refl
 
 -- a sheet of zeros for what was read: two pumps are two rows
 pub nothing-read-is-shut-out : NoAnswer answer (nothingRead (reading twoPumps)) (reading twoPumps)
-unfolding nothingRead entry label plain upTo groups begins entries body head sheet count-of
+unfolding nothingRead entryBy labelBy plain upToBy groups begins entriesBy bodyBy headBy sheetBy count-of
 nothing-read-is-shut-out = told-apart answer _ _ count-of refl
 
 -- `read_into`: the same, and the number at a place of the first list and of the second
@@ -97,17 +97,17 @@ in-labels i (o, (list, labels)) = getD labels i 0
 
 -- bytes after the last row, read into lists
 pub bytes-after-into-is-shut-out : NoAnswer intoAnswer (intoLists (readBy bytesAfter pumpsAndMore) pumpsAndMore roomForTwo labelsForTwo) (readInto pumpsAndMore roomForTwo labelsForTwo)
-unfolding bytesAfter formBy rowsBy intoLists readInto entry label plain upTo groups begins entries body head sheet into-by by
+unfolding bytesAfter formBy rowsBy intoLists readInto entryBy labelBy plain upToBy groups begins entriesBy bodyBy headBy sheetBy into-by by
 bytes-after-into-is-shut-out = told-apart intoAnswer _ _ into-by refl
 
 -- lists left as they were: two pumps are on four processors
 pub lists-as-they-were-is-shut-out : NoAnswer intoAnswer (listsAsTheyWere twoPumps roomForTwo labelsForTwo) (readInto twoPumps roomForTwo labelsForTwo)
-unfolding listsAsTheyWere intoLists readInto upto listCell rowCell entry label plain upTo groups begins entries body head sheet in-list
+unfolding listsAsTheyWere intoLists readInto upto listCell rowCell entryBy labelBy plain upToBy groups begins entriesBy bodyBy headBy sheetBy in-list
 lists-as-they-were-is-shut-out = told-apart intoAnswer _ _ (in-list 0) refl
 
 -- the sheet's numbers for the labels: the first of two pumps starts at 7
 pub numbers-for-labels-is-shut-out : NoAnswer intoAnswer (numbersForLabels twoPumps roomForTwo labelsForTwo) (readInto twoPumps roomForTwo labelsForTwo)
-unfolding numbersForLabels intoLists readInto upto pairCell listCell rowCell labelIn labelHead entry label plain upTo groups begins entries body head sheet in-labels
+unfolding numbersForLabels intoLists readInto upto pairCell listCell rowCell labelIn labelHead entryBy labelBy plain upToBy groups begins entriesBy bodyBy headBy sheetBy in-labels
 numbers-for-labels-is-shut-out = told-apart intoAnswer _ _ (in-labels 0) refl
 
 -- `label_part`: where a part starts, and how long it is
@@ -119,31 +119,31 @@ long-of p = p .long
 
 -- the first label for every row: the second of two pumps starts at 16
 pub first-label-is-shut-out : NoneMeets (firstLabel twoPumps 1) (labelIn twoPumps 1)
-unfolding firstLabel labelIn labelHead entry label plain upTo groups begins entries body head sheet start-of
+unfolding firstLabel labelIn labelHead entryBy labelBy plain upToBy groups begins entriesBy bodyBy headBy sheetBy start-of
 first-label-is-shut-out = values-apart _ _ start-of refl
 
 -- the start for the length: a pump is 4 bytes long
 pub start-for-length-is-shut-out : NoneMeets (startForLength twoPumps 0) (labelIn twoPumps 0)
-unfolding startForLength labelIn labelHead entry label plain upTo groups begins entries body head sheet long-of
+unfolding startForLength labelIn labelHead entryBy labelBy plain upToBy groups begins entriesBy bodyBy headBy sheetBy long-of
 start-for-length-is-shut-out = values-apart _ _ long-of refl
 
 -- a row that there is not shows no label, and not that of a row that there is
 pub label-past-rows-is-shut-out : NoneMeets (firstLabel twoPumps 2) (labelIn twoPumps 2)
-unfolding firstLabel labelIn labelHead entry label plain upTo groups begins entries body head sheet long-of
+unfolding firstLabel labelIn labelHead entryBy labelBy plain upToBy groups begins entriesBy bodyBy headBy sheetBy long-of
 label-past-rows-is-shut-out = values-apart _ _ long-of refl
 
 -- `label`, of any lent bytes that are two pumps: the two labels are the same bytes, so the place tells them apart
 module _ (s : RefT (List ℕ)) (e : s .now ≡ twoPumps) where
   first-starts : labelIn (s .now) 0 .start ≡ 7
-  unfolding labelIn labelHead entry label plain upTo groups begins entries body head sheet
+  unfolding labelIn labelHead entryBy labelBy plain upToBy groups begins entriesBy bodyBy headBy sheetBy
   first-starts = ap (λ (l : List ℕ). labelIn l 0 .start) e
 
   first-is-long : labelIn (s .now) 0 .long ≡ 4
-  unfolding labelIn labelHead entry label plain upTo groups begins entries body head sheet
+  unfolding labelIn labelHead entryBy labelBy plain upToBy groups begins entriesBy bodyBy headBy sheetBy
   first-is-long = ap (λ (l : List ℕ). labelIn l 0 .long) e
 
   second-starts : labelIn (s .now) 1 .start ≡ 16
-  unfolding labelIn labelHead entry label plain upTo groups begins entries body head sheet
+  unfolding labelIn labelHead entryBy labelBy plain upToBy groups begins entriesBy bodyBy headBy sheetBy
   second-starts = ap (λ (l : List ℕ). labelIn l 1 .start) e
 
   pub first-label-shown-is-shut-out : NoAnswer shown (part s (firstLabel (s .now) 1)) (part s (labelIn (s .now) 1))
@@ -168,9 +168,9 @@ second-start : List Part → ℕ
 second-start l = getD l 1 nowhere .start
 
 pub first-for-all-is-shut-out : NoAnswer (λ (p : Parts). p .parts) (firstForAll twoPumps) (labelsIn twoPumps)
-unfolding firstForAll labelsIn upto labelIn labelHead entry label plain upTo groups begins entries body head sheet second-start
+unfolding firstForAll labelsIn upto labelIn labelHead entryBy labelBy plain upToBy groups begins entriesBy bodyBy headBy sheetBy second-start
 first-for-all-is-shut-out = told-apart (λ (p : Parts). p .parts) _ _ second-start refl
 
 pub no-labels-is-shut-out : NoAnswer (λ (p : Parts). p .parts) (noLabels twoPumps) (labelsIn twoPumps)
-unfolding noLabels labelsIn upto labelIn labelHead entry label plain upTo groups begins entries body head sheet second-start
+unfolding noLabels labelsIn upto labelIn labelHead entryBy labelBy plain upToBy groups begins entriesBy bodyBy headBy sheetBy second-start
 no-labels-is-shut-out = told-apart (λ (p : Parts). p .parts) _ _ second-start refl

@@ -2,10 +2,10 @@
 use Prim.Native.Nat.{ℕ, zero, suc}
 use mathlib.Core.List.{List, [], _∷_}
 use mathlib.Core.Bool.{Bool}
-use Rattle.basis.specs.Limits.{mostProcessors, mostRows, longestLabel, mostSeparation}
+use Rattle.basis.specs.Limits.{Limits, limits, longestLabel}
 use Rattle.basis.specs.Words.{pick, within}
 use Rattle.basis.specs.Readers.{Step, ok, refuse, Reader, _>>=_, _>>_, give, refuse-at, here, byte, enough, end, marked}
-use Rattle.numbers.specs.Numbers.{upTo}
+use Rattle.numbers.specs.Numbers.{upToBy, upTo}
 use Rattle.sheet.specs.declared.row.Row.{Row}
 
 -- A row with its label.
@@ -42,56 +42,77 @@ plain (suc k) = do
         give (b ∷ bs))
       (refuse-at 6 place)
 
--- A label: its length, enough bytes, each byte.
-unfoldable pub label : Reader (List ℕ)
-label = do
-  k ← upTo longestLabel 6 6
-  enough k
-  plain k
-
--- A row on m processors: label, threads, separation, deadline, budget.
-unfoldable pub entry : ℕ → Reader Entry
-entry m = do
-  l ← label
-  t ← upTo m 7 8
-  T ← upTo mostSeparation 7 8
-  D ← upTo T 7 8
-  C ← upTo D 7 8
-  give (record { label = l; row = record { threads = t; separation = T; deadline = D; budget = C } })
-
--- n rows.
-unfoldable pub entries : ℕ → ℕ → Reader (List Entry)
-entries m zero = give []
-entries m (suc n) = do
-  e ← entry m
-  es ← entries m n
-  give (e ∷ es)
-
--- n rows, and nothing after them.
-unfoldable pub body : ℕ → ℕ → Reader Held
-body m n = do
-  es ← entries m n
-  end
-  give (record { processors = m; entries = es })
-
 -- What stands before the rows.
 pub record Head : Type 0 where
   pub processors : ℕ
   pub count : ℕ
 
--- The mark, processors m, rows n.
-unfoldable pub head : Reader Head
-head = do
-  marked markBytes
-  m ← upTo mostProcessors 4 4
-  n ← upTo mostRows 5 5
-  give (record { processors = m; count = n })
+-- The form by any limits.
+module _ (lim : Limits) where
+  -- A label: its length, enough bytes, each byte.
+  unfoldable pub labelBy : Reader (List ℕ)
+  labelBy = do
+    k ← upToBy (lim .groups) (lim .label) 6 6
+    enough k
+    plain k
 
--- A whole sheet.
-unfoldable pub sheet : Reader Held
-sheet = do
-  h ← head
-  body (h .processors) (h .count)
+  -- A row on m processors: label, threads, separation, deadline, budget.
+  unfoldable pub entryBy : ℕ → Reader Entry
+  entryBy m = do
+    l ← labelBy
+    t ← upToBy (lim .groups) m 7 8
+    T ← upToBy (lim .groups) (lim .separation) 7 8
+    D ← upToBy (lim .groups) T 7 8
+    C ← upToBy (lim .groups) D 7 8
+    give (record { label = l; row = record { threads = t; separation = T; deadline = D; budget = C } })
+
+  -- n rows.
+  unfoldable pub entriesBy : ℕ → ℕ → Reader (List Entry)
+  entriesBy m zero = give []
+  entriesBy m (suc n) = do
+    e ← entryBy m
+    es ← entriesBy m n
+    give (e ∷ es)
+
+  -- n rows, and nothing after them.
+  unfoldable pub bodyBy : ℕ → ℕ → Reader Held
+  bodyBy m n = do
+    es ← entriesBy m n
+    end
+    give (record { processors = m; entries = es })
+
+  -- The mark, processors m, rows n.
+  unfoldable pub headBy : Reader Head
+  headBy = do
+    marked markBytes
+    m ← upToBy (lim .groups) (lim .processors) 4 4
+    n ← upToBy (lim .groups) (lim .rows) 5 5
+    give (record { processors = m; count = n })
+
+  -- A whole sheet.
+  unfoldable pub sheetBy : Reader Held
+  sheetBy = do
+    h ← headBy
+    bodyBy (h .processors) (h .count)
+
+-- The form by the limits of the project.
+abbrev pub label : Reader (List ℕ)
+label = labelBy limits
+
+abbrev pub entry : ℕ → Reader Entry
+entry = entryBy limits
+
+abbrev pub entries : ℕ → ℕ → Reader (List Entry)
+entries = entriesBy limits
+
+abbrev pub body : ℕ → ℕ → Reader Held
+body = bodyBy limits
+
+abbrev pub head : Reader Head
+head = headBy limits
+
+abbrev pub sheet : Reader Held
+sheet = sheetBy limits
 
 -- The length of row i's label, before its first byte: what stands after the rows above it.
 unfoldable pub labelHead : ℕ → Reader ℕ

@@ -5,11 +5,8 @@ use Rattle.page.proofs.Saying.{four-said}
 use Rattle.dashboard.proofs.line.put_head.Statement.{statement}
 use Rattle.dashboard.proofs.line.put_head.Tie as tie
 
-returns : tie.Need-returns
-unfolding head
-returns c = search four-said
-
 pub put-head-spec : {M : Type 1} → statement M
+unfolding head
 put-head-spec =
     tie.close
     (tie.spec
@@ -18,4 +15,4 @@ put-head-spec =
     (λ c κs. search needs)
     (λ c κs. search needs)
     (λ c. search needs)
-    returns)
+    (λ c. search four-said))

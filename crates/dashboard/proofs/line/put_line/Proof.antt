@@ -5,10 +5,13 @@ use Rattle.page.proofs.Saying.{three-said}
 use Rattle.dashboard.proofs.line.put_line.Statement.{statement}
 use Rattle.dashboard.proofs.line.put_line.Tie as tie
 
-returns : tie.Need-returns
-unfolding line
-returns c = search three-said
-
 pub put-line-spec : {M : Type 1} → statement M
+unfolding line
 put-line-spec =
-    tie.close (tie.spec (λ c κs. search needs) (λ c κs. search needs) (λ c κs. search needs) (λ c. search needs) returns)
+    tie.close
+    (tie.spec
+    (λ c κs. search needs)
+    (λ c κs. search needs)
+    (λ c κs. search needs)
+    (λ c. search needs)
+    (λ c. search three-said))

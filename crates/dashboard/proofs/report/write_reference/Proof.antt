@@ -15,26 +15,16 @@ Inv-loop text₀ next₀ i₀ text next i = (i ≤ fixedCount) × (length text �
 abbrev μ-loop : tie.MeasureT-loop
 μ-loop text₀ next₀ i₀ text next i = fixedCount - i
 
-loop-holds : tie.Need-loop-holds Inv-loop μ-loop
-loop-holds c = (search needs, search needs, search no-sections)
-
-put-section-requires : tie.Need-put-section-requires Inv-loop μ-loop
-put-section-requires c κs = search needs
-
-add-i : tie.Need-add-i Inv-loop μ-loop
-add-i c = search needs
-
-loop-less : tie.Need-loop-less Inv-loop μ-loop
-loop-less c = search needs
-
-loop-again : tie.Need-loop-again Inv-loop μ-loop
-loop-again c = (search needs, search needs, search one-section)
-
-same-length : tie.Need-same-length Inv-loop μ-loop
-same-length c = search needs
-
-returns : tie.Need-returns Inv-loop μ-loop
-returns c = search reference-written
-
 pub write-reference-spec : {M : Type 1} → statement M
-write-reference-spec = tie.close (tie.spec Inv-loop μ-loop loop-holds put-section-requires add-i loop-less loop-again same-length returns)
+write-reference-spec =
+    tie.close
+    (tie.spec
+    Inv-loop
+    μ-loop
+    (λ c. (search needs, search needs, search no-sections))
+    (λ c κs. search needs)
+    (λ c. search needs)
+    (λ c. search needs)
+    (λ c. (search needs, search needs, search one-section))
+    (λ c. search needs)
+    (λ c. search reference-written))

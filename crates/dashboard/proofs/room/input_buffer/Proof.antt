@@ -6,9 +6,9 @@ use Rattle.dashboard.specs.Longest.{inputSize}
 use Rattle.dashboard.proofs.room.input_buffer.Statement.{statement}
 use Rattle.dashboard.proofs.room.input_buffer.Tie as tie
 
-returns : tie.Need-returns
-unfolding inputSize longestSheet longestRow width spelt
-returns c = refl
-
 pub input-buffer-spec : {M : Type 1} → statement M
-input-buffer-spec = tie.close (tie.spec returns)
+unfolding inputSize longestSheet longestRow width spelt
+input-buffer-spec =
+    tie.close
+    (tie.spec
+    (λ c. refl))

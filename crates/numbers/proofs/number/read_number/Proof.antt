@@ -25,9 +25,6 @@ returns c =
     let l = c .before .before .loop in
     sym (l .inv .0 ∙ ap (scaled (l .value) (l .weight)) (ends _ _ _ _ _ (c .before .loop-test .taken) (c .if1 .taken)))
 
-shared-slice-read-b : tie.Need-shared-slice-read-b Inv-loop μ-loop
-shared-slice-read-b c = search needs
-
 cast-b : tie.Need-cast-b Inv-loop μ-loop
 cast-b c = omega (arith, c .shared-slice-known .given (c .before .before .before .loop .i))
 
@@ -45,9 +42,6 @@ add-t16 : tie.Need-add-t16 Inv-loop μ-loop
 add-t16 c =
     let l = c .before .before .before .before .before .loop in
     omega (arith, digit-room _ _ _ (l .inv .1) (c .before .if2 .taken), room-one (l .weight) (l .left) (search needs), l .inv .2)
-
-add-t17 : tie.Need-add-t17 Inv-loop μ-loop
-add-t17 c = search needs
 
 returns-3 : tie.Need-returns-3 Inv-loop μ-loop
 returns-3 c =
@@ -73,15 +67,6 @@ mul-weight c =
     let l = c .before .before .before .before .loop in
     omega (arith, room-one (l .weight) (l .left) (search needs), l .inv .2)
 
-add-i : tie.Need-add-i Inv-loop μ-loop
-add-i c = search needs
-
-sub-left : tie.Need-sub-left Inv-loop μ-loop
-sub-left c = search needs
-
-loop-less : tie.Need-loop-less Inv-loop μ-loop
-loop-less c = search needs
-
 loop-again : tie.Need-loop-again Inv-loop μ-loop
 loop-again c =
     let l = c .before .before .before .before .loop in (
@@ -103,18 +88,18 @@ read-number-spec =
     μ-loop
     loop-holds
     returns
-    shared-slice-read-b
+    (λ c. search needs)
     cast-b
     returns-2
     mul-t15
     add-t16
-    add-t17
+    (λ c. search needs)
     returns-3
     mul-value
     add-value
     mul-weight
-    add-i
-    sub-left
-    loop-less
+    (λ c. search needs)
+    (λ c. search needs)
+    (λ c. search needs)
     loop-again
     returns-4)

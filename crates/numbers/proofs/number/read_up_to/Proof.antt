@@ -1,37 +1,28 @@
 use borrow.Author.Needs.{needs}
 use mathlib.Core.Path.{sym, ap, _∙_}
 use borrow.Author.Tests.{eq-eqb, ne-eqb, le-leb, lt-leb}
-use Rattle.numbers.specs.Numbers.{step, upTo}
+use Rattle.numbers.specs.Numbers.{step, upToBy}
 use Rattle.numbers.proofs.number.read_up_to.Statement.{statement}
 use Rattle.numbers.proofs.number.read_up_to.Tie as tie
 
-read-number-requires : tie.Need-read-number-requires
-read-number-requires c κs = search needs
-
-enum-known-k : tie.Need-enum-known-k
-enum-known-k c = search needs
-
-enum-known-v : tie.Need-enum-known-v
-enum-known-v c = search needs
-
 returns : tie.Need-returns
-unfolding upTo
+unfolding upToBy
 returns c = simp (sym (c .before .before .before .read-number .ensures) ∙ ap step (c .before .k .given .1))
 
 returns-2 : tie.Need-returns-2
-unfolding upTo
+unfolding upToBy
 returns-2 c =
     let v = c .before .before in
     simp (sym (v .before .before .read-number .ensures) ∙ ap step (v .v .given .1), eq-eqb _ _ (c .if1 .taken))
 
 returns-3 : tie.Need-returns-3
-unfolding upTo
+unfolding upToBy
 returns-3 c =
     let v = c .before .before .before in
     simp (sym (v .before .before .read-number .ensures) ∙ ap step (v .v .given .1), ne-eqb _ _ (c .before .if1 .left), le-leb _ _ (c .if2 .taken))
 
 returns-4 : tie.Need-returns-4
-unfolding upTo
+unfolding upToBy
 returns-4 c =
     let v = c .before .before .before in
     simp (sym (v .before .before .read-number .ensures) ∙ ap step (v .v .given .1), ne-eqb _ _ (c .before .if1 .left), lt-leb _ _ (c .if2 .left))
@@ -39,4 +30,11 @@ returns-4 c =
 pub read-up-to-spec : {M : Type 1} → statement M
 read-up-to-spec =
     tie.close
-    (tie.spec read-number-requires enum-known-k enum-known-v returns returns-2 returns-3 returns-4)
+    (tie.spec
+    (λ c κs. search needs)
+    (λ c. search needs)
+    (λ c. search needs)
+    returns
+    returns-2
+    returns-3
+    returns-4)

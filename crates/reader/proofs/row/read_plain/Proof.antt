@@ -15,41 +15,17 @@ Inv-loop bytes at end i₀ i = (i ≤ end) × (told nothing (plain (end - at) by
 abbrev μ-loop : tie.MeasureT-loop
 μ-loop bytes at end i₀ i = end - i
 
-loop-holds : tie.Need-loop-holds Inv-loop μ-loop
-loop-holds c = (search needs, refl)
-
-shared-slice-read-b : tie.Need-shared-slice-read-b Inv-loop μ-loop
-shared-slice-read-b c = search needs
-
-returns : tie.Need-returns Inv-loop μ-loop
-returns c = search plain-low
-
-returns-2 : tie.Need-returns-2 Inv-loop μ-loop
-returns-2 c = search plain-high
-
-add-i : tie.Need-add-i Inv-loop μ-loop
-add-i c = search needs
-
-loop-less : tie.Need-loop-less Inv-loop μ-loop
-loop-less c = search needs
-
-loop-again : tie.Need-loop-again Inv-loop μ-loop
-loop-again c = (search needs, search plain-more)
-
-returns-3 : tie.Need-returns-3 Inv-loop μ-loop
-returns-3 c = search plain-all
-
 pub read-plain-spec : {M : Type 1} → statement M
 read-plain-spec =
     tie.close
     (tie.spec
     Inv-loop
     μ-loop
-    loop-holds
-    shared-slice-read-b
-    returns
-    returns-2
-    add-i
-    loop-less
-    loop-again
-    returns-3)
+    (λ c. (search needs, refl))
+    (λ c. search needs)
+    (λ c. search plain-low)
+    (λ c. search plain-high)
+    (λ c. search needs)
+    (λ c. search needs)
+    (λ c. (search needs, search plain-more))
+    (λ c. search plain-all))

@@ -4,11 +4,5 @@ use Rattle.sheet.proofs.Places.{count-handed}
 use Rattle.sheet.proofs.inside.count.Statement.{statement}
 use Rattle.sheet.proofs.inside.count.Tie as tie
 
-number-at-requires : tie.Need-number-at-requires
-number-at-requires c κs = search needs
-
-returns : tie.Need-returns
-returns c = search count-handed
-
 pub count-spec : {M : Type 1} → statement M
-count-spec = tie.close (tie.spec number-at-requires returns)
+count-spec = tie.close (tie.spec (λ c κs. search needs) (λ c. search count-handed))

@@ -16,42 +16,18 @@ Inv-loop list processors n i₀ i = (i ≤ n) × (n ≤ mostRows) × (sheetLong 
 abbrev μ-loop : tie.MeasureT-loop
 μ-loop list processors n i₀ i = n - i
 
-loop-holds : tie.Need-loop-holds Inv-loop μ-loop
-unfolding allOf
-loop-holds c = (search needs, search needs, search needs, refl)
-
-row-inside-requires : tie.Need-row-inside-requires Inv-loop μ-loop
-row-inside-requires c κs = (search needs, search needs)
-
-is-legal-row-requires : tie.Need-is-legal-row-requires Inv-loop μ-loop
-is-legal-row-requires c κs = search needs
-
-add-i : tie.Need-add-i Inv-loop μ-loop
-add-i c = search needs
-
-loop-less : tie.Need-loop-less Inv-loop μ-loop
-loop-less c = search needs
-
-loop-again : tie.Need-loop-again Inv-loop μ-loop
-loop-again c = (search needs, search needs, search needs, search rows-legal-more)
-
-returns : tie.Need-returns Inv-loop μ-loop
-returns c = search rows-legal-fails
-
-returns-2 : tie.Need-returns-2 Inv-loop μ-loop
-returns-2 c = search rows-legal-done
-
 pub rows-are-legal-spec : {M : Type 1} → statement M
+unfolding allOf
 rows-are-legal-spec =
     tie.close
     (tie.spec
     Inv-loop
     μ-loop
-    loop-holds
-    row-inside-requires
-    is-legal-row-requires
-    add-i
-    loop-less
-    loop-again
-    returns
-    returns-2)
+    (λ c. (search needs, search needs, search needs, refl))
+    (λ c κs. (search needs, search needs))
+    (λ c κs. search needs)
+    (λ c. search needs)
+    (λ c. search needs)
+    (λ c. (search needs, search needs, search needs, search rows-legal-more))
+    (λ c. search rows-legal-fails)
+    (λ c. search rows-legal-done))

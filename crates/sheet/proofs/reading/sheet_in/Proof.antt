@@ -16,50 +16,20 @@ Inv-loop list rows₀ i₀ rows i = (i ≤ mostRows) × (rows ≡ upto i (rowIn 
 abbrev μ-loop : tie.MeasureT-loop
 μ-loop list rows₀ i₀ rows i = mostRows - i
 
-loop-holds : tie.Need-loop-holds Inv-loop μ-loop
-unfolding upto
-loop-holds c = (search needs, refl)
-
-row-in-requires : tie.Need-row-in-requires Inv-loop μ-loop
-row-in-requires c κs = search needs
-
-mul-rows : tie.Need-mul-rows Inv-loop μ-loop
-mul-rows c = search needs
-
-array-set-from-rows : tie.Need-array-set-from-rows Inv-loop μ-loop
-array-set-from-rows c = search needs
-
-add-i : tie.Need-add-i Inv-loop μ-loop
-add-i c = search needs
-
-loop-less : tie.Need-loop-less Inv-loop μ-loop
-loop-less c = search needs
-
-loop-again : tie.Need-loop-again Inv-loop μ-loop
-loop-again c = (search needs, search rows-more)
-
-number-at-requires : tie.Need-number-at-requires Inv-loop μ-loop
-number-at-requires c κs = search needs
-
-number-at-requires-2 : tie.Need-number-at-requires-2 Inv-loop μ-loop
-number-at-requires-2 c κs = search needs
-
-returns : tie.Need-returns Inv-loop μ-loop
-returns c = search sheet-read
-
 pub sheet-in-spec : {M : Type 1} → statement M
+unfolding upto
 sheet-in-spec =
     tie.close
     (tie.spec
     Inv-loop
     μ-loop
-    loop-holds
-    row-in-requires
-    mul-rows
-    array-set-from-rows
-    add-i
-    loop-less
-    loop-again
-    number-at-requires
-    number-at-requires-2
-    returns)
+    (λ c. (search needs, refl))
+    (λ c κs. search needs)
+    (λ c. search needs)
+    (λ c. search needs)
+    (λ c. search needs)
+    (λ c. search needs)
+    (λ c. (search needs, search rows-more))
+    (λ c κs. search needs)
+    (λ c κs. search needs)
+    (λ c. search sheet-read))

@@ -15,26 +15,17 @@ Inv-loop list₀ from i₀ list i = (from ≤ i) × (length list ≡ length list
 abbrev μ-loop : tie.MeasureT-loop
 μ-loop list₀ from i₀ list i = length list₀ - i
 
-loop-holds : tie.Need-loop-holds Inv-loop μ-loop
-loop-holds c = (search needs, search needs, search clear-none)
-
-loop-again : tie.Need-loop-again Inv-loop μ-loop
-loop-again c = (search needs, search needs, search clear-more)
-
-returns : tie.Need-returns Inv-loop μ-loop
-returns c = search clear-done
-
 pub clear-from-spec : {M : Type 1} → statement M
 clear-from-spec =
     tie.close
     (tie.spec
     Inv-loop
     μ-loop
-    loop-holds
+    (λ c. (search needs, search needs, search clear-none))
     (λ c. search needs)
     (λ c. search needs)
     (λ c. search needs)
     (λ c. search needs)
-    loop-again
+    (λ c. (search needs, search needs, search clear-more))
     (λ c. search needs)
-    returns)
+    (λ c. search clear-done))
