@@ -18,9 +18,10 @@ use Rattle.states.specs.declared.start.Started.{Started}
 use Rattle.aboard.specs.declared.lent.Begun.{Begun}
 use Rattle.machine.specs.Checks.{checkRun}
 use Rattle.states.specs.Values.{held, started}
-use Rattle.machine.specs.Answers.{fresh, slot, entriesOf, behind, slotAt, Course, course, notBegun, run}
+use Rattle.machine.specs.Answers.{FreshAnswer, SlotAnswer, RunAnswer, slotAnswer, runAnswer, fresh, slot, entriesOf, slotAt, course, run}
 use Rattle.aboard.specs.Lent.{slottedIn, begun, beginning}
 use Rattle.machine.proofs.Answered.{run-list, run-buffer}
+use Rattle.machine.proofs.Done.{run-not-begun}
 use Rattle.machine.proofs.Courses.{room-for, goes-on, stops}
 
 -- n entries from a place on
@@ -29,36 +30,36 @@ part-of at n l = let e : at + n - at ≡ n = omega arith in ap (λ (k : ℕ). ta
 
 -- `begin`
 module _ (h : Sheet) (rel : List ℕ) (room : ℕ) (s : Started) (es : started s ≡ fresh h) (c : Refusal) (e : outcome c ≡ checkRun h (held (s .state)) rel room) where
-  checked : (o : Outcome) → outcome c ≡ o → checkRun h (fresh h .1) rel room ≡ o
-  checked o f = ap (λ (x : Outcome × states.State). checkRun h (x .1) rel room) (sym es) ∙ sym e ∙ f
+  checked : (o : Outcome) → outcome c ≡ o → checkRun h (fresh h .state) rel room ≡ o
+  checked o f = ap (λ (x : FreshAnswer states.State). checkRun h (x .state) rel room) (sym es) ∙ sym e ∙ f
 
   pub begin-refused : (a b : ℕ) → c ≡ Refused a b → ((refused a b, 0), held (s .state)) ≡ beginning h rel room
   unfolding beginning
-  begin-refused a b f = rw (checked (refused a b) (ap outcome f)) (ap (λ (x : Outcome × states.State). ((refused a b, 0), x .1)) es)
+  begin-refused a b f = rw (checked (refused a b) (ap outcome f)) (ap (λ (x : FreshAnswer states.State). ((refused a b, 0), x .state)) es)
 
   pub begin-accepted : c ≡ Accepted → ((accepted, length rel / h .count), held (s .state)) ≡ beginning h rel room
   unfolding beginning
-  begin-accepted f = rw (checked accepted (ap outcome f)) (ap (λ (x : Outcome × states.State). ((accepted, length rel / h .count), x .1)) es)
+  begin-accepted f = rw (checked accepted (ap outcome f)) (ap (λ (x : FreshAnswer states.State). ((accepted, length rel / h .count), x .state)) es)
 
 -- what the loop begins with: room for its slots, nothing refused where there is a slot to do, and that its course is the run
 pub record Begins (h : Sheet) (rel cs : List ℕ) (b : Begun) : Type 0 where
   pub in-list : b .slots * h .count ≤ length rel
   pub in-buffer : b .slots * h .count ≤ length cs
   pub going : 0 < b .slots → outcome (b .refusal) ≡ accepted
-  pub whole : course h rel (notBegun (outcome (b .refusal)) (held (b .state)) cs) (b .slots) ≡ run h (fresh h .1) rel cs
+  pub whole : course h rel (runAnswer 0 (outcome (b .refusal)) (held (b .state)) cs) (b .slots) ≡ run h (fresh h .state) rel cs
 
 pub begins : (h : Sheet) (rel cs : List ℕ) (b : Begun) → begun b ≡ beginning h rel (length cs) → Begins h rel cs b
 unfolding beginning run course
-begins h rel cs b e = go (checkRun h (fresh h .1) rel (length cs)) refl e
+begins h rel cs b e = go (checkRun h (fresh h .state) rel (length cs)) refl e
   where
-    go : (o : Outcome) → o ≡ checkRun h (fresh h .1) rel (length cs) → begun b ≡ (handed o (length rel / h .count) 0, fresh h .1) → Begins h rel cs b
+    go : (o : Outcome) → o ≡ checkRun h (fresh h .state) rel (length cs) → begun b ≡ (handed o (length rel / h .count) 0, fresh h .state) → Begins h rel cs b
     go accepted f g =
         let slots : length rel / h .count ≡ b .slots = sym (ap (λ x. x .0 .1) g) in
         record {
-          in-list = subst (λ (n : ℕ). n * h .count ≤ length rel) slots (run-list h (fresh h .1) rel (length cs) Accepted f refl (h .count));
-          in-buffer = subst (λ (n : ℕ). n * h .count ≤ length cs) slots (run-buffer h (fresh h .1) rel (length cs) Accepted f refl (h .count));
+          in-list = subst (λ (n : ℕ). n * h .count ≤ length rel) slots (run-list h (fresh h .state) rel (length cs) Accepted f refl (h .count));
+          in-buffer = subst (λ (n : ℕ). n * h .count ≤ length cs) slots (run-buffer h (fresh h .state) rel (length cs) Accepted f refl (h .count));
           going = λ _. ap (λ x. x .0 .0) g;
-          whole = rw (sym f) (λ i. course h rel (notBegun (g i .0 .0) (g i .1) cs) (g i .0 .1));
+          whole = rw (sym f) (λ i. course h rel (runAnswer 0 (g i .0 .0) (g i .1) cs) (g i .0 .1));
         }
     go (refused k p) f g =
         let none : b .slots ≡ 0 = ap (λ x. x .0 .1) g in
@@ -66,7 +67,7 @@ begins h rel cs b e = go (checkRun h (fresh h .1) rel (length cs)) refl e
           in-list = rw none (omega arith);
           in-buffer = rw none (omega arith);
           going = λ l. absurd (omega (arith, none));
-          whole = rw (sym f) (λ i. course h rel (notBegun (g i .0 .0) (g i .1) cs) (g i .0 .1));
+          whole = (λ i. course h rel (runAnswer 0 (g i .0 .0) (g i .1) cs) (g i .0 .1)) ∙ sym (run-not-begun h (fresh h .state) rel cs k p (sym f));
         }
 
 -- slot j of so many has its place in the list and in the buffer, and what the code computes of it fits a word
@@ -93,26 +94,26 @@ slot-at-is h t rel cs j list el y u zs e =
     let a = j * h .count in
     let rest : take (length cs - a) (drop a cs) ≡ drop a cs = take-all (length cs - a) (drop a cs) (omega (arith, length-drop a cs)) in
     let over : zs ++ drop (length cs - a) (drop a cs) ≡ zs = ap (λ (l : List ℕ). zs ++ l) (drop-of-length-le (drop a cs) {i = length cs - a} (omega (arith, length-drop a cs))) ∙ append-nil zs in
-    ap (λ (l : List ℕ). (outcome y, (held u, take a cs ++ l))) over ∙ ap (behind (take a cs)) (e ∙ ap₂ (slot h (held t)) el rest)
+    ap (λ (l : List ℕ). slotAnswer (outcome y) (held u) (take a cs ++ l)) over ∙ ap (λ (x : SlotAnswer states.State). slotAnswer (x .outcome) (x .state) (take a cs ++ x .codes)) (e ∙ ap₂ (slot h (held t)) el rest)
 
 -- the loop after j slots: nothing was refused where there is one more to do
-pub record Going (h : Sheet) (rel cs₀ : List ℕ) (first : Course) (slots j : ℕ) (x : Refusal) (t : State) (cs : List ℕ) : Type 0 where
+pub record Going (h : Sheet) (rel cs₀ : List ℕ) (first : RunAnswer states.State) (slots j : ℕ) (x : Refusal) (t : State) (cs : List ℕ) : Type 0 where
   pub within : j ≤ slots
   pub long : length cs ≡ length cs₀
-  pub so-far : course h rel first j ≡ record { done = j; outcome = outcome x; state = held t; codes = cs }
+  pub so-far : course h rel first j ≡ runAnswer j (outcome x) (held t) cs
   pub going : j < slots → outcome x ≡ accepted
 
-pub box-begins : (h : Sheet) (rel cs : List ℕ) (b : Begun) → Begins h rel cs b → Going h rel cs (notBegun (outcome (b .refusal)) (held (b .state)) cs) (b .slots) 0 (b .refusal) (b .state) cs
+pub box-begins : (h : Sheet) (rel cs : List ℕ) (b : Begun) → Begins h rel cs b → Going h rel cs (runAnswer 0 (outcome (b .refusal)) (held (b .state)) cs) (b .slots) 0 (b .refusal) (b .state) cs
 unfolding course
 box-begins h rel cs b g = record { within = omega arith; long = refl; so-far = refl; going = g .going }
 
-module _ (h : Sheet) (rel cs₀ : List ℕ) (first : Course) (slots j : ℕ) (x : Refusal) (t : State) (cs : List ℕ) (g : Going h rel cs₀ first slots j x t cs) where
-  pub box-ends : slots ≤ j → _≡_ {A = Course} (record { done = j; outcome = outcome x; state = held t; codes = cs }) (course h rel first slots)
+module _ (h : Sheet) (rel cs₀ : List ℕ) (first : RunAnswer states.State) (slots j : ℕ) (x : Refusal) (t : State) (cs : List ℕ) (g : Going h rel cs₀ first slots j x t cs) where
+  pub box-ends : slots ≤ j → runAnswer j (outcome x) (held t) cs ≡ course h rel first slots
   box-ends l = let e : j ≡ slots = omega (arith, g .within) in sym (g .so-far) ∙ ap (course h rel first) e
 
   module _ (l : j < slots) (y : Refusal) (u : State) (ds : List ℕ) (e : slottedIn y u ds ≡ slotAt h (held t) rel cs j) where
-    here : course h rel first j ≡ record { done = j; outcome = accepted; state = held t; codes = cs }
-    here = g .so-far ∙ ap (λ (o : Outcome). record { done = j; outcome = o; state = held t; codes = cs }) (g .going l)
+    here : course h rel first j ≡ runAnswer j accepted (held t) cs
+    here = g .so-far ∙ ap (λ (o : Outcome). runAnswer j o (held t) cs) (g .going l)
 
     pub box-goes-on : length ds ≡ length cs → isAccepted (outcome y) ≡ true → Going h rel cs₀ first slots (j + 1) y u ds
     box-goes-on m a = go y refl a
@@ -122,14 +123,14 @@ module _ (h : Sheet) (rel cs₀ : List ℕ) (first : Course) (slots j : ℕ) (x 
             record {
               within = omega arith;
               long = m ∙ g .long;
-              so-far = goes-on h rel first j (held t) cs here y (held u) ds e f ∙ ap (λ (o : Outcome). record { done = j + 1; outcome = o; state = held u; codes = ds }) (sym (ap outcome f));
+              so-far = goes-on h rel first j (held t) cs here y (held u) ds e f ∙ ap (λ (o : Outcome). runAnswer (j + 1) o (held u) ds) (sym (ap outcome f));
               going = λ _. ap outcome f;
             }
         go (Refused k p) f a = let z : _≡_ {A = ℕ} 0 1 = cc in absurd (omega arith)
 
-    pub box-stops : isAccepted (outcome y) ≡ false → _≡_ {A = Course} (record { done = j; outcome = outcome y; state = held u; codes = ds }) (course h rel first slots)
+    pub box-stops : isAccepted (outcome y) ≡ false → runAnswer j (outcome y) (held u) ds ≡ course h rel first slots
     box-stops a = go y refl a
       where
-        go : (z : Refusal) → y ≡ z → isAccepted (outcome z) ≡ false → _≡_ {A = Course} (record { done = j; outcome = outcome y; state = held u; codes = ds }) (course h rel first slots)
+        go : (z : Refusal) → y ≡ z → isAccepted (outcome z) ≡ false → runAnswer j (outcome y) (held u) ds ≡ course h rel first slots
         go Accepted f a = let z : _≡_ {A = ℕ} 0 1 = cc in absurd (omega arith)
-        go (Refused k p) f a = ap (λ (o : Refusal). record { done = j; outcome = outcome o; state = held u; codes = ds }) f ∙ stops h rel first j (held t) cs here y (held u) ds e slots k p l f
+        go (Refused k p) f a = ap (λ (o : Refusal). runAnswer j (outcome o) (held u) ds) f ∙ stops h rel first j (held t) cs here y (held u) ds e slots k p l f

@@ -3,14 +3,13 @@
 use Prim.Native.Nat.{ℕ}
 use mathlib.Core.Path.{_≡_, sym, ap, _∙_}
 use mathlib.Core.List.{List}
-use Rattle.basis.specs.Refusals.{Outcome}
 use Rattle.basis.specs.declared.refusal.Refusal.{Refusal}
 use Rattle.basis.proofs.Refusals.{outcome-one-to-one}
 use Rattle.sheet.specs.declared.row.Sheet.{Sheet}
 use Rattle.machine.specs.States as states
 use Rattle.states.specs.declared.state.State.{State}
 use Rattle.states.specs.declared.runs.Ran.{Ran}
-use Rattle.machine.specs.Answers.{fresh, slot, run}
+use Rattle.machine.specs.Answers.{SlotAnswer, fresh, slot, run}
 use Rattle.states.specs.Values.{held, ran}
 use Rattle.states.proofs.Same.{held-one-to-one, ran-one-to-one}
 use Rattle.aboard.specs.Lent.{slottedIn}
@@ -18,9 +17,9 @@ use Rattle.aboard.specs.Lent.{slottedIn}
 -- `slot_in`: the refusal, the lent state and the code buffer after it
 pub slotted-in-one-to-one : (a b : Refusal) (t u : State) (cs ds : List ℕ) → slottedIn a t cs ≡ slottedIn b u ds → (a ≡ b) × (t ≡ u) × (cs ≡ ds)
 slotted-in-one-to-one a b t u cs ds e = (
-  outcome-one-to-one a b (ap (λ (x : Outcome × (states.State × List ℕ)). x .0) e),
-  held-one-to-one t u (ap (λ (x : Outcome × (states.State × List ℕ)). x .1 .0) e),
-  ap (λ (x : Outcome × (states.State × List ℕ)). x .1 .1) e,
+  outcome-one-to-one a b (ap (λ (x : SlotAnswer states.State). x .outcome) e),
+  held-one-to-one t u (ap (λ (x : SlotAnswer states.State). x .state) e),
+  ap (λ (x : SlotAnswer states.State). x .codes) e,
 )
 
 pub slot-in-same : (h : Sheet) (t : State) (rel before : List ℕ) (a b : Refusal) (t₁ t₂ : State) (cs ds : List ℕ)
@@ -29,5 +28,5 @@ slot-in-same h t rel before a b t₁ t₂ cs ds e f = slotted-in-one-to-one a b 
 
 -- `box_run`: the answer, and the code buffer after it
 pub box-run-same : (h : Sheet) (rel before : List ℕ) (a b : Ran) (cs ds : List ℕ)
-    → ran a cs ≡ run h (fresh h .1) rel before → ran b ds ≡ run h (fresh h .1) rel before → (a ≡ b) × (cs ≡ ds)
+    → ran a cs ≡ run h (fresh h .state) rel before → ran b ds ≡ run h (fresh h .state) rel before → (a ≡ b) × (cs ≡ ds)
 box-run-same h rel before a b cs ds e f = ran-one-to-one a b cs ds (e ∙ sym f)

@@ -6,7 +6,7 @@ use mathlib.Core.List.{List, [], _∷_}
 use native.Mathlib.Omega.{arith}
 use lib.ListN.{getD}
 use Rattle.basis.specs.Words.{allOf}
-use Rattle.basis.specs.Refusals.{Outcome, firstOf}
+use Rattle.basis.specs.Refusals.{firstOf}
 use Rattle.basis.specs.Upto.{upto}
 use Rattle.basis.specs.Faults.{NoneMeets}
 use Rattle.basis.proofs.Faults.{apart, numberOf}
@@ -19,37 +19,37 @@ use Rattle.machine.specs.States.{State, recordAt}
 use Rattle.machine.specs.States as states
 use Rattle.machine.specs.Slot.{freeAt}
 use Rattle.machine.specs.Checks.{checkReleases, checkState, checkRoom, checkSlot, checkRun}
-use Rattle.machine.specs.Answers.{fresh, given, nextState, nextCodes, slot, Course, slotAt, onward, course, run}
+use Rattle.machine.specs.Answers.{SlotAnswer, RunAnswer, fresh, given, nextState, nextCodes, slot, slotAt, onward, course, run}
 use Rattle.aboard.specs.Wrong.{leftAsFound, changedAlways, boxOfZeros, boxWithoutCodes, boxUnchecked}
 
 -- what remains of row 1 in the lent state
-abbrev leftAfter : Outcome × (State × List ℕ) → ℕ
-leftAfter x = recordAt (x .1 .0) 1 .remaining
+abbrev leftAfter : SlotAnswer State → ℕ
+leftAfter x = recordAt (x .state) 1 .remaining
 
 -- ---- `slot_in`
 
 -- row 1 is released for 3
-pub left-as-found-is-shut-out : NoneMeets (leftAsFound sheetC (fresh sheetC .1) (1 ∷ 3 ∷ []) (9 ∷ 9 ∷ [])) (slot sheetC (fresh sheetC .1) (1 ∷ 3 ∷ []) (9 ∷ 9 ∷ []))
+pub left-as-found-is-shut-out : NoneMeets (leftAsFound sheetC (fresh sheetC .state) (1 ∷ 3 ∷ []) (9 ∷ 9 ∷ [])) (slot sheetC (fresh sheetC .state) (1 ∷ 3 ∷ []) (9 ∷ 9 ∷ []))
 unfolding leftAsFound allOf firstOf upto legalRow legalAt legal states.freshState legalRecord isZero states.legalAt states.legalState released fits freeBelow freeAt worked older aged missed ended codeOf checkRow checkReleases checkState checkRoom checkSlot fresh given nextState nextCodes slot
 left-as-found-is-shut-out = apart leftAfter _ _ 0 3 refl refl (λ e. omega arith)
 
 -- and row 0 for more than its budget
-pub changed-always-is-shut-out : NoneMeets (changedAlways sheetC (fresh sheetC .1) (2 ∷ 3 ∷ []) (9 ∷ 9 ∷ [])) (slot sheetC (fresh sheetC .1) (2 ∷ 3 ∷ []) (9 ∷ 9 ∷ []))
+pub changed-always-is-shut-out : NoneMeets (changedAlways sheetC (fresh sheetC .state) (2 ∷ 3 ∷ []) (9 ∷ 9 ∷ [])) (slot sheetC (fresh sheetC .state) (2 ∷ 3 ∷ []) (9 ∷ 9 ∷ []))
 unfolding changedAlways allOf firstOf upto legalRow legalAt legal states.freshState legalRecord isZero states.legalAt states.legalState released fits freeBelow freeAt worked older aged missed ended codeOf checkRow checkReleases checkState checkRoom checkSlot fresh given nextState nextCodes slot
 changed-always-is-shut-out = apart leftAfter _ _ 3 0 refl refl (λ e. omega arith)
 
 -- ---- `box_run`
 
-pub box-of-zeros-is-shut-out : NoneMeets (boxOfZeros sheetC [] []) (run sheetC (fresh sheetC .1) [] [])
+pub box-of-zeros-is-shut-out : NoneMeets (boxOfZeros sheetC [] []) (run sheetC (fresh sheetC .state) [] [])
 unfolding boxOfZeros allOf firstOf upto legalRow legalAt legal states.freshState legalRecord isZero states.legalAt states.legalState checkState checkRoom checkRun fresh course run
-box-of-zeros-is-shut-out = apart (λ (c : Course). numberOf (c .outcome)) _ _ 16 0 refl refl (λ e. omega arith)
+box-of-zeros-is-shut-out = apart (λ (c : RunAnswer State). numberOf (c .outcome)) _ _ 16 0 refl refl (λ e. omega arith)
 
 -- the first slot of case G
-pub box-without-codes-is-shut-out : NoneMeets (boxWithoutCodes sheetC (1 ∷ 3 ∷ []) (9 ∷ 9 ∷ [])) (run sheetC (fresh sheetC .1) (1 ∷ 3 ∷ []) (9 ∷ 9 ∷ []))
+pub box-without-codes-is-shut-out : NoneMeets (boxWithoutCodes sheetC (1 ∷ 3 ∷ []) (9 ∷ 9 ∷ [])) (run sheetC (fresh sheetC .state) (1 ∷ 3 ∷ []) (9 ∷ 9 ∷ []))
 unfolding boxWithoutCodes allOf firstOf upto legalRow legalAt legal states.freshState legalRecord isZero states.legalAt states.legalState released fits freeBelow freeAt worked older aged missed ended codeOf checkRow checkReleases checkState checkRoom checkSlot checkRun fresh given nextState nextCodes slot slotAt onward course run
-box-without-codes-is-shut-out = apart (λ (c : Course). getD (c .codes) 0 0) _ _ 9 3 refl refl (λ e. omega arith)
+box-without-codes-is-shut-out = apart (λ (c : RunAnswer State). getD (c .codes) 0 0) _ _ 9 3 refl refl (λ e. omega arith)
 
 -- three entries for two rows
-pub box-unchecked-is-shut-out : NoneMeets (boxUnchecked sheetC (1 ∷ 3 ∷ 0 ∷ []) (9 ∷ 9 ∷ 9 ∷ [])) (run sheetC (fresh sheetC .1) (1 ∷ 3 ∷ 0 ∷ []) (9 ∷ 9 ∷ 9 ∷ []))
+pub box-unchecked-is-shut-out : NoneMeets (boxUnchecked sheetC (1 ∷ 3 ∷ 0 ∷ []) (9 ∷ 9 ∷ 9 ∷ [])) (run sheetC (fresh sheetC .state) (1 ∷ 3 ∷ 0 ∷ []) (9 ∷ 9 ∷ 9 ∷ []))
 unfolding boxUnchecked allOf firstOf upto legalRow legalAt legal states.freshState legalRecord isZero states.legalAt states.legalState released fits freeBelow freeAt worked older aged missed ended codeOf checkRow checkReleases checkState checkRoom checkSlot checkRun fresh given nextState nextCodes slot slotAt onward course run
-box-unchecked-is-shut-out = apart (λ (c : Course). c .done) _ _ 1 0 refl refl (λ e. omega arith)
+box-unchecked-is-shut-out = apart (λ (c : RunAnswer State). c .done) _ _ 1 0 refl refl (λ e. omega arith)

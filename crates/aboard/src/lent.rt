@@ -63,7 +63,7 @@ fn entries(releases: &[u64], at: usize, n: usize) -> &[u64]
 
 // The box's own loop: a run from the fresh state, which the box owns and lends to each slot.
 pub fn box_run(sheet: Sheet, releases: &[u64], codes: &mut [u8]) -> Ran
-    ensures { λ r. ⌜ ran r (now (codes .exit)) ≡ run sheet (fresh sheet .1) (now (releases .entry)) (now (codes .entry)) ⌝ }
+    ensures { λ r. ⌜ ran r (now (codes .exit)) ≡ run sheet (fresh sheet .state) (now (releases .entry)) (now (codes .entry)) ⌝ }
 {
     let begun = begin(sheet, releases, codes.len());
     let mut state = begun.state;

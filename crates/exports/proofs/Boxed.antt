@@ -22,7 +22,7 @@ use Rattle.states.specs.Values.{held, ran}
 use Rattle.records.specs.Records.{noRecord}
 use Rattle.machine.specs.States.{State, recordAt}
 use Rattle.machine.specs.Lists.{stateLong}
-use Rattle.machine.specs.Answers.{Course, fresh, run}
+use Rattle.machine.specs.Answers.{RunAnswer, fresh, run}
 use Rattle.exports.specs.Answers.{told}
 use Rattle.exports.specs.Further.{stateCell, courseTold, boxOf, boxOn}
 
@@ -57,9 +57,9 @@ module _ (s list rel cs : List ℕ) (b : Bool) (eb : b ≡ legal (sheetIn s)) wh
     unfolding boxOn boxOf
     box-has-no-room m t f = rw (f, sym eb ∙ q, lt-leb (stateLong (sheetIn s .count)) (length list) (omega (arith, en)))
 
-    pub box-answered : n * 2 ≤ length list → (h : Sheet) → h ≡ sheetIn s → (r : Ran) (ds : List ℕ) → ran r ds ≡ run h (fresh h .1) rel cs
+    pub box-answered : n * 2 ≤ length list → (h : Sheet) → h ≡ sheetIn s → (r : Ran) (ds : List ℕ) → ran r ds ≡ run h (fresh h .state) rel cs
         → (after : List ℕ) → after ≡ filled (stateCell (held (r .state))) list → (t : ℕ × ℕ) → t ≡ told (outcome (r .refusal)) → (t, (r .done, (after, ds))) ≡ boxOn s list rel cs
     unfolding boxOn boxOf
     box-answered m h eh r ds er after ea t f =
-        let whole : ran r ds ≡ run (sheetIn s) (fresh (sheetIn s) .1) rel cs = er ∙ ap (λ (x : Sheet). run x (fresh x .1) rel cs) eh in
-        rw (f, ea, sym eb ∙ q, le-leb (stateLong (sheetIn s .count)) (length list) (omega (arith, en))) (ap (λ (c : Course). courseTold c list) whole)
+        let whole : ran r ds ≡ run (sheetIn s) (fresh (sheetIn s) .state) rel cs = er ∙ ap (λ (x : Sheet). run x (fresh x .state) rel cs) eh in
+        rw (f, ea, sym eb ∙ q, le-leb (stateLong (sheetIn s .count)) (length list) (omega (arith, en))) (ap (λ (c : RunAnswer State). courseTold c list) whole)

@@ -7,30 +7,30 @@ use lib.IntN.{ℤ}
 use mir.Syntax.{w64}
 use mir.Val.{SFits, toZ, ofZ}
 use mir.ValLaws.{toZ-ofZ}
-use Rattle.basis.specs.Refusals.{Outcome, accepted, refused, outcome}
+use Rattle.basis.specs.Refusals.{accepted, refused, outcome}
 use Rattle.basis.specs.declared.refusal.Refusal.{Refusal}
 use Rattle.machine.specs.declared.places.Done.{Done}
 use Rattle.machine.specs.declared.margins.Margin.{Margin}
 use Rattle.machine.specs.declared.margins.Margin.the-variants as margin-variants
-use Rattle.machine.specs.Answers.{Told, margin}
+use Rattle.machine.specs.Answers.{freshAnswer, slotAnswer, Told, margin}
 use Rattle.machine.specs.Answers as machine-answers
 use Rattle.sheet.specs.Lists.{sheetIn}
 use Rattle.machine.specs.Lists.{stateIn, freshOn, slotIn, ranIn, runIn}
-use Rattle.exports.specs.Answers.{told, withTold, freshIn, slotOn, runTold, runOn, marginGiven, marginIn}
+use Rattle.exports.specs.Answers.{told, freshTold, freshIn, slotTold, slotOn, runTold, runOn, marginGiven, marginIn}
 
 -- `giachimu_fresh`
-pub fresh-answered : (s list : List ℕ) (r : Refusal) (after : List ℕ) → (outcome r, after) ≡ freshOn (sheetIn s) list → (v p : ℕ) → (v, p) ≡ told (outcome r) → ((v, p), after) ≡ freshIn s list
+pub fresh-answered : (s list : List ℕ) (r : Refusal) (after : List ℕ) → freshAnswer (outcome r) after ≡ freshOn (sheetIn s) list → (v p : ℕ) → (v, p) ≡ told (outcome r) → ((v, p), after) ≡ freshIn s list
 unfolding freshIn
-fresh-answered s list r after er v p e = ap (λ (x : ℕ × ℕ). (x, after)) e ∙ ap (λ (x : Outcome × List ℕ). withTold x) er
+fresh-answered s list r after er v p e = ap (λ (x : ℕ × ℕ). (x, after)) e ∙ ap freshTold er
 
 -- `giachimu_slot`
-pub slot-answered : (s list rel cs : List ℕ) (r : Refusal) (after ds : List ℕ) → (outcome r, (after, ds)) ≡ slotIn (sheetIn s) list rel cs → (v p : ℕ) → (v, p) ≡ told (outcome r)
+pub slot-answered : (s list rel cs : List ℕ) (r : Refusal) (after ds : List ℕ) → slotAnswer (outcome r) after ds ≡ slotIn (sheetIn s) list rel cs → (v p : ℕ) → (v, p) ≡ told (outcome r)
     → ((v, p), (after, ds)) ≡ slotOn s list rel cs
 unfolding slotOn
-slot-answered s list rel cs r after ds er v p e = ap (λ (x : ℕ × ℕ). (x, (after, ds))) e ∙ ap (λ (x : Outcome × (List ℕ × List ℕ)). withTold x) er
+slot-answered s list rel cs r after ds er v p e = ap (λ (x : ℕ × ℕ). (x, (after, ds))) e ∙ ap slotTold er
 
 -- `giachimu_run`
-pub run-answered : (s list rel cs : List ℕ) (r : Done) (after ds : List ℕ) → (ranIn r, (after, ds)) ≡ runIn (sheetIn s) list rel cs → (v p : ℕ) → (v, p) ≡ told (outcome (r .refusal))
+pub run-answered : (s list rel cs : List ℕ) (r : Done) (after ds : List ℕ) → ranIn r after ds ≡ runIn (sheetIn s) list rel cs → (v p : ℕ) → (v, p) ≡ told (outcome (r .refusal))
     → ((v, p), (r .done, (after, ds))) ≡ runOn s list rel cs
 unfolding runOn
 run-answered s list rel cs r after ds er v p e = ap (λ (x : ℕ × ℕ). (x, (r .done, (after, ds)))) e ∙ ap runTold er

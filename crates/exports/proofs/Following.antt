@@ -9,7 +9,7 @@ use lib.ListN.{length, take}
 use lib.Dec.{leb, eqb}
 use borrow.Author.Tests.{ne-eqb, eqb-true, eqb-false}
 use Rattle.basis.specs.Words.{pick}
-use Rattle.basis.specs.Refusals.{Outcome, accepted, refused, orElse, needed, handed}
+use Rattle.basis.specs.Refusals.{Outcome, accepted, refused, isAccepted, orElse, needed}
 use Rattle.reader.specs.Answers.{reading}
 use Rattle.sheet.specs.Legal.{legal}
 use Rattle.sheet.specs.Lists.{sheetIn}
@@ -19,7 +19,7 @@ use Rattle.machine.specs.Answers.{fresh, slot}
 use Rattle.machine.specs.Lists.{stateLong, stateIn, freshOn, slotIn, runIn}
 use Rattle.machine.proofs.Listed.{InTable, sheet-not-legal, list-not-whole, over-budget, too-soon, no-such-row, short-buffer, state-not-legal, Listed, slot-refusals}
 use Rattle.machine.proofs.Handed.{fresh-on-state, slot-in-state, run-in-state}
-use Rattle.green.specs.Calls.{Call, Done, slotDone, slotsOf, stateAfter, history, stateAfterAll, freshOf}
+use Rattle.green.specs.Calls.{Call, Done, slotsOf, stateAfter, history, stateAfterAll, freshOf}
 use Rattle.green.specs.Calls as by-value
 use Rattle.green.specs.Demand.{InTime, NoJobIsLate}
 use Rattle.exports.specs.Answers.{told, readIn, freshIn, slotOn, runOn}
@@ -38,20 +38,20 @@ not-zero short-buffer e = omega arith
 not-zero state-not-legal e = omega arith
 
 -- a fresh that tells 0 is accepted
-fresh-accepted : (h : Sheet) (l : List ℕ) → told (freshOn h l .0) .0 ≡ 0 → freshOn h l .0 ≡ accepted
+fresh-accepted : (h : Sheet) (l : List ℕ) → told (freshOn h l .outcome) .0 ≡ 0 → freshOn h l .outcome ≡ accepted
 unfolding freshOn fresh
-fresh-accepted h l e = go (legal h) (leb (stateLong (h .count)) (length l)) _ e
+fresh-accepted h l e = go (legal h) (leb (stateLong (h .count)) (length l)) e
   where
-    go : (a b : Bool) (x : List ℕ) → told (handed (orElse (needed a 10) (needed b 15)) x l .0) .0 ≡ 0 → handed (orElse (needed a 10) (needed b 15)) x l .0 ≡ accepted
-    go true true x z = refl
-    go true false x z = absurd (omega arith)
-    go false b x z = absurd (omega arith)
+    go : (a b : Bool) → told (orElse (needed a 10) (needed b 15)) .0 ≡ 0 → orElse (needed a 10) (needed b 15) ≡ accepted
+    go true true z = refl
+    go true false z = absurd (omega arith)
+    go false b z = absurd (omega arith)
 
 -- the slot that a call adds is the slot that it tells
-slot-told : (n : ℕ) (rel : List ℕ) (x : Outcome × (State × List ℕ)) → Listed n (x .0)
-    → slotDone n rel x ≡ pick (eqb (told (x .0) .0) 0) (record { releases = rel; codes = take n (x .1 .1) } ∷ []) []
-slot-told n rel (accepted, (t, cs)) l = refl
-slot-told n rel (refused a b, (t, cs)) l = rw (ne-eqb a 0 (not-zero (l .listed a b refl)))
+slot-told : (n : ℕ) (rel cs : List ℕ) (o : Outcome) → Listed n o
+    → pick {A = List Done} (isAccepted o) (record { releases = rel; codes = take n cs } ∷ []) [] ≡ pick (eqb (told o .0) 0) (record { releases = rel; codes = take n cs } ∷ []) []
+slot-told n rel cs accepted l = refl
+slot-told n rel cs (refused a b) l = rw (ne-eqb a 0 (not-zero (l .listed a b refl)))
 
 -- one call more, by value
 module _ (h : Sheet) (c : Call) where
@@ -94,7 +94,7 @@ call-follows sheet l ds make-fresh f = go (eqb (freshIn sheet l .0 .0) 0) refl
     go false e = subst (λ (x : List ℕ). Follows (sheetIn sheet) x ds) (sym (refused-fresh-changes-nothing sheet l (eqb-false _ 0 e))) f
 call-follows sheet l ds (one-slot rel cs) f =
     follows-more (sheetIn sheet) l _ ds _ (by-value.one-slot rel cs) f
-    (slot-told (sheetIn sheet .count) rel (slot (sheetIn sheet) (stateIn l) rel cs) (slot-refusals (sheetIn sheet) (stateIn l) rel cs)) (slot-in-state (sheetIn sheet) l rel cs)
+    (slot-told (sheetIn sheet .count) rel (slot (sheetIn sheet) (stateIn l) rel cs .codes) (slot (sheetIn sheet) (stateIn l) rel cs .outcome) (slot-refusals (sheetIn sheet) (stateIn l) rel cs)) (slot-in-state (sheetIn sheet) l rel cs)
 call-follows sheet l ds (a-run rel cs) f = follows-more (sheetIn sheet) l _ ds _ (by-value.a-run rel cs) f refl (run-in-state (sheetIn sheet) l rel cs)
 
 -- and all of them

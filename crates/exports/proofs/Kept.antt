@@ -6,7 +6,8 @@ use mathlib.Core.List.{List}
 use lib.ListN.{length}
 use lib.IntN.{ℤ}
 use borrow.Author.Tests.{eq-eqb}
-use Rattle.basis.specs.Refusals.{Outcome, accepted, refused, orElse, needed, roomFor, handed}
+use Rattle.basis.specs.Words.{pick}
+use Rattle.basis.specs.Refusals.{Outcome, accepted, refused, orElse, needed, roomFor, handed, isAccepted}
 use Rattle.basis.specs.Readers.{Step, ok, refuse}
 use Rattle.numbers.specs.Numbers.{number, upTo}
 use Rattle.reader.specs.Answers.{reading}
@@ -14,7 +15,7 @@ use Rattle.sheet.specs.declared.row.Sheet.{Sheet}
 use Rattle.bound.specs.Bound.{boundsOf}
 use Rattle.bound.specs.Lists.{resultsLong}
 use Rattle.machine.specs.Checks.{checkSlot, checkRun}
-use Rattle.machine.specs.Answers.{Course, Told, no-job, margin-is, refused-by, fresh, nextState, nextCodes, slot, notBegun, course, run, margin}
+use Rattle.machine.specs.Answers.{RunAnswer, runAnswer, Told, no-job, margin-is, refused-by, fresh, nextState, nextCodes, slotBy, slot, course, run, margin}
 use Rattle.machine.specs.States.{State}
 use Rattle.machine.proofs.Done.{Ends, all-done, stopped-at, run-ends, run-not-begun}
 use Rattle.dashboard.specs.Texts.{verdictText}
@@ -22,7 +23,7 @@ use Rattle.sheet.specs.Legal.{legal}
 use Rattle.sheet.specs.Lists.{sheetIn, sheetLong}
 use Rattle.tables.specs.Tables.{fixedSheet}
 use Rattle.machine.specs.Lists.{stateLong, stateIn, freshOn, slotListed, slotIn, runIn}
-use Rattle.exports.specs.Answers.{told, verdictIn, fieldsIn, readIn, labelOutcome, labelAnswer, resultsIn, boundsIn, withTold, freshIn, slotOn, runOn, marginGiven, marginIn}
+use Rattle.exports.specs.Answers.{told, verdictIn, fieldsIn, readIn, labelOutcome, labelAnswer, resultsIn, boundsIn, freshIn, slotTold, slotOn, runOn, marginGiven, marginIn}
 use Rattle.exports.specs.Further.{stepTold, numberOn, upToOn, fixedIn, boxBy, boxOf, boxOn}
 
 -- what is handed over where a number other than 0 is told
@@ -46,14 +47,14 @@ unfolding boundsIn resultsIn
 refused-bounds-changes-nothing s lent n = kept (orElse (boundsOf (sheetIn s) .0) (roomFor (resultsLong (sheetIn s .count)) (length (lent .1)))) _ lent n
 
 -- the same of a call of the machine
-left : {A : Type 0} (o : Outcome) (done found : A) → (told (handed o done found .0) .0 ≡ 0 → ⊥) → handed o done found .1 ≡ found
+left : {A : Type 0} (o : Outcome) (done found : A) → (told o .0 ≡ 0 → ⊥) → pick (isAccepted o) done found ≡ found
 left accepted done found n = absurd (n refl)
 left (refused number place) done found n = refl
 
 -- A refused `giachimu_fresh` leaves the list.
 pub refused-fresh-changes-nothing : (s list : List ℕ) → (freshIn s list .0 .0 ≡ 0 → ⊥) → freshIn s list .1 ≡ list
 unfolding freshIn freshOn
-refused-fresh-changes-nothing s list n = left (orElse (fresh (sheetIn s) .0) (roomFor (stateLong (sheetIn s .count)) (length list))) _ list n
+refused-fresh-changes-nothing s list n = left (orElse (fresh (sheetIn s) .outcome) (roomFor (stateLong (sheetIn s .count)) (length list))) _ list n
 
 -- A refused `giachimu_slot` leaves the state's list and the codes.
 pub refused-slot-changes-nothing : (s list rel cs : List ℕ) → (slotOn s list rel cs .0 .0 ≡ 0 → ⊥) → slotOn s list rel cs .1 ≡ (list, cs)
@@ -63,20 +64,20 @@ refused-slot-changes-nothing s list rel cs n = go (checkSlot (sheetIn s) (stateI
     next : State × List ℕ
     next = (nextState (sheetIn s) (stateIn list) rel, nextCodes (sheetIn s) (stateIn list) rel cs)
 
-    go : (o : Outcome) → (withTold (slotListed (sheetIn s .count) (handed o next (stateIn list, cs)) list) .0 .0 ≡ 0 → ⊥)
-        → withTold (slotListed (sheetIn s .count) (handed o next (stateIn list, cs)) list) .1 ≡ (list, cs)
+    go : (o : Outcome) → (slotTold (slotListed (sheetIn s .count) (slotBy o next (stateIn list, cs)) list) .0 .0 ≡ 0 → ⊥)
+        → slotTold (slotListed (sheetIn s .count) (slotBy o next (stateIn list, cs)) list) .1 ≡ (list, cs)
     go accepted m = absurd (m refl)
     go (refused number place) m = refl
 
 -- a run that has done no slot has written no code
-course-writes-nothing : (h : Sheet) (t : State) (rel cs : List ℕ) (n : ℕ) (c : Course) → Ends h rel (notBegun accepted t cs) n c → c ≡ course h rel (notBegun accepted t cs) n → c .done ≡ 0 → c .codes ≡ cs
+course-writes-nothing : (h : Sheet) (t : State) (rel cs : List ℕ) (n : ℕ) (c : RunAnswer State) → Ends h rel (runAnswer 0 accepted t cs) n c → c ≡ course h rel (runAnswer 0 accepted t cs) n → c .done ≡ 0 → c .codes ≡ cs
 unfolding course
 course-writes-nothing h t rel cs n c (all-done u ds e) g z =
-    let none : n ≡ 0 = sym (ap (λ (x : Course). x .done) e) ∙ z in
-    ap (λ (x : Course). x .codes) (g ∙ ap (course h rel (notBegun accepted t cs)) none)
+    let none : n ≡ 0 = sym (ap (λ (x : RunAnswer State). x .done) e) ∙ z in
+    ap (λ (x : RunAnswer State). x .codes) (g ∙ ap (course h rel (runAnswer 0 accepted t cs)) none)
 course-writes-nothing h t rel cs n c (stopped-at i l u ds s a b r e) g z =
-    let none : i ≡ 0 = sym (ap (λ (x : Course). x .done) e) ∙ z in
-    ap (λ (x : Course). x .codes) e ∙ sym (ap (λ (x : Course). x .codes) (sym (ap (course h rel (notBegun accepted t cs)) none) ∙ s))
+    let none : i ≡ 0 = sym (ap (λ (x : RunAnswer State). x .done) e) ∙ z in
+    ap (λ (x : RunAnswer State). x .codes) e ∙ sym (ap (λ (x : RunAnswer State). x .codes) (sym (ap (course h rel (runAnswer 0 accepted t cs)) none) ∙ s))
 
 run-writes-nothing : (h : Sheet) (t : State) (rel cs : List ℕ) → run h t rel cs .done ≡ 0 → run h t rel cs .codes ≡ cs
 unfolding run
@@ -84,7 +85,7 @@ run-writes-nothing h t rel cs z = go (checkRun h t rel (length cs)) refl
   where
     go : (o : Outcome) → checkRun h t rel (length cs) ≡ o → run h t rel cs .codes ≡ cs
     go accepted e = course-writes-nothing h t rel cs (length rel / h .count) (run h t rel cs) (run-ends h t rel cs e) (rw e) z
-    go (refused a b) e = ap (λ (x : Course). x .codes) (run-not-begun h t rel cs a b e)
+    go (refused a b) e = ap (λ (x : RunAnswer State). x .codes) (run-not-begun h t rel cs a b e)
 
 -- A `giachimu_run` that has done no slot leaves the state's list and the codes.
 pub run-of-none-changes-nothing : (s list rel cs : List ℕ) → runOn s list rel cs .1 .0 ≡ 0 → runOn s list rel cs .1 .1 ≡ (list, cs)
@@ -132,4 +133,4 @@ refused-fixed-changes-nothing k list n = kept (roomFor (sheetLong (fixedSheet k 
 pub unbegun-box-changes-nothing : (s list rel cs : List ℕ) (a b : ℕ) → orElse (needed (legal (sheetIn s)) 10) (roomFor (stateLong (sheetIn s .count)) (length list)) ≡ refused a b
     → boxOn s list rel cs ≡ ((a, b), (0, (list, cs)))
 unfolding boxOn boxOf
-unbegun-box-changes-nothing s list rel cs a b e = ap (λ (o : Outcome). boxBy o (run (sheetIn s) (fresh (sheetIn s) .1) rel cs) list cs) e
+unbegun-box-changes-nothing s list rel cs a b e = ap (λ (o : Outcome). boxBy o (run (sheetIn s) (fresh (sheetIn s) .state) rel cs) list cs) e

@@ -25,7 +25,7 @@ use Rattle.records.specs.Checks.{checkRow}
 use Rattle.machine.specs.States as states
 use Rattle.machine.specs.Slot.{freeAt}
 use Rattle.machine.specs.Checks.{checkReleases, checkState, checkRoom, checkSlot, checkRun, checkMargin}
-use Rattle.machine.specs.Answers.{fresh, given, nextState, nextCodes, slot, run, marginAt, margin}
+use Rattle.machine.specs.Answers.{fresh, given, nextState, nextCodes, slot, course, run, marginAt, margin}
 use Rattle.machine.specs.Lists.{recordIn, zeroAt, zeroFrom, stateIn, putRecord, putTo, putState, freshOn, slotIn, runIn}
 use Rattle.machine.specs.Wrong.{listC, freshListC}
 use Rattle.page.specs.Pages.{Page, written}
@@ -106,11 +106,11 @@ slot-state-kept-is-shut-out = apart (λ (r : (ℕ × ℕ) × (List ℕ × List �
 -- ---- `giachimu_run`
 
 pub run-told-zero-is-shut-out : NoneMeets (toldZero (runOn [] [] [] [])) (runOn [] [] [] [])
-unfolding runOn runIn run checkRun checkState sheetIn rowIn allOf upto legalRow legalAt legal
+unfolding runOn runIn course run checkRun checkState sheetIn rowIn allOf upto legalRow legalAt legal
 run-told-zero-is-shut-out = apart toldNumber _ _ 0 10 refl refl (λ e. omega arith)
 
 pub run-of-one-is-shut-out : NoneMeets (runOfOne [] [] [] []) (runOn [] [] [] [])
-unfolding runOfOne runOn runIn run checkRun checkState sheetIn rowIn allOf upto legalRow legalAt legal
+unfolding runOfOne runOn runIn course run checkRun checkState sheetIn rowIn allOf upto legalRow legalAt legal
 run-of-one-is-shut-out = apart (λ (r : (ℕ × ℕ) × (ℕ × (List ℕ × List ℕ))). r .1 .0) _ _ 1 0 refl refl (λ e. omega arith)
 
 -- ---- `giachimu_margin`: a fresh row has no job

@@ -11,7 +11,7 @@ use Rattle.reader.specs.Answers.{reading, labelIn}
 use Rattle.sheet.specs.declared.row.Sheet.{Sheet}
 use Rattle.bound.specs.Bound.{Answer, boundsOf}
 use Rattle.bound.specs.Lists.{resultsLong, resultCell}
-use Rattle.machine.specs.Answers.{Told, no-job, margin-is, refused-by, margin}
+use Rattle.machine.specs.Answers.{FreshAnswer, SlotAnswer, RunAnswer, Told, no-job, margin-is, refused-by, margin}
 use Rattle.page.specs.Pages.{Page, written}
 use Rattle.dashboard.specs.Texts.{verdictText}
 use Rattle.sheet.specs.Lists.{filled, sheetIn, sheetCell, sheetLong}
@@ -57,21 +57,25 @@ resultsIn n (o, holds, ws) (found, list) =
 unfoldable pub boundsIn : List ℕ → ℕ × List ℕ → (ℕ × ℕ) × (ℕ × List ℕ)
 boundsIn sheet lent = resultsIn (sheetIn sheet .count) (boundsOf (sheetIn sheet)) lent
 
--- What a call of the machine answers, with its outcome told.
-abbrev pub withTold : {A : Type 0} → Outcome × A → (ℕ × ℕ) × A
-withTold (o, lent) = (told o, lent)
+-- What a fresh answers, with its outcome told.
+abbrev pub freshTold : FreshAnswer (List ℕ) → (ℕ × ℕ) × List ℕ
+freshTold a = (told (a .outcome), a .state)
 
 -- The fresh state of a sheet's list: 10, then 15; the list afterwards.
 unfoldable pub freshIn : List ℕ → List ℕ → (ℕ × ℕ) × List ℕ
-freshIn sheet list = withTold (freshOn (sheetIn sheet) list)
+freshIn sheet list = freshTold (freshOn (sheetIn sheet) list)
+
+-- What a slot answers, with its outcome told.
+abbrev pub slotTold : SlotAnswer (List ℕ) → (ℕ × ℕ) × (List ℕ × List ℕ)
+slotTold a = (told (a .outcome), (a .state, a .codes))
 
 -- One slot: the state's list and the codes after it.
 unfoldable pub slotOn : List ℕ → List ℕ → List ℕ → List ℕ → (ℕ × ℕ) × (List ℕ × List ℕ)
-slotOn sheet list releases codes = withTold (slotIn (sheetIn sheet) list releases codes)
+slotOn sheet list releases codes = slotTold (slotIn (sheetIn sheet) list releases codes)
 
 -- What a run answers, with its outcome told.
-abbrev pub runTold : (ℕ × Outcome) × (List ℕ × List ℕ) → (ℕ × ℕ) × (ℕ × (List ℕ × List ℕ))
-runTold ((done, o), lent) = (told o, (done, lent))
+abbrev pub runTold : RunAnswer (List ℕ) → (ℕ × ℕ) × (ℕ × (List ℕ × List ℕ))
+runTold a = (told (a .outcome), (a .done, (a .state, a .codes)))
 
 -- A run: the slots done, the state's list after them, which is as it was where none is done, and the codes.
 unfoldable pub runOn : List ℕ → List ℕ → List ℕ → List ℕ → (ℕ × ℕ) × (ℕ × (List ℕ × List ℕ))

@@ -12,7 +12,7 @@ use Rattle.sheet.specs.declared.row.Sheet.{Sheet}
 use Rattle.tables.specs.Tables.{fixedSheet}
 use Rattle.machine.specs.States.{State, recordAt}
 use Rattle.machine.specs.Lists.{stateLong}
-use Rattle.machine.specs.Answers.{Course, fresh, run}
+use Rattle.machine.specs.Answers.{RunAnswer, fresh, run}
 use Rattle.exports.specs.Answers.{told, fieldsIn}
 
 -- What reading a number tells: its value and the place after it, or a refusal, beside which both are as they were.
@@ -37,18 +37,18 @@ abbrev pub stateCell : State → ℕ → ℕ
 stateCell t = pairCell (λ k. recordAt t k .remaining) (λ k. recordAt t k .since)
 
 -- What a run tells, with a list that is made the state after it.
-abbrev pub courseTold : Course → List ℕ → (ℕ × ℕ) × (ℕ × (List ℕ × List ℕ))
+abbrev pub courseTold : RunAnswer State → List ℕ → (ℕ × ℕ) × (ℕ × (List ℕ × List ℕ))
 courseTold c list = (told (c .outcome), (c .done, (filled (stateCell (c .state)) list, c .codes)))
 
 -- A run that is begun where its list and its sheet allow it; else nothing is done, and all that was lent is as it was.
-abbrev pub boxBy : Outcome → Course → List ℕ → List ℕ → (ℕ × ℕ) × (ℕ × (List ℕ × List ℕ))
+abbrev pub boxBy : Outcome → RunAnswer State → List ℕ → List ℕ → (ℕ × ℕ) × (ℕ × (List ℕ × List ℕ))
 boxBy accepted c list codes = courseTold c list
 boxBy (refused number place) c list codes = ((number, place), (0, (list, codes)))
 
 -- A run from the fresh state of a sheet's list: 10, then the room for the state, then as a run.
 unfoldable pub boxOf : Sheet → List ℕ → List ℕ → List ℕ → (ℕ × ℕ) × (ℕ × (List ℕ × List ℕ))
 boxOf h list releases codes =
-    boxBy (orElse (needed (legal h) 10) (roomFor (stateLong (h .count)) (length list))) (run h (fresh h .1) releases codes) list codes
+    boxBy (orElse (needed (legal h) 10) (roomFor (stateLong (h .count)) (length list))) (run h (fresh h .state) releases codes) list codes
 
 unfoldable pub boxOn : List ℕ → List ℕ → List ℕ → List ℕ → (ℕ × ℕ) × (ℕ × (List ℕ × List ℕ))
 boxOn sheet list releases codes = boxOf (sheetIn sheet) list releases codes

@@ -9,14 +9,15 @@ use native.Mathlib.Nat.{mul-le-mul-right}
 use native.Mathlib.Numerals.{add-one}
 use lib.ListN.{length, getD, take, drop, length-append, length-drop, take-append-drop}
 use lib.Seq.{getD-take, length-take-le, take-append-le, drop-append-le, drop-at, take-take}
-use Rattle.basis.specs.Refusals.{Outcome, accepted, refused, isAccepted, handed}
+use Rattle.basis.specs.Refusals.{Outcome, accepted, refused}
 use Rattle.basis.proofs.Upto.{upto-below, length-upto}
 use Rattle.sheet.specs.declared.row.Sheet.{Sheet}
 use Rattle.machine.specs.States.{State}
 use Rattle.machine.specs.Slot.{code}
 use Rattle.machine.specs.Checks.{checkSlot, checkRun}
-use Rattle.machine.specs.Answers.{given, nextState, nextCodes, slot, Course, notBegun, entriesOf, behind, slotAt, followed, onward, course, runBy, run}
+use Rattle.machine.specs.Answers.{SlotAnswer, RunAnswer, slotAnswer, runAnswer, given, nextState, nextCodes, slotBy, slot, entriesOf, slotAt, onward, course, run}
 use Rattle.machine.proofs.Answered.{Accepted-slot, slot-shows}
+use Rattle.machine.proofs.Courses.{followed}
 use Rattle.machine.proofs.Legals.{legal-state-is}
 use Rattle.green.specs.Calls.{Call, one-slot, a-run, Done, slotDone, runSlot, runDone, slotsOf, stateAfter, history, stateAfterAll}
 use Rattle.green.proofs.Chains.{Slotted, Chain, none, more, chain-append}
@@ -37,15 +38,15 @@ module _ (h : Sheet) (t : State) (rel cs : List ℕ) (e : checkSlot h t rel (len
   }
 
 -- what a slot hands over, by its outcome
-abbrev over : Sheet → State → List ℕ → List ℕ → Outcome → Outcome × (State × List ℕ)
-over h t rel cs o = handed o (nextState h t rel, nextCodes h t rel cs) (t, cs)
+abbrev over : Sheet → State → List ℕ → List ℕ → Outcome → SlotAnswer State
+over h t rel cs o = slotBy o (nextState h t rel, nextCodes h t rel cs) (t, cs)
 
 -- one slot
 slot-chain : (h : Sheet) (t : State) (rel cs : List ℕ) → Chain h t (slotsOf h t (one-slot rel cs)) (stateAfter h t (one-slot rel cs))
 unfolding slot
 slot-chain h t rel cs = go (checkSlot h t rel (length cs)) refl
   where
-    go : (o : Outcome) → checkSlot h t rel (length cs) ≡ o → Chain h t (slotDone (h .count) rel (over h t rel cs o)) (over h t rel cs o .1 .0)
+    go : (o : Outcome) → checkSlot h t rel (length cs) ≡ o → Chain h t (slotDone (h .count) rel (over h t rel cs o)) (over h t rel cs o .state)
     go accepted e = more (slotted-so h t rel cs e) none
     go (refused number place) e = none
 
@@ -57,7 +58,7 @@ done-alike n rel cs ds (suc d) h =
     ap₂ (λ (x : List Done) (y : List ℕ). x ++ (record { releases = entriesOf n d rel; codes = y } ∷ [])) (done-alike n rel cs ds d (λ i l. h i (omega arith))) (h d (omega arith))
 
 -- what a run has done after j slots
-record Going (h : Sheet) (t : State) (rel : List ℕ) (j : ℕ) (c : Course) : Type 0 where
+record Going (h : Sheet) (t : State) (rel : List ℕ) (j : ℕ) (c : RunAnswer State) : Type 0 where
   pub counted : c .outcome ≡ accepted → c .done ≡ j
   pub chain : Chain h t (runDone (h .count) rel (c .codes) (c .done)) (c .state)
 
@@ -102,7 +103,7 @@ module _ (h : Sheet) (t : State) (rel : List ℕ) (j : ℕ) (u : State) (cs : Li
         (chain-append h (subst (λ (x : List Done). Chain h t x u) (sym (done-alike n rel after cs j there)) c)
         (more (subst (λ (x : List ℕ). Slotted h u (record { releases = own; codes = x })) (sym here) (slotted-so h u own rest e)) none))
 
-  followed-so : (o : Outcome) → checkSlot h u own (length rest) ≡ o → Going h t rel (suc j) (followed j (behind (take (j * n) cs) (over h u own rest o)))
+  followed-so : (o : Outcome) → checkSlot h u own (length rest) ≡ o → Going h t rel (suc j) (followed j (slotAnswer o (over h u own rest o .state) (take (j * n) cs ++ over h u own rest o .codes)))
   followed-so accepted e = record { counted = λ x. add-one j; chain = one-more e }
   followed-so (refused number place) e = record {
     counted = λ x. let z : _≡_ {A = ℕ} 0 1 = cc in absurd (omega arith);
@@ -110,7 +111,7 @@ module _ (h : Sheet) (t : State) (rel : List ℕ) (j : ℕ) (u : State) (cs : Li
   }
 
 -- by the outcome of the slots so far
-going-on : (h : Sheet) (t : State) (rel : List ℕ) (j : ℕ) (c : Course) → Going h t rel j c → (o : Outcome) → c .outcome ≡ o → Going h t rel (suc j) (onward h rel j c)
+going-on : (h : Sheet) (t : State) (rel : List ℕ) (j : ℕ) (c : RunAnswer State) → Going h t rel j c → (o : Outcome) → c .outcome ≡ o → Going h t rel (suc j) (onward h rel j c)
 unfolding onward slotAt slot
 going-on h t rel j c g accepted e =
     let d : c .done ≡ j = g .counted e in
@@ -122,20 +123,16 @@ going-on h t rel j c g (refused number place) e =
       chain = g .chain;
     })
 
-run-going : (h : Sheet) (t : State) (rel cs : List ℕ) (j : ℕ) → Going h t rel j (course h rel (notBegun accepted t cs) j)
+run-going : (h : Sheet) (t : State) (rel cs : List ℕ) (o : Outcome) (j : ℕ) → Going h t rel j (course h rel (runAnswer 0 o t cs) j)
 unfolding course runDone
-run-going h t rel cs zero = record { counted = λ x. refl; chain = none }
-run-going h t rel cs (suc j) =
-    going-on h t rel j (course h rel (notBegun accepted t cs) j) (run-going h t rel cs j) (course h rel (notBegun accepted t cs) j .outcome) refl
+run-going h t rel cs o zero = record { counted = λ x. refl; chain = none }
+run-going h t rel cs o (suc j) =
+    going-on h t rel j (course h rel (runAnswer 0 o t cs) j) (run-going h t rel cs o j) (course h rel (runAnswer 0 o t cs) j .outcome) refl
 
 -- a run
 run-chain : (h : Sheet) (t : State) (rel cs : List ℕ) → Chain h t (slotsOf h t (a-run rel cs)) (stateAfter h t (a-run rel cs))
-unfolding run runDone
-run-chain h t rel cs = go (checkRun h t rel (length cs))
-  where
-    go : (o : Outcome) → Chain h t (runDone (h .count) rel (runBy o h t rel cs .codes) (runBy o h t rel cs .done)) (runBy o h t rel cs .state)
-    go accepted = run-going h t rel cs (length rel / h .count) .chain
-    go (refused number place) = none
+unfolding run
+run-chain h t rel cs = run-going h t rel cs (checkRun h t rel (length cs)) (length rel / h .count) .chain
 
 -- any call
 call-chain : (h : Sheet) (t : State) (c : Call) → Chain h t (slotsOf h t c) (stateAfter h t c)

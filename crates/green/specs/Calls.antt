@@ -2,10 +2,11 @@
 use Prim.Native.Nat.{ℕ, zero, suc, _+_}
 use mathlib.Core.List.{List, [], _∷_, _++_}
 use lib.ListN.{length, getD, take}
-use Rattle.basis.specs.Refusals.{Outcome, accepted, refused}
+use Rattle.basis.specs.Words.{pick}
+use Rattle.basis.specs.Refusals.{isAccepted}
 use Rattle.sheet.specs.declared.row.Sheet.{Sheet}
 use Rattle.machine.specs.States.{State}
-use Rattle.machine.specs.Answers.{fresh, slot, Course, run, entriesOf}
+use Rattle.machine.specs.Answers.{SlotAnswer, fresh, slot, run, entriesOf}
 
 -- A call: one slot or a run, with any release list and any room for codes.
 pub data Call : Type 0 where
@@ -18,9 +19,8 @@ pub record Done : Type 0 where
   pub codes : List ℕ
 
 -- The one slot of a call that was accepted; of a refused one there is none.
-abbrev pub slotDone : ℕ → List ℕ → Outcome × (State × List ℕ) → List Done
-slotDone n releases (accepted, (t, codes)) = record { releases = releases; codes = take n codes } ∷ []
-slotDone n releases (refused number place, came) = []
+abbrev pub slotDone : ℕ → List ℕ → SlotAnswer State → List Done
+slotDone n releases a = pick (isAccepted (a .outcome)) (record { releases = releases; codes = take n (a .codes) } ∷ []) []
 
 -- Slot j of a run: its own entries of the release list, and of the code buffer.
 abbrev pub runSlot : ℕ → List ℕ → List ℕ → ℕ → Done
@@ -38,7 +38,7 @@ slotsOf h t (a-run releases codes) = runDone (h .count) releases (run h t releas
 
 -- The state after a call.
 abbrev pub stateAfter : Sheet → State → Call → State
-stateAfter h t (one-slot releases codes) = slot h t releases codes .1 .0
+stateAfter h t (one-slot releases codes) = slot h t releases codes .state
 stateAfter h t (a-run releases codes) = run h t releases codes .state
 
 -- The accepted slots of some calls, one after another.
@@ -53,4 +53,4 @@ stateAfterAll h t (c ∷ cs) = stateAfterAll h (stateAfter h t c) cs
 
 -- The state that `fresh` hands over.
 abbrev pub freshOf : Sheet → State
-freshOf h = fresh h .1
+freshOf h = fresh h .state

@@ -1,20 +1,19 @@
 -- Two sheets: rows 0 to k decide for rows 0 to k, and rows past n decide nothing.
 -- Assumes nothing.
 use Prim.Native.Nat.{ℕ, _≤_, _<_}
-use mathlib.Core.Path.{_≡_, sym, ap, ap₂, _∙_}
+use mathlib.Core.Path.{_≡_, refl, sym, ap, ap₂, _∙_}
 use mathlib.Core.List.{List}
 use lib.ListN.{length, getD}
 use native.Mathlib.Omega.{arith}
 use Rattle.basis.specs.Refusals.{Outcome, accepted}
 use Rattle.basis.proofs.Upto.{upto-below}
-use Rattle.basis.proofs.Refusals.{handed-outcome}
 use Rattle.sheet.specs.declared.row.Sheet.{Sheet}
 use Rattle.machine.specs.States.{State, recordAt}
 use Rattle.records.specs.Records.{noRecord}
 use Rattle.records.specs.Steps.{released, ended}
 use Rattle.machine.specs.Slot.{freeAt, Given, begun, free, runs, reached, next, code}
 use Rattle.machine.specs.Checks.{checkSlot}
-use Rattle.machine.specs.Answers.{given, nextState, nextCodes, slot}
+use Rattle.machine.specs.Answers.{SlotAnswer, slotAnswer, given, nextState, nextCodes, slot}
 use Rattle.machine.proofs.Answered.{slot-shows}
 use Rattle.machine.proofs.Legals.{legal-state-is, legal-state-long}
 use Rattle.machine.proofs.Placement.{free-agrees}
@@ -50,36 +49,36 @@ module _ (k : ℕ) (g g′ : Given) (a : AgreeTo k g g′) (i : ℕ) (l : i ≤ 
   code-agrees = rw (runs-agrees, a .rows i l, begun-agrees k g g′ a i l)
 
 -- an accepted slot, and what it gives
-pub slot-outcome : (h : Sheet) (t : State) (rel cs : List ℕ) → slot h t rel cs .0 ≡ checkSlot h t rel (length cs)
+pub slot-outcome : (h : Sheet) (t : State) (rel cs : List ℕ) → slot h t rel cs .outcome ≡ checkSlot h t rel (length cs)
 unfolding slot
-slot-outcome h t rel cs = handed-outcome (nextState h t rel, nextCodes h t rel cs) (t, cs) (checkSlot h t rel (length cs))
+slot-outcome h t rel cs = refl
 
-module _ (h : Sheet) (t : State) (rel cs : List ℕ) (f : slot h t rel cs .0 ≡ accepted) where
+module _ (h : Sheet) (t : State) (rel cs : List ℕ) (f : slot h t rel cs .outcome ≡ accepted) where
   pub slot-passed : checkSlot h t rel (length cs) ≡ accepted
   slot-passed = sym (slot-outcome h t rel cs) ∙ f
 
-  pub slot-gives : slot h t rel cs ≡ (accepted, (nextState h t rel, nextCodes h t rel cs))
+  pub slot-gives : slot h t rel cs ≡ slotAnswer accepted (nextState h t rel) (nextCodes h t rel cs)
   unfolding slot
   slot-gives = rw slot-passed
 
-  pub record-after : (i : ℕ) → i < h .count → recordAt (slot h t rel cs .1 .0) i ≡ next (given h t rel) i
+  pub record-after : (i : ℕ) → i < h .count → recordAt (slot h t rel cs .state) i ≡ next (given h t rel) i
   unfolding nextState
   record-after i l =
       let shown = slot-shows h t rel (length cs) slot-passed in
-      ap (λ (x : Outcome × (State × List ℕ)). recordAt (x .1 .0) i) slot-gives
+      ap (λ (x : SlotAnswer State). recordAt (x .state) i) slot-gives
       ∙ upto-below (h .count) (next (given h t rel)) (t .rows) noRecord i l (legal-state-long h t (legal-state-is h t (shown .in-order .most-rows) (shown .in-order .state-legal)))
 
-  pub code-after : (i : ℕ) → i < h .count → getD (slot h t rel cs .1 .1) i 0 ≡ code (given h t rel) i
+  pub code-after : (i : ℕ) → i < h .count → getD (slot h t rel cs .codes) i 0 ≡ code (given h t rel) i
   unfolding nextCodes
   code-after i l =
       let shown = slot-shows h t rel (length cs) slot-passed in
-      ap (λ (x : Outcome × (State × List ℕ)). getD (x .1 .1) i 0) slot-gives
+      ap (λ (x : SlotAnswer State). getD (x .codes) i 0) slot-gives
       ∙ upto-below (h .count) (code (given h t rel)) cs 0 i l (omega (arith, shown .long, shown .roomy))
 
 -- two accepted slots that are given equal rows 0 to k: codes and next records of rows 0 to k are equal
 pub upper-rows-decide : (h h′ : Sheet) (t t′ : State) (rel rel′ cs cs′ : List ℕ) (k : ℕ) → AgreeTo k (given h t rel) (given h′ t′ rel′)
-    → slot h t rel cs .0 ≡ accepted → slot h′ t′ rel′ cs′ .0 ≡ accepted → k < h .count → k < h′ .count → (i : ℕ) → i ≤ k
-    → (getD (slot h t rel cs .1 .1) i 0 ≡ getD (slot h′ t′ rel′ cs′ .1 .1) i 0) × (recordAt (slot h t rel cs .1 .0) i ≡ recordAt (slot h′ t′ rel′ cs′ .1 .0) i)
+    → slot h t rel cs .outcome ≡ accepted → slot h′ t′ rel′ cs′ .outcome ≡ accepted → k < h .count → k < h′ .count → (i : ℕ) → i ≤ k
+    → (getD (slot h t rel cs .codes) i 0 ≡ getD (slot h′ t′ rel′ cs′ .codes) i 0) × (recordAt (slot h t rel cs .state) i ≡ recordAt (slot h′ t′ rel′ cs′ .state) i)
 upper-rows-decide h h′ t t′ rel rel′ cs cs′ k a e e′ l l′ i b = (
   code-after h t rel cs e i (omega arith) ∙ code-agrees k (given h t rel) (given h′ t′ rel′) a i b ∙ sym (code-after h′ t′ rel′ cs′ e′ i (omega arith)),
   record-after h t rel cs e i (omega arith) ∙ next-agrees k (given h t rel) (given h′ t′ rel′) a i b ∙ sym (record-after h′ t′ rel′ cs′ e′ i (omega arith)),

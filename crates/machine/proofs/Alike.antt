@@ -3,7 +3,7 @@
 use Prim.Native.Nat.{ℕ, zero, suc, _*_, _/_, _%_, _<_}
 use mathlib.Core.Path.{_≡_, refl, ap, ap₂, _∙_}
 use mathlib.Core.Bool.{Bool}
-use mathlib.Core.List.{List}
+use mathlib.Core.List.{List, _++_}
 use mathlib.Core.Logic.{⊎-elim}
 use lib.ListN.{length, getD, take, drop, replicate}
 use lib.Dec.{ltb, eqb}
@@ -12,7 +12,7 @@ use native.Mathlib.Nat.{le-refl}
 use borrow.Author.Tests.{lt-ltb, le-ltb}
 use Rattle.basis.specs.Limits.{mostRows, mostProcessors}
 use Rattle.basis.specs.Words.{pick, both, within}
-use Rattle.basis.specs.Refusals.{Outcome, accepted, refused, isAccepted, orElse, needed, handed}
+use Rattle.basis.specs.Refusals.{Outcome, accepted, refused, isAccepted, orElse, needed}
 use Rattle.basis.proofs.Words.{all-same, lt-or-le}
 use Rattle.basis.proofs.First.{first-same}
 use Rattle.sheet.specs.Legal.{noRow, rowAt, legalRow, legal}
@@ -25,7 +25,8 @@ use Rattle.records.specs.Records.{noRecord, legalRecord}
 use Rattle.machine.specs.Slot.{next, code}
 use Rattle.records.specs.Checks.{checkRow}
 use Rattle.machine.specs.Checks.{checkAt, checkReleases, checkState, checkRoom, checkSlot, checkRun, checkMargin}
-use Rattle.machine.specs.Answers.{fresh, given, nextState, nextCodes, slot, entriesOf, behind, slotAt, Course, followed, onward, course, notBegun, run, runBy, Told, marginAt, marginBy, margin}
+use Rattle.machine.specs.Answers.{SlotAnswer, RunAnswer, freshAnswer, slotAnswer, runAnswer, fresh, given, nextState, nextCodes, slotBy, slot, entriesOf, slotAt, onward, course, run, Told, marginAt, marginBy, margin}
+use Rattle.machine.proofs.Courses.{followed}
 use Rattle.machine.proofs.Agree.{AgreeTo, next-agrees, code-agrees}
 use Rattle.basis.proofs.Upto.{upto-agree}
 
@@ -54,7 +55,7 @@ module _ (h : Sheet) (rows : List Row) (same : (i : ℕ) → i < h .count → ro
   fresh-alike : fresh h ≡ fresh (withRows h rows)
   unfolding fresh freshState
   fresh-alike =
-      ap₂ (λ (b : Bool) (l : List RowState). (needed b 10, pick b (stateOf l) noState)) legal-alike
+      ap₂ (λ (b : Bool) (l : List RowState). freshAnswer (needed b 10) (pick b (stateOf l) noState)) legal-alike
       (upto-agree (h .count) (freshAt h) (freshAt (withRows h rows)) (replicate mostRows noRecord) (λ i l. ap (λ (row : Row). record { remaining = 0; since = row .separation }) (same i l)))
 
   state-alike : (t : State) → legalState h t ≡ legalState (withRows h rows) t
@@ -89,15 +90,15 @@ module _ (h : Sheet) (rows : List Row) (same : (i : ℕ) → i < h .count → ro
       let o = ap₂ (λ (a : Outcome) (b : Outcome). orElse a (orElse (checkRoom (eqb (length rel) (h .count)) (length rel) (length cs)) b)) (check-alike t) (releases-alike t rel) in
       let u = upto-agree (h .count) (next (given h t rel)) (next (given (withRows h rows) t rel)) (t .rows) (λ i l. next-agrees i (given h t rel) (given (withRows h rows) t rel) (agree-below t rel i l) i (le-refl i)) in
       let d = upto-agree (h .count) (code (given h t rel)) (code (given (withRows h rows) t rel)) cs (λ i l. code-agrees i (given h t rel) (given (withRows h rows) t rel) (agree-below t rel i l) i (le-refl i)) in
-      λ j. handed (o j) (stateOf (u j), d j) (t, cs)
+      λ j. slotBy (o j) (stateOf (u j), d j) (t, cs)
 
-  onward-alike : (rel : List ℕ) (j : ℕ) (c : Course) → onward h rel j c ≡ onward (withRows h rows) rel j c
+  onward-alike : (rel : List ℕ) (j : ℕ) (c : RunAnswer State) → onward h rel j c ≡ onward (withRows h rows) rel j c
   unfolding onward slotAt
   onward-alike rel j c =
-      ap (λ (x : Outcome × (State × List ℕ)). pick (isAccepted (c .outcome)) (followed (c .done) (behind (take (j * h .count) (c .codes)) x)) c)
+      ap (λ (a : SlotAnswer State). pick (isAccepted (c .outcome)) (followed (c .done) (slotAnswer (a .outcome) (a .state) (take (j * h .count) (c .codes) ++ a .codes))) c)
       (slot-alike (c .state) (entriesOf (h .count) j rel) (drop (j * h .count) (c .codes)))
 
-  course-alike : (rel : List ℕ) (c : Course) (j : ℕ) → course h rel c j ≡ course (withRows h rows) rel c j
+  course-alike : (rel : List ℕ) (c : RunAnswer State) (j : ℕ) → course h rel c j ≡ course (withRows h rows) rel c j
   unfolding course
   course-alike rel c zero = refl
   course-alike rel c (suc j) = onward-alike rel j (course h rel c j) ∙ ap (onward (withRows h rows) rel j) (course-alike rel c j)
@@ -105,11 +106,8 @@ module _ (h : Sheet) (rows : List Row) (same : (i : ℕ) → i < h .count → ro
   run-alike : (t : State) (rel cs : List ℕ) → run h t rel cs ≡ run (withRows h rows) t rel cs
   unfolding run checkRun
   run-alike t rel cs =
-      ap (λ (o : Outcome). runBy (orElse o (checkRoom (eqb (length rel % h .count) 0) (length rel) (length cs))) h t rel cs) (check-alike t)
-      ∙ go (orElse (checkState (withRows h rows) t) (checkRoom (eqb (length rel % h .count) 0) (length rel) (length cs))) where
-        go : (o : Outcome) → runBy o h t rel cs ≡ runBy o (withRows h rows) t rel cs
-        go accepted = course-alike rel (notBegun accepted t cs) (length rel / h .count)
-        go (refused a b) = refl
+      ap (λ (o : Outcome). course h rel (runAnswer 0 (orElse o (checkRoom (eqb (length rel % h .count) 0) (length rel) (length cs))) t cs) (length rel / h .count)) (check-alike t)
+      ∙ course-alike rel _ (length rel / h .count)
 
 -- every answer
 module _ (h h′ : Sheet) (a : Alike h h′) where

@@ -10,7 +10,7 @@ use native.Mathlib.Omega.{arith}
 use native.Mathlib.Nat.{div-add-mod'}
 use borrow.Author.Tests.{leb-true, eqb-true}
 use Rattle.basis.specs.Limits.{mostRows}
-use Rattle.basis.specs.Refusals.{accepted, refused, outcome, needed, Outcome, handed}
+use Rattle.basis.specs.Refusals.{accepted, refused, outcome, needed, Outcome}
 use Rattle.basis.specs.declared.refusal.Refusal.{Refusal}
 use Rattle.basis.specs.declared.refusal.Refusal.the-variants.{Accepted, Refused}
 use Rattle.basis.proofs.First.{both-accepted}
@@ -19,8 +19,9 @@ use Rattle.sheet.specs.Legal.{legal}
 use Rattle.sheet.specs.declared.row.Sheet.{Sheet}
 use Rattle.machine.specs.States.{State, legalState}
 use Rattle.machine.specs.Checks.{checkReleases, checkState, checkRoom, checkSlot, checkRun}
-use Rattle.machine.specs.Answers.{nextState, nextCodes, slot, notBegun, course, run, Course}
+use Rattle.machine.specs.Answers.{SlotAnswer, RunAnswer, slotAnswer, runAnswer, nextState, nextCodes, slot, course, run}
 use Rattle.machine.proofs.Checked.{Ready, ready}
+use Rattle.machine.proofs.Courses.{stopped}
 
 -- what an accepted slot's checks have shown
 pub record Accepted-slot (h : Sheet) (t : State) (rel : List ℕ) (room : ℕ) : Type 0 where
@@ -44,7 +45,7 @@ slot-shows h t rel room e =
 
 -- `slot`
 module _ (h : Sheet) (t : State) (rel cs : List ℕ) (c : Refusal) (e : outcome c ≡ checkSlot h t rel (length cs)) where
-  pub slot-is-refused : (a b : ℕ) → c ≡ Refused a b → (refused a b, (t, cs)) ≡ slot h t rel cs
+  pub slot-is-refused : (a b : ℕ) → c ≡ Refused a b → slotAnswer (refused a b) t cs ≡ slot h t rel cs
   unfolding slot
   slot-is-refused a b f = rw (sym e ∙ ap outcome f)
 
@@ -61,20 +62,17 @@ module _ (h : Sheet) (t : State) (rel cs : List ℕ) (c : Refusal) (e : outcome 
     pub rows-in-buffer : h .count ≤ length cs
     rows-in-buffer = omega (arith, shown .long, shown .roomy)
 
-    pub slot-is-accepted : (u : State) (ds : List ℕ) → u ≡ nextState h t rel → ds ≡ nextCodes h t rel cs → (accepted, (u, ds)) ≡ slot h t rel cs
+    pub slot-is-accepted : (u : State) (ds : List ℕ) → u ≡ nextState h t rel → ds ≡ nextCodes h t rel cs → slotAnswer accepted u ds ≡ slot h t rel cs
     unfolding slot
     slot-is-accepted u ds eu ed = rw (sym e ∙ ap outcome f, eu, ed)
 
 -- a slot that is refused leaves all as found: the state, and every code
-handed-refused : {A : Type 0} (o : Outcome) (x y : A) (a b : ℕ) → handed o x y .0 ≡ refused a b → handed o x y .1 ≡ y
-handed-refused accepted x y a b e = let z : _≡_ {A = ℕ} 0 1 = cc in absurd (omega arith)
-handed-refused (refused c d) x y a b e = refl
-
-pub refused-as-found : (h : Sheet) (t : State) (rel cs : List ℕ) (a b : ℕ) (u : State) (ds : List ℕ) → (refused a b, (u, ds)) ≡ slot h t rel cs → (u ≡ t) × (ds ≡ cs)
+pub refused-as-found : (h : Sheet) (t : State) (rel cs : List ℕ) (a b : ℕ) (u : State) (ds : List ℕ) → slotAnswer (refused a b) u ds ≡ slot h t rel cs → (u ≡ t) × (ds ≡ cs)
 unfolding slot
 refused-as-found h t rel cs a b u ds e =
-    let as-found = handed-refused (checkSlot h t rel (length cs)) (nextState h t rel, nextCodes h t rel cs) (t, cs) a b (sym (ap (λ (x : Outcome × (State × List ℕ)). x .0) e)) in
-    (ap (λ (x : Outcome × (State × List ℕ)). x .1 .0) e ∙ ap (λ (x : State × List ℕ). x .0) as-found, ap (λ (x : Outcome × (State × List ℕ)). x .1 .1) e ∙ ap (λ (x : State × List ℕ). x .1) as-found)
+    let f : checkSlot h t rel (length cs) ≡ refused a b = sym (ap (λ (x : SlotAnswer State). x .outcome) e) in
+    let g : slotAnswer (refused a b) u ds ≡ slotAnswer (refused a b) t cs = rw f at e in
+    (ap (λ (x : SlotAnswer State). x .state) g, ap (λ (x : SlotAnswer State). x .codes) g)
 
 -- what the checks of a run that were passed have shown
 pub run-in-order-shows : (h : Sheet) (t : State) (rel : List ℕ) (room : ℕ) → checkRun h t rel room ≡ accepted → Ready h t
@@ -106,10 +104,10 @@ module _ (h : Sheet) (t : State) (rel : List ℕ) (room : ℕ) (c : Refusal) (e 
   run-buffer n = omega (arith, div-add-mod' (length rel) n, leb-true (length rel) room (parts .1))
 
 module _ (h : Sheet) (t : State) (rel cs : List ℕ) (c : Refusal) (e : outcome c ≡ checkRun h t rel (length cs)) where
-  pub run-is-refused : (a b : ℕ) → c ≡ Refused a b → notBegun (refused a b) t cs ≡ run h t rel cs
+  pub run-is-refused : (a b : ℕ) → c ≡ Refused a b → runAnswer 0 (refused a b) t cs ≡ run h t rel cs
   unfolding run
-  run-is-refused a b f = rw (sym e ∙ ap outcome f)
+  run-is-refused a b f = rw (sym e ∙ ap outcome f) (sym (stopped h rel (runAnswer 0 (refused a b) t cs) (length rel / h .count) a b refl))
 
-  pub run-is-done : c ≡ Accepted → (n : ℕ) → n ≡ h .count → (a : Course) → a ≡ course h rel (notBegun accepted t cs) (length rel / n) → a ≡ run h t rel cs
+  pub run-is-done : c ≡ Accepted → (n : ℕ) → n ≡ h .count → (a : RunAnswer State) → a ≡ course h rel (runAnswer 0 accepted t cs) (length rel / n) → a ≡ run h t rel cs
   unfolding run
-  run-is-done f n en a g = rw (sym e ∙ ap outcome f) (g ∙ ap (λ (m : ℕ). course h rel (notBegun accepted t cs) (length rel / m)) en)
+  run-is-done f n en a g = rw (sym e ∙ ap outcome f) (g ∙ ap (λ (m : ℕ). course h rel (runAnswer 0 accepted t cs) (length rel / m)) en)

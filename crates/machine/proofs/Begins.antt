@@ -22,7 +22,7 @@ use Rattle.sheet.proofs.Filling.{length-filled}
 use Rattle.records.specs.declared.record.RowState.{RowState}
 use Rattle.records.specs.Records.{noRecord}
 use Rattle.machine.specs.States.{noState, recordAt, freshAt, freshState}
-use Rattle.machine.specs.Answers.{fresh}
+use Rattle.machine.specs.Answers.{freshAnswer, fresh}
 use Rattle.machine.specs.Lists.{recordWide, stateLong, putRecord, putTo, putState, cleared, freshOn}
 use Rattle.machine.proofs.Stored.{put-more, put-agree}
 
@@ -46,7 +46,7 @@ fresh-more h l l₀ l′ i row so-far er e = e ∙ put-more i (freshAt h) l l₀
 
 -- `fresh_on`
 module _ (h : Sheet) (l : List ℕ) (fine : Bool) (e : fine ≡ legal h) where
-  pub fresh-on-10 : fine ≡ false → (refused 10 0, l) ≡ freshOn h l
+  pub fresh-on-10 : fine ≡ false → freshAnswer (refused 10 0) l ≡ freshOn h l
   unfolding freshOn fresh
   fresh-on-10 f = rw (sym e ∙ f)
 
@@ -57,14 +57,14 @@ module _ (h : Sheet) (l : List ℕ) (fine : Bool) (e : fine ≡ legal h) where
     pub fresh-scaled : Fits w64 (n * recordWide)
     fresh-scaled = record { fits = omega (arith, legal-is h yes .most-rows) }
 
-    pub fresh-on-15 : length l < stateLong n → (refused 15 0, l) ≡ freshOn h l
+    pub fresh-on-15 : length l < stateLong n → freshAnswer (refused 15 0) l ≡ freshOn h l
     unfolding freshOn fresh
     fresh-on-15 b = rw (yes, lt-leb (stateLong (h .count)) (length l) (omega arith))
 
     pub cleared-long : (l₁ : List ℕ) → stateLong n ≤ length l → l₁ ≡ filled (clearedCell 0 l) l → stateLong n ≤ length l₁
     cleared-long l₁ b c = omega (arith, ap length c, length-filled (clearedCell 0 l) l)
 
-    pub fresh-on-written : (l₁ l₂ : List ℕ) → stateLong n ≤ length l → l₁ ≡ filled (clearedCell 0 l) l → l₂ ≡ putTo n (freshAt h) l₁ → (accepted, l₂) ≡ freshOn h l
+    pub fresh-on-written : (l₁ l₂ : List ℕ) → stateLong n ≤ length l → l₁ ≡ filled (clearedCell 0 l) l → l₂ ≡ putTo n (freshAt h) l₁ → freshAnswer accepted l₂ ≡ freshOn h l
     unfolding freshOn fresh
     fresh-on-written l₁ l₂ b c d =
         let w : l₂ ≡ putState (h .count) (freshState h) (cleared l) = d ∙ ap₂ (λ (m : ℕ) (x : List ℕ). putTo m (freshAt h) x) en (all-cleared l l₁ c) ∙ fresh-put h (cleared l) yes in

@@ -17,7 +17,7 @@ use Rattle.records.specs.declared.record.RowState.{RowState}
 use Rattle.machine.specs.States.{State, recordAt}
 use Rattle.records.specs.Steps.{worked}
 use Rattle.machine.specs.Slot.{runs}
-use Rattle.machine.specs.Answers.{given, slot, marginOf}
+use Rattle.machine.specs.Answers.{slotAnswer, given, slot, marginOf}
 use Rattle.machine.proofs.Jobs.{JobSlot, job-slot, job-finished, job-missed, job-left, job-older}
 use Rattle.machine.proofs.Ranges.{negative-late, zero-just}
 use Rattle.records.proofs.Records.{worked-least, worked-one, worked-none}
@@ -28,7 +28,7 @@ pub record Continuation (h : Sheet) (n : ℕ) : Type 0 where
   pub releases : ℕ → List ℕ
   pub room : ℕ → List ℕ
   pub codes : ℕ → List ℕ
-  pub each : (j : ℕ) → j < n → slot h (state j) (releases j) (room j) ≡ (accepted, (state (suc j), codes j))
+  pub each : (j : ℕ) → j < n → slot h (state j) (releases j) (room j) ≡ slotAnswer accepted (state (suc j)) (codes j)
 
 module _ (h : Sheet) (n : ℕ) (g : Continuation h n) (k : ℕ) (there : k < h .count) where
   open Continuation g using (state, releases, room, codes, each)

@@ -8,15 +8,15 @@ use mathlib.Core.Logic.{⊎-elim}
 use lib.ListN.{length, replicate, List·getD-eq-default}
 use lib.Dec.{leb, eqb}
 use native.Mathlib.Omega.{arith}
-use borrow.Author.Tests.{le-leb, leb-true, eqb-true}
+use borrow.Author.Tests.{le-leb, eq-eqb, leb-true, eqb-true}
 use Rattle.basis.specs.Limits.{mostRows}
 use Rattle.basis.specs.Words.{pick}
-use Rattle.basis.specs.Refusals.{Outcome, accepted, refused, outcome, orElse, needed, handed}
+use Rattle.basis.specs.Refusals.{Outcome, accepted, refused, outcome, orElse, needed}
 use Rattle.basis.specs.Upto.{upto}
 use Rattle.basis.proofs.First.{both-accepted}
 use Rattle.basis.proofs.Lists.{getD-all}
 use Rattle.basis.proofs.Words.{lt-or-le}
-use Rattle.basis.proofs.Refusals.{needed-holds, handed-outcome}
+use Rattle.basis.proofs.Refusals.{needed-holds}
 use Rattle.sheet.specs.Legal.{legal}
 use Rattle.sheet.specs.declared.row.Sheet.{Sheet}
 use Rattle.sheet.proofs.Legality.{legal-is}
@@ -25,10 +25,11 @@ use Rattle.sheet.proofs.Filling.{length-filled}
 use Rattle.machine.specs.States.{State, stateOf, recordAt, freshAt, freshState, legalState}
 use Rattle.machine.specs.declared.places.Done.{Done}
 use Rattle.machine.specs.Checks.{checkSlot, checkRun}
-use Rattle.machine.specs.Answers.{fresh, nextState, nextCodes, slot, Course, notBegun, course, run}
-use Rattle.machine.specs.Lists.{stateLong, stateIn, putState, cleared, freshOn, slotListed, slotIn, runIn, ranIn, courseIn}
+use Rattle.machine.specs.Answers.{RunAnswer, freshAnswer, runAnswer, fresh, nextState, nextCodes, slotBy, slot, run}
+use Rattle.machine.specs.Lists.{stateLong, stateIn, putState, cleared, freshOn, slotListed, slotIn, runIn, ranIn}
 use Rattle.machine.proofs.Checked.{Ready}
 use Rattle.machine.proofs.Answered.{slot-shows, run-in-order-shows}
+use Rattle.machine.proofs.Done.{run-not-begun}
 use Rattle.machine.proofs.Laws.{run-keeps-legal, run-keeps-long}
 use Rattle.machine.proofs.Held.{kept-spare, past-is-zero, state-comes-back}
 use Rattle.machine.proofs.Stored.{put-past, state-rows-long, state-put, zeros-spare, zeros-state, cleared-none}
@@ -44,71 +45,68 @@ written-fresh h l fine room =
     ∙ ap (λ (t : State). stateOf (upto (h .count) (freshAt h) (t .rows))) (zeros-state (cleared l) (cleared-none l))
 
 -- An accepted fresh: the list hands over the fresh state.
-pub fresh-on-state : (h : Sheet) (l : List ℕ) → freshOn h l .0 ≡ accepted → stateIn (freshOn h l .1) ≡ fresh h .1
+pub fresh-on-state : (h : Sheet) (l : List ℕ) → freshOn h l .outcome ≡ accepted → stateIn (freshOn h l .state) ≡ fresh h .state
 unfolding freshOn fresh
 fresh-on-state h l e =
-    let o : orElse (needed (legal h) 10) (needed (leb (stateLong (h .count)) (length l)) 15) ≡ accepted = sym (handed-outcome _ _ _) ∙ e in
+    let o : orElse (needed (legal h) 10) (needed (leb (stateLong (h .count)) (length l)) 15) ≡ accepted = e in
     let (a, b) = both-accepted (needed (legal h) 10) _ o in
     let fine = needed-holds (legal h) 10 a in
     let room = leb-true (stateLong (h .count)) (length l) (needed-holds _ 15 b) in
     rw (fine, le-leb (stateLong (h .count)) (length l) room) (written-fresh h l fine room)
 
 -- in a list of zeros with room for every record it is never refused for want of room
-pub fresh-of-zeros : (h : Sheet) → (freshOn h (replicate (stateLong mostRows) 0) .0, stateIn (freshOn h (replicate (stateLong mostRows) 0) .1)) ≡ fresh h
+pub fresh-of-zeros : (h : Sheet) → freshAnswer (freshOn h (replicate (stateLong mostRows) 0) .outcome) (stateIn (freshOn h (replicate (stateLong mostRows) 0) .state)) ≡ fresh h
 unfolding freshOn fresh
 fresh-of-zeros h = go (legal h) refl
   where
-    go : (b : Bool) → legal h ≡ b → (freshOn h (replicate (stateLong mostRows) 0) .0, stateIn (freshOn h (replicate (stateLong mostRows) 0) .1)) ≡ fresh h
+    go : (b : Bool) → legal h ≡ b → freshAnswer (freshOn h (replicate (stateLong mostRows) 0) .outcome) (stateIn (freshOn h (replicate (stateLong mostRows) 0) .state)) ≡ fresh h
     go true e =
         let room : stateLong (h .count) ≤ stateLong mostRows = omega (arith, legal-is h e .most-rows) in
-        rw (e, le-leb (stateLong (h .count)) (stateLong mostRows) room) (ap (λ (t : State). (accepted, t)) (written-fresh h (replicate (stateLong mostRows) 0) e room))
+        rw (e, le-leb (stateLong (h .count)) (stateLong mostRows) room) (ap (freshAnswer accepted) (written-fresh h (replicate (stateLong mostRows) 0) e room))
     go false e =
-        rw e (ap (λ (t : State). (refused 10 0, t)) (zeros-state (replicate (stateLong mostRows) 0) (λ i. getD-all (stateLong mostRows) i 0)))
+        rw e (ap (freshAnswer (refused 10 0)) (zeros-state (replicate (stateLong mostRows) 0) (λ i. getD-all (stateLong mostRows) i 0)))
 
 -- A slot: the list hands over the state that the slot by value hands back.
-pub slot-in-state : (h : Sheet) (l rel cs : List ℕ) → stateIn (slotIn h l rel cs .1 .0) ≡ slot h (stateIn l) rel cs .1 .0
+pub slot-in-state : (h : Sheet) (l rel cs : List ℕ) → stateIn (slotIn h l rel cs .state) ≡ slot h (stateIn l) rel cs .state
 unfolding slotIn slot
 slot-in-state h l rel cs = go (checkSlot h (stateIn l) rel (length cs)) refl
   where
     next : State × List ℕ
     next = (nextState h (stateIn l) rel, nextCodes h (stateIn l) rel cs)
 
-    go : (o : Outcome) → checkSlot h (stateIn l) rel (length cs) ≡ o → stateIn (slotListed (h .count) (handed o next (stateIn l, cs)) l .1 .0) ≡ handed o next (stateIn l, cs) .1 .0
+    go : (o : Outcome) → checkSlot h (stateIn l) rel (length cs) ≡ o → stateIn (slotListed (h .count) (slotBy o next (stateIn l, cs)) l .state) ≡ slotBy o next (stateIn l, cs) .state
     go accepted e = let shown = slot-shows h (stateIn l) rel (length cs) e .in-order in moved-back h l rel (shown .sheet-legal) (shown .state-legal)
     go (refused a b) e = refl
 
 -- A run: the list hands over the state after the run by value.
-pub run-in-state : (h : Sheet) (l rel cs : List ℕ) → stateIn (runIn h l rel cs .1 .0) ≡ run h (stateIn l) rel cs .state
+pub run-in-state : (h : Sheet) (l rel cs : List ℕ) → stateIn (runIn h l rel cs .state) ≡ run h (stateIn l) rel cs .state
 unfolding runIn run
 run-in-state h l rel cs = go (checkRun h (stateIn l) rel (length cs)) refl
   where
-    go : (o : Outcome) → checkRun h (stateIn l) rel (length cs) ≡ o → stateIn (runIn h l rel cs .1 .0) ≡ run h (stateIn l) rel cs .state
-    go (refused a b) e = rw e
+    none : run h (stateIn l) rel cs .done ≡ 0 → run h (stateIn l) rel cs .state ≡ stateIn l
+    none z = course-none h rel (runAnswer 0 (checkRun h (stateIn l) rel (length cs)) (stateIn l) cs) (length rel / h .count) z
+
+    go : (o : Outcome) → checkRun h (stateIn l) rel (length cs) ≡ o → stateIn (runIn h l rel cs .state) ≡ run h (stateIn l) rel cs .state
+    go (refused a b) e =
+        let z : run h (stateIn l) rel cs .done ≡ 0 = ap (λ (x : RunAnswer State). x .done) (run-not-begun h (stateIn l) rel cs a b e) in
+        rw (eq-eqb (run h (stateIn l) rel cs .done) 0 z) (sym (none z))
     go accepted e = by (eqb (run h (stateIn l) rel cs .done) 0) refl
       where
         shown : Ready h (stateIn l)
         shown = run-in-order-shows h (stateIn l) rel (length cs) e
 
-        same : run h (stateIn l) rel cs ≡ course h rel (notBegun accepted (stateIn l) cs) (length rel / h .count)
-        same = rw e
-
         by : (b : Bool) → eqb (run h (stateIn l) rel cs .done) 0 ≡ b → stateIn (pick b l (putState (h .count) (run h (stateIn l) rel cs .state) l)) ≡ run h (stateIn l) rel cs .state
-        by true z =
-            sym (ap (λ (c : Course). c .state) same
-            ∙ course-none h rel (stateIn l) cs (length rel / h .count) (sym (ap (λ (c : Course). c .done) same) ∙ eqb-true (run h (stateIn l) rel cs .done) 0 z))
+        by true z = sym (none (eqb-true (run h (stateIn l) rel cs .done) 0 z))
         by false z =
             state-comes-back h l (run h (stateIn l) rel cs .state) (shown .sheet-legal) (shown .state-legal) (run-keeps-legal h (stateIn l) rel cs (shown .state-legal))
             (run-keeps-long h (stateIn l) rel cs (state-rows-long l (kept-spare h l (shown .sheet-legal) (shown .state-legal))))
 
 -- so a run on a list is the run by value
-pub run-listed-back : (h : Sheet) (l rel cs : List ℕ) (r : Done) (l′ ds : List ℕ) → (ranIn r, (l′, ds)) ≡ runIn h l rel cs → courseIn r (stateIn l′) ds ≡ run h (stateIn l) rel cs
+pub run-listed-back : (h : Sheet) (l rel cs : List ℕ) (r : Done) (l′ ds : List ℕ) → ranIn r l′ ds ≡ runIn h l rel cs → ranIn r (stateIn l′) ds ≡ run h (stateIn l) rel cs
 unfolding runIn
 run-listed-back h l rel cs r l′ ds e =
-    let d : r .done ≡ run h (stateIn l) rel cs .done = ap (λ (x : (ℕ × Outcome) × (List ℕ × List ℕ)). x .0 .0) e in
-    let o : outcome (r .refusal) ≡ run h (stateIn l) rel cs .outcome = ap (λ (x : (ℕ × Outcome) × (List ℕ × List ℕ)). x .0 .1) e in
-    let t : stateIn l′ ≡ run h (stateIn l) rel cs .state = ap (λ (x : (ℕ × Outcome) × (List ℕ × List ℕ)). stateIn (x .1 .0)) e ∙ run-in-state h l rel cs in
-    let c : ds ≡ run h (stateIn l) rel cs .codes = ap (λ (x : (ℕ × Outcome) × (List ℕ × List ℕ)). x .1 .1) e in
-    λ i. record { done = d i; outcome = o i; state = t i; codes = c i }
+    let t : stateIn l′ ≡ run h (stateIn l) rel cs .state = ap (λ (x : RunAnswer (List ℕ)). stateIn (x .state)) e ∙ run-in-state h l rel cs in
+    λ i. runAnswer (e i .done) (e i .outcome) (t i) (e i .codes)
 
 -- Past the records of the rows every number is zero: after an accepted fresh, which has cleared the list,
 pub fresh-past-is-zero : (n : ℕ) (t : State) (l : List ℕ) (i : ℕ) → stateLong n ≤ i → numberAt (putState n t (cleared l)) i ≡ 0

@@ -19,7 +19,7 @@ use Rattle.records.specs.Steps.{released, worked, aged, missed, ended, codeOf}
 use Rattle.machine.specs.Slot.{begun, runs}
 use Rattle.records.specs.Checks.{checkRow}
 use Rattle.machine.specs.Checks.{checkAt, checkReleases}
-use Rattle.machine.specs.Answers.{given, slot}
+use Rattle.machine.specs.Answers.{SlotAnswer, slotAnswer, given, slot}
 use Rattle.machine.proofs.Agree.{slot-passed, record-after, code-after}
 use Rattle.machine.proofs.Answered.{slot-shows}
 use Rattle.machine.proofs.Legals.{legal-state-is}
@@ -58,10 +58,10 @@ no-release : (row : Row) (s : RowState) (r k : ℕ) → s .since < row .separati
 no-release row s zero k l e = released-none s
 no-release row s (suc r) k l e = absurd (omega (arith, release-allowed row s (suc r) k (omega arith) e .1))
 
-pub job-slot : (h : Sheet) (t : State) (rel cs : List ℕ) (u : State) (ds : List ℕ) (k : ℕ) → slot h t rel cs ≡ (accepted, (u, ds)) → k < h .count → 1 ≤ recordAt t k .remaining → JobSlot h t rel u ds k
+pub job-slot : (h : Sheet) (t : State) (rel cs : List ℕ) (u : State) (ds : List ℕ) (k : ℕ) → slot h t rel cs ≡ slotAnswer accepted u ds → k < h .count → 1 ≤ recordAt t k .remaining → JobSlot h t rel u ds k
 unfolding checkReleases given
 job-slot h t rel cs u ds k e l j =
-    let f : slot h t rel cs .0 ≡ accepted = ap (λ x. x .0) e in
+    let f : slot h t rel cs .outcome ≡ accepted = ap (λ x. x .outcome) e in
     let shown = slot-shows h t rel (length cs) (slot-passed h t rel cs f) in
     let row = legal-is h (shown .in-order .sheet-legal) .rows k l in
     let legal-k = legal-state-is h t (shown .in-order .most-rows) (shown .in-order .state-legal) .rows k l in
@@ -71,6 +71,6 @@ job-slot h t rel cs u ds k e l j =
     record {
       in-time = soon;
       young = young;
-      code-is = ap (λ x. getD (x .1 .1) k 0) (sym e) ∙ code-after h t rel cs f k l ∙ ap (λ (s : RowState). codeOf (rowAt h k) (runs (given h t rel) k) s (aged (rowAt h k) (worked (runs (given h t rel) k) s))) same;
-      record-is = ap (λ x. recordAt (x .1 .0) k) (sym e) ∙ record-after h t rel cs f k l ∙ ap (λ (s : RowState). ended (rowAt h k) (aged (rowAt h k) (worked (runs (given h t rel) k) s))) same;
+      code-is = ap (λ (x : SlotAnswer State). getD (x .codes) k 0) (sym e) ∙ code-after h t rel cs f k l ∙ ap (λ (s : RowState). codeOf (rowAt h k) (runs (given h t rel) k) s (aged (rowAt h k) (worked (runs (given h t rel) k) s))) same;
+      record-is = ap (λ (x : SlotAnswer State). recordAt (x .state) k) (sym e) ∙ record-after h t rel cs f k l ∙ ap (λ (s : RowState). ended (rowAt h k) (aged (rowAt h k) (worked (runs (given h t rel) k) s))) same;
     }

@@ -17,7 +17,8 @@ use Rattle.machine.specs.States.{State, recordAt, legalState}
 use Rattle.records.specs.Records.{hasJob}
 use Rattle.records.specs.Checks.{checkRow}
 use Rattle.machine.specs.Checks.{checkAt, checkReleases, checkState, checkRoom, checkSlot, checkRun, checkMargin}
-use Rattle.machine.specs.Answers.{fresh, slot, entriesOf, slotAt, Course, followed, onward, course, notBegun, runBy, run, no-job, margin-is, refused-by, marginOf, marginAt, marginBy, margin}
+use Rattle.machine.specs.Answers.{RunAnswer, runAnswer, fresh, slot, entriesOf, slotAt, onward, course, run, no-job, margin-is, refused-by, marginOf, marginAt, marginBy, margin}
+use Rattle.machine.proofs.Courses.{followed}
 use Rattle.machine.proofs.Agree.{slot-outcome}
 
 -- the table's lines for calls of the machine, with n rows: number and place
@@ -79,42 +80,31 @@ check-listed h t rel room =
     (first-listed (h .count) (checkAt h t rel) (λ i l. row-listed (rowAt h i) (recordAt t i) (getD rel i 0) i l)))
 
 -- each call's refusals
-pub fresh-refusals : (h : Sheet) → Listed (h .count) (fresh h .0)
+pub fresh-refusals : (h : Sheet) → Listed (h .count) (fresh h .outcome)
 unfolding fresh
 fresh-refusals h = needed-listed (legal h) 10 sheet-not-legal
 
-pub slot-refusals : (h : Sheet) (t : State) (rel cs : List ℕ) → Listed (h .count) (slot h t rel cs .0)
+pub slot-refusals : (h : Sheet) (t : State) (rel cs : List ℕ) → Listed (h .count) (slot h t rel cs .outcome)
 slot-refusals h t rel cs = rw slot-outcome (check-listed h t rel (length cs))
 
 -- of a run: those of its checks and those of its slots
-followed-outcome : (done : ℕ) (x : Outcome × (State × List ℕ)) → followed done x .outcome ≡ x .0
-followed-outcome done (accepted, (t, cs)) = refl
-followed-outcome done (refused a b, (t, cs)) = refl
-
-slot-at-outcome : (h : Sheet) (t : State) (rel cs : List ℕ) (j : ℕ) → slotAt h t rel cs j .0 ≡ slot h t (entriesOf (h .count) j rel) (drop (j * h .count) cs) .0
-unfolding slotAt
-slot-at-outcome h t rel cs j = refl
-
-course-listed : (h : Sheet) (rel : List ℕ) (t : State) (cs : List ℕ) (j : ℕ) → Listed (h .count) (course h rel (notBegun accepted t cs) j .outcome)
-unfolding course onward
-course-listed h rel t cs zero = accepted-listed
-course-listed h rel t cs (suc j) = go (course h rel (notBegun accepted t cs) j) (course-listed h rel t cs j)
+course-listed : (h : Sheet) (rel : List ℕ) (first : RunAnswer State) (j : ℕ) → Listed (h .count) (first .outcome) → Listed (h .count) (course h rel first j .outcome)
+unfolding course onward slotAt
+course-listed h rel first zero l = l
+course-listed h rel first (suc j) l = go (course h rel first j) (course-listed h rel first j l)
   where
-    go : (c : Course) → Listed (h .count) (c .outcome) → Listed (h .count) (onward h rel j c .outcome)
-    go c l = by (isAccepted (c .outcome))
+    go : (c : RunAnswer State) → Listed (h .count) (c .outcome) → Listed (h .count) (onward h rel j c .outcome)
+    go c m = by (isAccepted (c .outcome))
       where
         by : (b : Bool) → Listed (h .count) (pick b (followed (c .done) (slotAt h (c .state) rel (c .codes) j)) c .outcome)
-        by true = rw (followed-outcome, slot-at-outcome) (slot-refusals h (c .state) (entriesOf (h .count) j rel) (drop (j * h .count) (c .codes)))
-        by false = l
+        by true = slot-refusals h (c .state) (entriesOf (h .count) j rel) (drop (j * h .count) (c .codes))
+        by false = m
 
 pub run-refusals : (h : Sheet) (t : State) (rel cs : List ℕ) → Listed (h .count) (run h t rel cs .outcome)
 unfolding run checkRun
 run-refusals h t rel cs =
-    go (orElse (checkState h t) (checkRoom (eqb (length rel % h .count) 0) (length rel) (length cs)))
-    (or-listed (checkState h t) _ (state-listed h t) (room-listed (eqb (length rel % h .count) 0) (length rel) (length cs))) where
-      go : (o : Outcome) → Listed (h .count) o → Listed (h .count) (runBy o h t rel cs .outcome)
-      go accepted l = course-listed h rel t cs (length rel / h .count)
-      go (refused a b) l = l
+    course-listed h rel _ (length rel / h .count)
+    (or-listed (checkState h t) _ (state-listed h t) (room-listed (eqb (length rel % h .count) 0) (length rel) (length cs)))
 
 pub margin-refusals : (h : Sheet) (t : State) (k : ℕ) {a b : ℕ} → margin h t k ≡ refused-by a b → InTable (h .count) a b
 unfolding margin checkMargin marginAt

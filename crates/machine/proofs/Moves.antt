@@ -28,13 +28,13 @@ use Rattle.machine.specs.declared.places.Done.{Done}
 use Rattle.machine.specs.Slot.{freeAt, free, next, code}
 use Rattle.records.specs.Checks.{checkRow}
 use Rattle.machine.specs.Checks.{checkAt, checkReleases, checkState, checkSlot, checkRun}
-use Rattle.machine.specs.Answers.{given, nextState, nextCodes, slot, entriesOf, slotAt, Course, followed, onward, course, notBegun}
+use Rattle.machine.specs.Answers.{SlotAnswer, RunAnswer, slotAnswer, runAnswer, given, nextState, nextCodes, slot, entriesOf, slotAt, onward, course}
 use Rattle.records.specs.Methods.{begunRow, steppedRow}
-use Rattle.machine.specs.Lists.{recordIn, stateIn, putRecord, putTo, putState, slotListed, slotIn, runListed, runIn, ranIn, courseIn}
+use Rattle.machine.specs.Lists.{recordIn, stateIn, putRecord, putTo, putState, slotListed, slotIn, runListed, runIn, ranIn}
 use Rattle.machine.proofs.Turns.{check-more, check-found}
 use Rattle.machine.proofs.Checked.{ready}
-use Rattle.machine.proofs.Answered.{Accepted-slot, slot-shows, slot-is-refused, slot-is-accepted, refused-as-found, run-sheet, run-state, run-is-refused, run-is-done}
-use Rattle.machine.proofs.Courses.{part-holds, rest-holds, slot-at-accepted}
+use Rattle.machine.proofs.Answered.{Accepted-slot, slot-shows, slot-is-refused, slot-is-accepted, run-sheet, run-state, run-is-refused, run-is-done}
+use Rattle.machine.proofs.Courses.{followed, part-holds, rest-holds, slot-at-accepted}
 use Rattle.machine.proofs.Kept.{next-at, next-legal}
 use Rattle.machine.proofs.Legals.{legal-state-is, legal-state-says}
 use Rattle.machine.proofs.Held.{kept-spare, kept-long, kept-record, list-of-kept}
@@ -139,7 +139,7 @@ module _ (h : Sheet) (l rel cs : List ℕ) (j n : ℕ) (en : n ≡ h .count) (fi
   module _ (c : Refusal) (e : outcome c ≡ checkReleases h (stateIn l) (take (j * n + n - j * n) (drop (j * n) rel))) (f : c ≡ Accepted)
       (l′ : List ℕ) (moved : l′ ≡ putTo n (next (given h (stateIn l) (take (j * n + n - j * n) (drop (j * n) rel)))) l) where
     pub part-accepted : (ds : List ℕ) → ds ≡ nextCodes h (stateIn l) (take (j * n + n - j * n) (drop (j * n) rel)) (take (length cs - j * n) (drop (j * n) cs))
-        → (accepted, (stateIn l′, putMid (j * n) (length cs - j * n) cs ds)) ≡ slotAt h (stateIn l) rel cs j
+        → slotAnswer accepted (stateIn l′) (putMid (j * n) (length cs - j * n) cs ds) ≡ slotAt h (stateIn l) rel cs j
     part-accepted ds ed =
         slot-at-accepted h (stateIn l) rel cs j n en fine kept list buffer c e (stateIn l′) ds f (moved-state h l _ fine kept n en l′ moved) ed
 
@@ -174,9 +174,9 @@ module _ (h : Sheet) (t : State) (c : Refusal) (e : outcome c ≡ checkState h t
 
 -- `slot_on`
 module _ (h : Sheet) (l rel cs : List ℕ) (c : Refusal) (e : outcome c ≡ checkSlot h (stateIn l) rel (length cs)) where
-  pub slot-in-refused : (a b : ℕ) → c ≡ Refused a b → (refused a b, (l, cs)) ≡ slotIn h l rel cs
+  pub slot-in-refused : (a b : ℕ) → c ≡ Refused a b → slotAnswer (refused a b) l cs ≡ slotIn h l rel cs
   unfolding slotIn
-  slot-in-refused a b f = ap (λ (x : Outcome × (State × List ℕ)). slotListed (h .count) x l) (slot-is-refused h (stateIn l) rel cs c e a b f)
+  slot-in-refused a b f = ap (λ (x : SlotAnswer State). slotListed (h .count) x l) (slot-is-refused h (stateIn l) rel cs c e a b f)
 
   module _ (f : c ≡ Accepted) where
     did : Accepted-slot h (stateIn l) rel (length cs)
@@ -195,43 +195,42 @@ module _ (h : Sheet) (l rel cs : List ℕ) (c : Refusal) (e : outcome c ≡ chec
       pub slot-codes : n ≤ length cs
       slot-codes = omega (arith, did .long, did .roomy)
 
-      pub slot-in-accepted : (l′ ds : List ℕ) → l′ ≡ putTo n (next (given h (stateIn l) rel)) l → ds ≡ nextCodes h (stateIn l) rel cs → (accepted, (l′, ds)) ≡ slotIn h l rel cs
+      pub slot-in-accepted : (l′ ds : List ℕ) → l′ ≡ putTo n (next (given h (stateIn l) rel)) l → ds ≡ nextCodes h (stateIn l) rel cs → slotAnswer accepted l′ ds ≡ slotIn h l rel cs
       unfolding slotIn
       slot-in-accepted l′ ds moved ed =
-          ap (λ (x : List ℕ). (accepted, (x, ds))) (moved-list h l rel slot-sheet slot-state n en l′ moved)
-          ∙ ap (λ (x : Outcome × (State × List ℕ)). slotListed (h .count) x l) (slot-is-accepted h (stateIn l) rel cs c e f (nextState h (stateIn l) rel) ds refl ed)
+          ap (λ (x : List ℕ). slotAnswer accepted x ds) (moved-list h l rel slot-sheet slot-state n en l′ moved)
+          ∙ ap (λ (x : SlotAnswer State). slotListed (h .count) x l) (slot-is-accepted h (stateIn l) rel cs c e f (nextState h (stateIn l) rel) ds refl ed)
 
--- a run that has done no slot has changed nothing
-slot-kept : (h : Sheet) (t : State) (rel cs : List ℕ) (j a b : ℕ) (u : State) (ds : List ℕ) → slotAt h t rel cs j ≡ (refused a b, (u, ds)) → u ≡ t
-unfolding slotAt
-slot-kept h t rel cs j a b u ds e =
-    refused-as-found h t (entriesOf (h .count) j rel) (drop (j * h .count) cs) a b u (slot h t (entriesOf (h .count) j rel) (drop (j * h .count) cs) .1 .1)
-    (λ i. (sym e i .0, (sym e i .1 .0, slot h t (entriesOf (h .count) j rel) (drop (j * h .count) cs) .1 .1))) .0
+-- a refused slot leaves the state as it was
+slot-kept : (h : Sheet) (t : State) (rel cs : List ℕ) (j a b : ℕ) → slotAt h t rel cs j .outcome ≡ refused a b → slotAt h t rel cs j .state ≡ t
+unfolding slotAt slot
+slot-kept h t rel cs j a b e = rw e
 
-pub course-none : (h : Sheet) (rel : List ℕ) (t : State) (cs : List ℕ) (j : ℕ) → course h rel (notBegun accepted t cs) j .done ≡ 0 → course h rel (notBegun accepted t cs) j .state ≡ t
+-- so a run that has done no slot has changed nothing
+pub course-none : (h : Sheet) (rel : List ℕ) (first : RunAnswer State) (j : ℕ) → course h rel first j .done ≡ 0 → course h rel first j .state ≡ first .state
 unfolding course onward
-course-none h rel t cs zero e = refl
-course-none h rel t cs (suc j) e = go (course h rel (notBegun accepted t cs) j) (course-none h rel t cs j) e
+course-none h rel first zero e = refl
+course-none h rel first (suc j) e = go (course h rel first j) (course-none h rel first j) e
   where
-    go : (c : Course) → (c .done ≡ 0 → c .state ≡ t) → onward h rel j c .done ≡ 0 → onward h rel j c .state ≡ t
+    go : (c : RunAnswer State) → (c .done ≡ 0 → c .state ≡ first .state) → onward h rel j c .done ≡ 0 → onward h rel j c .state ≡ first .state
     go c so = by (isAccepted (c .outcome))
       where
-        at : (x : Outcome × (State × List ℕ)) → slotAt h (c .state) rel (c .codes) j ≡ x → followed (c .done) x .done ≡ 0 → followed (c .done) x .state ≡ t
-        at (accepted, (u, ds)) g z = absurd (omega arith)
-        at (refused a b, (u, ds)) g z = slot-kept h (c .state) rel (c .codes) j a b u ds g ∙ so z
+        at : (o : Outcome) → slotAt h (c .state) rel (c .codes) j .outcome ≡ o → pick (isAccepted o) (c .done + 1) (c .done) ≡ 0 → slotAt h (c .state) rel (c .codes) j .state ≡ first .state
+        at accepted g z = absurd (omega arith)
+        at (refused a b) g z = slot-kept h (c .state) rel (c .codes) j a b g ∙ so z
 
-        by : (b : Bool) → pick b (followed (c .done) (slotAt h (c .state) rel (c .codes) j)) c .done ≡ 0 → pick b (followed (c .done) (slotAt h (c .state) rel (c .codes) j)) c .state ≡ t
-        by true = at (slotAt h (c .state) rel (c .codes) j) refl
+        by : (b : Bool) → pick b (followed (c .done) (slotAt h (c .state) rel (c .codes) j)) c .done ≡ 0 → pick b (followed (c .done) (slotAt h (c .state) rel (c .codes) j)) c .state ≡ first .state
+        by true = at (slotAt h (c .state) rel (c .codes) j .outcome) refl
         by false = so
 
 -- `run_on`
 module _ (h : Sheet) (l rel cs : List ℕ) (c : Refusal) (e : outcome c ≡ checkRun h (stateIn l) rel (length cs)) where
-  pub run-in-refused : (a b : ℕ) → c ≡ Refused a b → _≡_ {A = (ℕ × Outcome) × (List ℕ × List ℕ)} ((0, refused a b), (l, cs)) (runIn h l rel cs)
+  pub run-in-refused : (a b : ℕ) → c ≡ Refused a b → runAnswer 0 (refused a b) l cs ≡ runIn h l rel cs
   unfolding runIn
-  run-in-refused a b f = ap (λ (x : Course). runListed (h .count) x l) (run-is-refused h (stateIn l) rel cs c e a b f)
+  run-in-refused a b f = ap (λ (x : RunAnswer State). runListed (h .count) x l) (run-is-refused h (stateIn l) rel cs c e a b f)
 
   module _ (f : c ≡ Accepted) (n : ℕ) (en : n ≡ h .count) (r : Done) (l′ ds : List ℕ)
-      (er : courseIn r (stateIn l′) ds ≡ course h rel (notBegun accepted (stateIn l) cs) (length rel / n)) (kept′ : legalState h (stateIn l′) ≡ true) (long : length l′ ≡ length l) where
+      (er : ranIn r (stateIn l′) ds ≡ course h rel (runAnswer 0 accepted (stateIn l) cs) (length rel / n)) (kept′ : legalState h (stateIn l′) ≡ true) (long : length l′ ≡ length l) where
     fine : legal h ≡ true
     fine = run-sheet h (stateIn l) rel (length cs) c e f
 
@@ -244,15 +243,15 @@ module _ (h : Sheet) (l rel cs : List ℕ) (c : Refusal) (e : outcome c ≡ chec
     none-done : r .done ≡ 0 → l′ ≡ l
     none-done z =
         let u : stateIn l′ ≡ stateIn l =
-        ap (λ (x : Course). x .state) er ∙ course-none h rel (stateIn l) cs (length rel / n) (sym (ap (λ (x : Course). x .done) er) ∙ z) in
+        ap (λ (x : RunAnswer State). x .state) er ∙ course-none h rel (runAnswer 0 accepted (stateIn l) cs) (length rel / n) (sym (ap (λ (x : RunAnswer State). x .done) er) ∙ z) in
         sym same-list ∙ ap (λ (t : State). putState (h .count) t l) u ∙ list-of-kept h l l fine kept kept refl
 
     picked : (b : Bool) → eqb (r .done) 0 ≡ b → l′ ≡ pick b l (putState (h .count) (stateIn l′) l)
     picked true g = none-done (eqb-true (r .done) 0 g)
     picked false g = sym same-list
 
-    pub run-in-done : (ranIn r, (l′, ds)) ≡ runIn h l rel cs
+    pub run-in-done : ranIn r l′ ds ≡ runIn h l rel cs
     unfolding runIn
     run-in-done =
-        ap (λ (x : List ℕ). (ranIn r, (x, ds))) (picked (eqb (r .done) 0) refl)
-        ∙ ap (λ (x : Course). runListed (h .count) x l) (run-is-done h (stateIn l) rel cs c e f n en (courseIn r (stateIn l′) ds) er)
+        ap (λ (x : List ℕ). ranIn r x ds) (picked (eqb (r .done) 0) refl)
+        ∙ ap (λ (x : RunAnswer State). runListed (h .count) x l) (run-is-done h (stateIn l) rel cs c e f n en (ranIn r (stateIn l′) ds) er)

@@ -1,10 +1,10 @@
 -- Equal answers: what an answer stands for is one value of the code, and any two answers that a promise allows are equal.
 -- Assumes nothing.
 use Prim.Native.Nat.{ℕ}
-use mathlib.Core.Path.{_≡_, refl, sym, ap, ap₂, _∙_}
+use mathlib.Core.Path.{_≡_, refl, sym, ap, _∙_}
 use mathlib.Core.List.{List}
 use native.Mathlib.Omega.{arith}
-use Rattle.basis.specs.Refusals.{Outcome, outcome}
+use Rattle.basis.specs.Refusals.{outcome}
 use Rattle.basis.specs.declared.refusal.Refusal.{Refusal}
 use Rattle.basis.proofs.Refusals.{outcome-one-to-one}
 use Rattle.sheet.specs.declared.row.Sheet.{Sheet}
@@ -14,41 +14,38 @@ use Rattle.machine.specs.declared.margins.Margin.{Margin}
 use Rattle.machine.specs.declared.margins.Margin.the-variants.{NoJob, Is, Refused}
 use Rattle.machine.specs.Lists.{stateIn, freshOn, slotIn, runIn, ranIn}
 use Rattle.machine.specs.Checks.{checkSlot, checkRun}
-use Rattle.machine.specs.Answers.{told, margin}
+use Rattle.machine.specs.Answers.{FreshAnswer, SlotAnswer, RunAnswer, freshAnswer, slotAnswer, told, margin}
 
 -- `fresh_on`: the refusal, and the list after it
-pub fresh-on-same : (sheet list : List ℕ) (a b : Refusal) (l m : List ℕ) → (outcome a, l) ≡ freshOn (sheetIn sheet) list → (outcome b, m) ≡ freshOn (sheetIn sheet) list → (a ≡ b) × (l ≡ m)
+pub fresh-on-same : (sheet list : List ℕ) (a b : Refusal) (l m : List ℕ) → freshAnswer (outcome a) l ≡ freshOn (sheetIn sheet) list → freshAnswer (outcome b) m ≡ freshOn (sheetIn sheet) list → (a ≡ b) × (l ≡ m)
 fresh-on-same sheet list a b l m e f =
-    let same : _≡_ {A = Outcome × List ℕ} (outcome a, l) (outcome b, m) = e ∙ sym f in
-    (outcome-one-to-one a b (ap (λ (x : Outcome × List ℕ). x .0) same), ap (λ (x : Outcome × List ℕ). x .1) same)
+    let same : freshAnswer (outcome a) l ≡ freshAnswer (outcome b) m = e ∙ sym f in
+    (outcome-one-to-one a b (ap (λ (x : FreshAnswer (List ℕ)). x .outcome) same), ap (λ (x : FreshAnswer (List ℕ)). x .state) same)
 
 -- `slot_on`: the refusal, the list and the code buffer after it
-pub listed-one-to-one : (a b : Refusal) (l m cs ds : List ℕ) → _≡_ {A = Outcome × (List ℕ × List ℕ)} (outcome a, (l, cs)) (outcome b, (m, ds)) → (a ≡ b) × (l ≡ m) × (cs ≡ ds)
+pub listed-one-to-one : (a b : Refusal) (l m cs ds : List ℕ) → slotAnswer (outcome a) l cs ≡ slotAnswer (outcome b) m ds → (a ≡ b) × (l ≡ m) × (cs ≡ ds)
 listed-one-to-one a b l m cs ds e = (
-  outcome-one-to-one a b (ap (λ (x : Outcome × (List ℕ × List ℕ)). x .0) e),
-  ap (λ (x : Outcome × (List ℕ × List ℕ)). x .1 .0) e,
-  ap (λ (x : Outcome × (List ℕ × List ℕ)). x .1 .1) e,
+  outcome-one-to-one a b (ap (λ (x : SlotAnswer (List ℕ)). x .outcome) e),
+  ap (λ (x : SlotAnswer (List ℕ)). x .state) e,
+  ap (λ (x : SlotAnswer (List ℕ)). x .codes) e,
 )
 
 pub slot-on-same : (sheet list rel before : List ℕ) (a b : Refusal) (l m cs ds : List ℕ)
-    → (outcome a, (l, cs)) ≡ slotIn (sheetIn sheet) list rel before → (outcome b, (m, ds)) ≡ slotIn (sheetIn sheet) list rel before → (a ≡ b) × (l ≡ m) × (cs ≡ ds)
+    → slotAnswer (outcome a) l cs ≡ slotIn (sheetIn sheet) list rel before → slotAnswer (outcome b) m ds ≡ slotIn (sheetIn sheet) list rel before → (a ≡ b) × (l ≡ m) × (cs ≡ ds)
 slot-on-same sheet list rel before a b l m cs ds e f = listed-one-to-one a b l m cs ds (e ∙ sym f)
 
 -- `run_on`: the answer, the list and the code buffer after it
-pub done-one-to-one : (a b : Done) → ranIn a ≡ ranIn b → a ≡ b
-done-one-to-one a b e =
-    let d : a .done ≡ b .done = ap (λ (x : ℕ × Outcome). x .0) e in
-    let r = outcome-one-to-one (a .refusal) (b .refusal) (ap (λ (x : ℕ × Outcome). x .1) e) in
-    λ i. record { done = d i; refusal = r i }
+pub done-one-to-one : (a b : Done) (l m cs ds : List ℕ) → ranIn a l cs ≡ ranIn b m ds → (a ≡ b) × (l ≡ m) × (cs ≡ ds)
+done-one-to-one a b l m cs ds e =
+    let r = outcome-one-to-one (a .refusal) (b .refusal) (ap (λ (x : RunAnswer (List ℕ)). x .outcome) e) in (
+      λ i. record { done = e i .done; refusal = r i },
+      ap (λ (x : RunAnswer (List ℕ)). x .state) e,
+      ap (λ (x : RunAnswer (List ℕ)). x .codes) e,
+    )
 
 pub run-on-same : (sheet list rel before : List ℕ) (a b : Done) (l m cs ds : List ℕ)
-    → (ranIn a, (l, cs)) ≡ runIn (sheetIn sheet) list rel before → (ranIn b, (m, ds)) ≡ runIn (sheetIn sheet) list rel before → (a ≡ b) × (l ≡ m) × (cs ≡ ds)
-run-on-same sheet list rel before a b l m cs ds e f =
-    let same : _≡_ {A = (ℕ × Outcome) × (List ℕ × List ℕ)} (ranIn a, (l, cs)) (ranIn b, (m, ds)) = e ∙ sym f in (
-      done-one-to-one a b (ap (λ (x : (ℕ × Outcome) × (List ℕ × List ℕ)). x .0) same),
-      ap (λ (x : (ℕ × Outcome) × (List ℕ × List ℕ)). x .1 .0) same,
-      ap (λ (x : (ℕ × Outcome) × (List ℕ × List ℕ)). x .1 .1) same,
-    )
+    → ranIn a l cs ≡ runIn (sheetIn sheet) list rel before → ranIn b m ds ≡ runIn (sheetIn sheet) list rel before → (a ≡ b) × (l ≡ m) × (cs ≡ ds)
+run-on-same sheet list rel before a b l m cs ds e f = done-one-to-one a b l m cs ds (e ∙ sym f)
 
 -- what is told of a margin
 pub told-one-to-one : (a b : Margin) → told a ≡ told b → a ≡ b

@@ -23,26 +23,26 @@ use Rattle.machine.specs.States.{State, recordAt}
 use Rattle.machine.specs.States as states
 use Rattle.machine.specs.Slot.{freeAt}
 use Rattle.machine.specs.Checks.{checkReleases, checkState, checkRoom, checkSlot, checkRun, checkMargin}
-use Rattle.machine.specs.Answers.{fresh, given, nextState, nextCodes, slot, Course, slotAt, onward, course, run, Told, no-job, margin-is, refused-by, marginOf, marginAt, margin}
+use Rattle.machine.specs.Answers.{FreshAnswer, SlotAnswer, RunAnswer, fresh, given, nextState, nextCodes, slot, slotAt, onward, course, run, Told, no-job, margin-is, refused-by, marginOf, marginAt, margin}
 use Rattle.machine.specs.Lists.{recordIn, zeroAt, zeroFrom, stateIn, putRecord, putTo, putState, freshOn, slotIn, runIn}
 use Rattle.machine.specs.Wrong.{freshWithJobs, freshTooYoung, freeToUnfit, slotToUnfit, slotOfAll, slotMissedFirst, slotUntouched, slotUnreleased, slotCodesAlways, checkThirteenFirst, anyReleases, slotThirteenFirst, runOfFirst, runMadeUp, runUntouched, roomFirst, anyState, zeroForNone, sinceLeftOut, marginOfFirst, freshKept, freshRoomless, slotListKept, slotCodesKept, runListKept, runListMadeUp, listC, freshListC, busyC}
 
 -- ---- what is read off an answer: a number of a record, a code, the refusal's number
 
-abbrev remainingOf : ℕ → Outcome × State → ℕ
-remainingOf k x = recordAt (x .1) k .remaining
+abbrev remainingOf : ℕ → FreshAnswer State → ℕ
+remainingOf k x = recordAt (x .state) k .remaining
 
-abbrev sinceOf : ℕ → Outcome × State → ℕ
-sinceOf k x = recordAt (x .1) k .since
+abbrev sinceOf : ℕ → FreshAnswer State → ℕ
+sinceOf k x = recordAt (x .state) k .since
 
-abbrev leftAfter : ℕ → Outcome × (State × List ℕ) → ℕ
-leftAfter k x = recordAt (x .1 .0) k .remaining
+abbrev leftAfter : ℕ → SlotAnswer State → ℕ
+leftAfter k x = recordAt (x .state) k .remaining
 
-abbrev codeAfter : ℕ → Outcome × (State × List ℕ) → ℕ
-codeAfter k x = getD (x .1 .1) k 0
+abbrev codeAfter : ℕ → SlotAnswer State → ℕ
+codeAfter k x = getD (x .codes) k 0
 
-abbrev refusedAfter : Outcome × (State × List ℕ) → ℕ
-refusedAfter x = numberOf (x .0)
+abbrev refusedAfter : SlotAnswer State → ℕ
+refusedAfter x = numberOf (x .outcome)
 
 -- ---- `fresh`
 
@@ -57,31 +57,31 @@ fresh-too-young-is-shut-out = apart (sinceOf 1) _ _ 1 4 refl refl (λ e. omega a
 -- ---- `slot`
 
 -- case H, the first slot: row 1 does not fit, and row 2 does
-pub slot-to-unfit-is-shut-out : NoneMeets (slotToUnfit sheetB (fresh sheetB .1) (2 ∷ 2 ∷ 3 ∷ []) (9 ∷ 9 ∷ 9 ∷ [])) (slot sheetB (fresh sheetB .1) (2 ∷ 2 ∷ 3 ∷ []) (9 ∷ 9 ∷ 9 ∷ []))
+pub slot-to-unfit-is-shut-out : NoneMeets (slotToUnfit sheetB (fresh sheetB .state) (2 ∷ 2 ∷ 3 ∷ []) (9 ∷ 9 ∷ 9 ∷ [])) (slot sheetB (fresh sheetB .state) (2 ∷ 2 ∷ 3 ∷ []) (9 ∷ 9 ∷ 9 ∷ []))
 unfolding slotToUnfit freeToUnfit stopsAtUnfit allOf firstOf upto legalRow legalAt legal states.freshState legalRecord isZero states.legalAt states.legalState released fits freeBelow freeAt worked older aged missed ended codeOf checkRow checkReleases checkState checkRoom checkSlot fresh given nextState nextCodes slot
 slot-to-unfit-is-shut-out = apart (codeAfter 2) _ _ 1 2 refl refl (λ e. omega arith)
 
 -- the same slot: row 1 waits
-pub slot-of-all-is-shut-out : NoneMeets (slotOfAll sheetB (fresh sheetB .1) (2 ∷ 2 ∷ 3 ∷ []) (9 ∷ 9 ∷ 9 ∷ [])) (slot sheetB (fresh sheetB .1) (2 ∷ 2 ∷ 3 ∷ []) (9 ∷ 9 ∷ 9 ∷ []))
+pub slot-of-all-is-shut-out : NoneMeets (slotOfAll sheetB (fresh sheetB .state) (2 ∷ 2 ∷ 3 ∷ []) (9 ∷ 9 ∷ 9 ∷ [])) (slot sheetB (fresh sheetB .state) (2 ∷ 2 ∷ 3 ∷ []) (9 ∷ 9 ∷ 9 ∷ []))
 unfolding slotOfAll allOf firstOf upto legalRow legalAt legal states.freshState legalRecord isZero states.legalAt states.legalState released fits freeBelow freeAt worked older aged missed ended codeOf checkRow checkReleases checkState checkRoom checkSlot fresh given nextState nextCodes slot
 slot-of-all-is-shut-out = apart (codeAfter 1) _ _ 2 1 refl refl (λ e. omega arith)
 
 -- sheet F: a job finishes in the slot in which since reaches its deadline
-pub slot-missed-first-is-shut-out : NoneMeets (slotMissedFirst sheetF (fresh sheetF .1) (1 ∷ []) (9 ∷ [])) (slot sheetF (fresh sheetF .1) (1 ∷ []) (9 ∷ []))
+pub slot-missed-first-is-shut-out : NoneMeets (slotMissedFirst sheetF (fresh sheetF .state) (1 ∷ []) (9 ∷ [])) (slot sheetF (fresh sheetF .state) (1 ∷ []) (9 ∷ []))
 unfolding slotMissedFirst allOf firstOf upto legalRow legalAt legal states.freshState legalRecord isZero states.legalAt states.legalState released fits freeBelow freeAt worked older aged missed ended codeOf checkRow checkReleases checkState checkRoom checkSlot fresh given nextState nextCodes slot
 slot-missed-first-is-shut-out = apart (codeAfter 0) _ _ 4 3 refl refl (λ e. omega arith)
 
 -- case G, the first slot: row 1 is released for 3
-pub slot-untouched-is-shut-out : NoneMeets (slotUntouched sheetC (fresh sheetC .1) (1 ∷ 3 ∷ []) (9 ∷ 9 ∷ [])) (slot sheetC (fresh sheetC .1) (1 ∷ 3 ∷ []) (9 ∷ 9 ∷ []))
+pub slot-untouched-is-shut-out : NoneMeets (slotUntouched sheetC (fresh sheetC .state) (1 ∷ 3 ∷ []) (9 ∷ 9 ∷ [])) (slot sheetC (fresh sheetC .state) (1 ∷ 3 ∷ []) (9 ∷ 9 ∷ []))
 unfolding slotUntouched allOf firstOf upto legalRow legalAt legal states.freshState legalRecord isZero states.legalAt states.legalState released fits freeBelow freeAt worked older aged missed ended codeOf checkRow checkReleases checkState checkRoom checkSlot fresh given nextState nextCodes slot
 slot-untouched-is-shut-out = apart (leftAfter 1) _ _ 0 3 refl refl (λ e. omega arith)
 
-pub slot-unreleased-is-shut-out : NoneMeets (slotUnreleased sheetC (fresh sheetC .1) (1 ∷ 3 ∷ []) (9 ∷ 9 ∷ [])) (slot sheetC (fresh sheetC .1) (1 ∷ 3 ∷ []) (9 ∷ 9 ∷ []))
+pub slot-unreleased-is-shut-out : NoneMeets (slotUnreleased sheetC (fresh sheetC .state) (1 ∷ 3 ∷ []) (9 ∷ 9 ∷ [])) (slot sheetC (fresh sheetC .state) (1 ∷ 3 ∷ []) (9 ∷ 9 ∷ []))
 unfolding slotUnreleased allOf firstOf upto legalRow legalAt legal states.freshState legalRecord isZero states.legalAt states.legalState released fits freeBelow freeAt worked older aged missed ended codeOf checkRow checkReleases checkState checkRoom checkSlot fresh given nextState nextCodes slot
 slot-unreleased-is-shut-out = apart (codeAfter 0) _ _ 0 3 refl refl (λ e. omega arith)
 
 -- a release of 2 in row 0 is over its budget
-pub slot-codes-always-is-shut-out : NoneMeets (slotCodesAlways sheetC (fresh sheetC .1) (2 ∷ 0 ∷ []) (9 ∷ 9 ∷ [])) (slot sheetC (fresh sheetC .1) (2 ∷ 0 ∷ []) (9 ∷ 9 ∷ []))
+pub slot-codes-always-is-shut-out : NoneMeets (slotCodesAlways sheetC (fresh sheetC .state) (2 ∷ 0 ∷ []) (9 ∷ 9 ∷ [])) (slot sheetC (fresh sheetC .state) (2 ∷ 0 ∷ []) (9 ∷ 9 ∷ []))
 unfolding slotCodesAlways allOf firstOf upto legalRow legalAt legal states.freshState legalRecord isZero states.legalAt states.legalState released fits freeBelow freeAt worked older aged missed ended codeOf checkRow checkReleases checkState checkRoom checkSlot fresh given nextState nextCodes slot
 slot-codes-always-is-shut-out = apart (codeAfter 1) _ _ 0 9 refl refl (λ e. omega arith)
 
@@ -93,18 +93,18 @@ slot-thirteen-first-is-shut-out = apart refusedAfter _ _ 13 12 refl refl (λ e. 
 -- ---- `run`
 
 -- the first two slots of case G: row 1 runs in the second
-pub run-of-first-is-shut-out : NoneMeets (runOfFirst sheetC (fresh sheetC .1) (1 ∷ 3 ∷ 0 ∷ 0 ∷ []) (9 ∷ 9 ∷ 9 ∷ 9 ∷ [])) (run sheetC (fresh sheetC .1) (1 ∷ 3 ∷ 0 ∷ 0 ∷ []) (9 ∷ 9 ∷ 9 ∷ 9 ∷ []))
+pub run-of-first-is-shut-out : NoneMeets (runOfFirst sheetC (fresh sheetC .state) (1 ∷ 3 ∷ 0 ∷ 0 ∷ []) (9 ∷ 9 ∷ 9 ∷ 9 ∷ [])) (run sheetC (fresh sheetC .state) (1 ∷ 3 ∷ 0 ∷ 0 ∷ []) (9 ∷ 9 ∷ 9 ∷ 9 ∷ []))
 unfolding runOfFirst allOf firstOf upto legalRow legalAt legal states.freshState legalRecord isZero states.legalAt states.legalState released fits freeBelow freeAt worked older aged missed ended codeOf checkRow checkReleases checkState checkRoom checkSlot checkRun fresh given nextState nextCodes slot slotAt onward course run
-run-of-first-is-shut-out = apart (λ (c : Course). getD (c .codes) 3 0) _ _ 9 2 refl refl (λ e. omega arith)
+run-of-first-is-shut-out = apart (λ (c : RunAnswer State). getD (c .codes) 3 0) _ _ 9 2 refl refl (λ e. omega arith)
 
 -- a second release of row 0, one slot after the first, is refused
-pub run-made-up-is-shut-out : NoneMeets (runMadeUp sheetC (fresh sheetC .1) (1 ∷ 0 ∷ 1 ∷ 0 ∷ []) (9 ∷ 9 ∷ 9 ∷ 9 ∷ [])) (run sheetC (fresh sheetC .1) (1 ∷ 0 ∷ 1 ∷ 0 ∷ []) (9 ∷ 9 ∷ 9 ∷ 9 ∷ []))
+pub run-made-up-is-shut-out : NoneMeets (runMadeUp sheetC (fresh sheetC .state) (1 ∷ 0 ∷ 1 ∷ 0 ∷ []) (9 ∷ 9 ∷ 9 ∷ 9 ∷ [])) (run sheetC (fresh sheetC .state) (1 ∷ 0 ∷ 1 ∷ 0 ∷ []) (9 ∷ 9 ∷ 9 ∷ 9 ∷ []))
 unfolding runMadeUp allOf firstOf upto legalRow legalAt legal states.freshState legalRecord isZero states.legalAt states.legalState released fits freeBelow freeAt worked older aged missed ended codeOf checkRow checkReleases checkState checkRoom checkSlot checkRun fresh given nextState nextCodes slot slotAt onward course run
-run-made-up-is-shut-out = apart (λ (c : Course). c .done) _ _ 2 1 refl refl (λ e. omega arith)
+run-made-up-is-shut-out = apart (λ (c : RunAnswer State). c .done) _ _ 2 1 refl refl (λ e. omega arith)
 
-pub run-untouched-is-shut-out : NoneMeets (runUntouched sheetC (fresh sheetC .1) (1 ∷ 3 ∷ 0 ∷ 0 ∷ []) (9 ∷ 9 ∷ 9 ∷ 9 ∷ [])) (run sheetC (fresh sheetC .1) (1 ∷ 3 ∷ 0 ∷ 0 ∷ []) (9 ∷ 9 ∷ 9 ∷ 9 ∷ []))
+pub run-untouched-is-shut-out : NoneMeets (runUntouched sheetC (fresh sheetC .state) (1 ∷ 3 ∷ 0 ∷ 0 ∷ []) (9 ∷ 9 ∷ 9 ∷ 9 ∷ [])) (run sheetC (fresh sheetC .state) (1 ∷ 3 ∷ 0 ∷ 0 ∷ []) (9 ∷ 9 ∷ 9 ∷ 9 ∷ []))
 unfolding runUntouched allOf firstOf upto legalRow legalAt legal states.freshState legalRecord isZero states.legalAt states.legalState released fits freeBelow freeAt worked older aged missed ended codeOf checkRow checkReleases checkState checkRoom checkSlot checkRun fresh given nextState nextCodes slot slotAt onward course run
-run-untouched-is-shut-out = apart (λ (c : Course). recordAt (c .state) 1 .remaining) _ _ 0 2 refl refl (λ e. omega arith)
+run-untouched-is-shut-out = apart (λ (c : RunAnswer State). recordAt (c .state) 1 .remaining) _ _ 0 2 refl refl (λ e. omega arith)
 
 -- ---- the checks of a slot
 
@@ -119,7 +119,7 @@ any-releases-is-shut-out = apart numberOf _ _ 0 12 refl refl (λ e. omega arith)
 -- ---- the checks of a run
 
 -- a list of three entries for two rows, and room for none
-pub room-first-is-shut-out : NoneMeets (roomFirst sheetC (fresh sheetC .1) (0 ∷ 0 ∷ 0 ∷ []) 0) (checkRun sheetC (fresh sheetC .1) (0 ∷ 0 ∷ 0 ∷ []) 0)
+pub room-first-is-shut-out : NoneMeets (roomFirst sheetC (fresh sheetC .state) (0 ∷ 0 ∷ 0 ∷ []) 0) (checkRun sheetC (fresh sheetC .state) (0 ∷ 0 ∷ 0 ∷ []) 0)
 unfolding roomFirst allOf upto legalRow legalAt legal states.freshState legalRecord isZero states.legalAt states.legalState checkState checkRoom checkRun fresh
 room-first-is-shut-out = apart numberOf _ _ 15 11 refl refl (λ e. omega arith)
 
@@ -137,7 +137,7 @@ marginRead (margin-is (pos n)) = 1 + n
 marginRead (margin-is (negsuc n)) = 99
 marginRead (refused-by number place) = 99
 
-pub zero-for-none-is-shut-out : NoneMeets (zeroForNone sheetC (fresh sheetC .1) 0) (margin sheetC (fresh sheetC .1) 0)
+pub zero-for-none-is-shut-out : NoneMeets (zeroForNone sheetC (fresh sheetC .state) 0) (margin sheetC (fresh sheetC .state) 0)
 unfolding zeroForNone allOf upto legalRow legalAt legal states.freshState legalRecord isZero states.legalAt states.legalState checkState checkMargin fresh marginAt marginOf margin
 zero-for-none-is-shut-out = apart marginRead _ _ 1 0 refl refl (λ e. omega arith)
 
@@ -152,8 +152,8 @@ margin-of-first-is-shut-out = apart marginRead _ _ 0 2 refl refl (λ e. omega ar
 
 -- ---- `fresh_on`
 
-abbrev placeOf : ℕ → Outcome × List ℕ → ℕ
-placeOf i x = getD (x .1) i 0
+abbrev placeOf : ℕ → FreshAnswer (List ℕ) → ℕ
+placeOf i x = getD (x .state) i 0
 
 pub fresh-kept-is-shut-out : NoneMeets (freshKept (sheetIn listC) (9 ∷ 9 ∷ 9 ∷ 9 ∷ [])) (freshOn (sheetIn listC) (9 ∷ 9 ∷ 9 ∷ 9 ∷ []))
 unfolding freshKept freshOn fresh states.freshState putState putTo putRecord filled sheetIn rowIn legal legalAt legalRow allOf upto
@@ -162,24 +162,24 @@ fresh-kept-is-shut-out = apart (placeOf 3) _ _ 9 4 refl refl (λ e. omega arith)
 -- three places do not do for two records
 pub fresh-roomless-is-shut-out : NoneMeets (freshRoomless (sheetIn listC) (9 ∷ 9 ∷ 9 ∷ [])) (freshOn (sheetIn listC) (9 ∷ 9 ∷ 9 ∷ []))
 unfolding freshRoomless freshOn fresh states.freshState putState putTo putRecord filled sheetIn rowIn legal legalAt legalRow allOf upto
-fresh-roomless-is-shut-out = apart (λ (x : Outcome × List ℕ). numberOf (x .0)) _ _ 0 15 refl refl (λ e. omega arith)
+fresh-roomless-is-shut-out = apart (λ (x : FreshAnswer (List ℕ)). numberOf (x .outcome)) _ _ 0 15 refl refl (λ e. omega arith)
 
 -- ---- `slot_on`
 
 pub slot-list-kept-is-shut-out : NoneMeets (slotListKept (sheetIn listC) freshListC (1 ∷ 3 ∷ []) (9 ∷ 9 ∷ [])) (slotIn (sheetIn listC) freshListC (1 ∷ 3 ∷ []) (9 ∷ 9 ∷ []))
 unfolding slotListKept slotIn stateIn zeroFrom zeroAt recordIn putState putTo putRecord sheetIn rowIn allOf firstOf upto legalRow legalAt legal legalRecord isZero states.legalAt states.legalState released fits freeBelow freeAt worked older aged missed ended codeOf checkRow checkReleases checkState checkRoom checkSlot given nextState nextCodes slot
-slot-list-kept-is-shut-out = apart (λ (x : Outcome × (List ℕ × List ℕ)). getD (x .1 .0) 2 0) _ _ 0 3 refl refl (λ e. omega arith)
+slot-list-kept-is-shut-out = apart (λ (x : SlotAnswer (List ℕ)). getD (x .state) 2 0) _ _ 0 3 refl refl (λ e. omega arith)
 
 pub slot-codes-kept-is-shut-out : NoneMeets (slotCodesKept (sheetIn listC) freshListC (1 ∷ 3 ∷ []) (9 ∷ 9 ∷ [])) (slotIn (sheetIn listC) freshListC (1 ∷ 3 ∷ []) (9 ∷ 9 ∷ []))
 unfolding slotCodesKept slotIn stateIn zeroFrom zeroAt recordIn putState putTo putRecord sheetIn rowIn allOf firstOf upto legalRow legalAt legal legalRecord isZero states.legalAt states.legalState released fits freeBelow freeAt worked older aged missed ended codeOf checkRow checkReleases checkState checkRoom checkSlot given nextState nextCodes slot
-slot-codes-kept-is-shut-out = apart (λ (x : Outcome × (List ℕ × List ℕ)). getD (x .1 .1) 0 0) _ _ 9 3 refl refl (λ e. omega arith)
+slot-codes-kept-is-shut-out = apart (λ (x : SlotAnswer (List ℕ)). getD (x .codes) 0 0) _ _ 9 3 refl refl (λ e. omega arith)
 
 -- ---- `run_on`
 
 pub run-list-kept-is-shut-out : NoneMeets (runListKept (sheetIn listC) freshListC (1 ∷ 3 ∷ []) (9 ∷ 9 ∷ [])) (runIn (sheetIn listC) freshListC (1 ∷ 3 ∷ []) (9 ∷ 9 ∷ []))
 unfolding runListKept runIn stateIn zeroFrom zeroAt recordIn putState putTo putRecord sheetIn rowIn allOf firstOf upto legalRow legalAt legal legalRecord isZero states.legalAt states.legalState released fits freeBelow freeAt worked older aged missed ended codeOf checkRow checkReleases checkState checkRoom checkSlot checkRun given nextState nextCodes slot slotAt onward course run
-run-list-kept-is-shut-out = apart (λ (x : (ℕ × Outcome) × (List ℕ × List ℕ)). getD (x .1 .0) 2 0) _ _ 0 3 refl refl (λ e. omega arith)
+run-list-kept-is-shut-out = apart (λ (x : RunAnswer (List ℕ)). getD (x .state) 2 0) _ _ 0 3 refl refl (λ e. omega arith)
 
 pub run-list-made-up-is-shut-out : NoneMeets (runListMadeUp (sheetIn listC) freshListC (1 ∷ 0 ∷ 1 ∷ 0 ∷ []) (9 ∷ 9 ∷ 9 ∷ 9 ∷ [])) (runIn (sheetIn listC) freshListC (1 ∷ 0 ∷ 1 ∷ 0 ∷ []) (9 ∷ 9 ∷ 9 ∷ 9 ∷ []))
 unfolding runListMadeUp runIn stateIn zeroFrom zeroAt recordIn putState putTo putRecord sheetIn rowIn allOf firstOf upto legalRow legalAt legal legalRecord isZero states.legalAt states.legalState released fits freeBelow freeAt worked older aged missed ended codeOf checkRow checkReleases checkState checkRoom checkSlot checkRun given nextState nextCodes slot slotAt onward course run
-run-list-made-up-is-shut-out = apart (λ (x : (ℕ × Outcome) × (List ℕ × List ℕ)). x .0 .0) _ _ 2 1 refl refl (λ e. omega arith)
+run-list-made-up-is-shut-out = apart (λ (x : RunAnswer (List ℕ)). x .done) _ _ 2 1 refl refl (λ e. omega arith)

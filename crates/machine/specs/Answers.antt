@@ -4,7 +4,7 @@ use mathlib.Core.List.{List, _++_}
 use lib.ListN.{length, getD, take, drop}
 use lib.IntN.{ℤ, pos, _-ℤ_}
 use Rattle.basis.specs.Words.{pick}
-use Rattle.basis.specs.Refusals.{Outcome, accepted, refused, isAccepted, needed, handed}
+use Rattle.basis.specs.Refusals.{Outcome, accepted, refused, isAccepted, needed}
 use Rattle.basis.specs.Upto.{upto}
 use Rattle.sheet.specs.Legal.{rowAt, legal}
 use Rattle.sheet.specs.declared.row.Row.{Row}
@@ -17,9 +17,37 @@ use Rattle.records.specs.Records.{hasJob}
 use Rattle.machine.specs.Slot.{Given, next, code}
 use Rattle.machine.specs.Checks.{checkSlot, checkRun, checkMargin}
 
+-- What `fresh` answers: its outcome, and the state, which stands by value or in a list.
+pub record FreshAnswer (S : Type 0) : Type 0 where
+  pub outcome : Outcome
+  pub state : S
+
+-- What a slot answers: its outcome, and the state and the code buffer after it.
+pub record SlotAnswer (S : Type 0) : Type 0 where
+  pub outcome : Outcome
+  pub state : S
+  pub codes : List ℕ
+
+-- What a run answers: the slots done, its outcome, and the state and the code buffer after those slots.
+pub record RunAnswer (S : Type 0) : Type 0 where
+  pub done : ℕ
+  pub outcome : Outcome
+  pub state : S
+  pub codes : List ℕ
+
+-- The answers by their parts.
+abbrev pub freshAnswer : {S : Type 0} → Outcome → S → FreshAnswer S
+freshAnswer o t = record { outcome = o; state = t }
+
+abbrev pub slotAnswer : {S : Type 0} → Outcome → S → List ℕ → SlotAnswer S
+slotAnswer o t codes = record { outcome = o; state = t; codes = codes }
+
+abbrev pub runAnswer : {S : Type 0} → ℕ → Outcome → S → List ℕ → RunAnswer S
+runAnswer done o t codes = record { done = done; outcome = o; state = t; codes = codes }
+
 -- Fresh checks 10; beside a refusal all records are zero.
-unfoldable pub fresh : Sheet → Outcome × State
-fresh h = (needed (legal h) 10, pick (legal h) (freshState h) noState)
+unfoldable pub fresh : Sheet → FreshAnswer State
+fresh h = freshAnswer (needed (legal h) 10) (pick (legal h) (freshState h) noState)
 
 -- What a slot is given by a sheet, a state and a release list.
 unfoldable pub given : Sheet → State → List ℕ → Given
@@ -34,58 +62,39 @@ nextState h t releases = stateOf (upto (h .count) (next (given h t releases)) (t
 unfoldable pub nextCodes : Sheet → State → List ℕ → List ℕ → List ℕ
 nextCodes h t releases codes = upto (h .count) (code (given h t releases)) codes
 
+-- The answer of a slot whose checks gave this outcome: the state and the codes that it makes, or those that it found.
+abbrev pub slotBy : Outcome → State × List ℕ → State × List ℕ → SlotAnswer State
+slotBy o (next, written) (t, codes) = slotAnswer o (pick (isAccepted o) next t) (pick (isAccepted o) written codes)
+
 -- One slot: where it is refused, the state is handed back as it came and no code is written.
-unfoldable pub slot : Sheet → State → List ℕ → List ℕ → Outcome × (State × List ℕ)
+unfoldable pub slot : Sheet → State → List ℕ → List ℕ → SlotAnswer State
 slot h t releases codes =
-    handed (checkSlot h t releases (length codes)) (nextState h t releases, nextCodes h t releases codes) (t, codes)
-
--- What has come of a run: the slots done, the outcome, the state after those slots, and the code buffer.
-pub record Course : Type 0 where
-  pub done : ℕ
-  pub outcome : Outcome
-  pub state : State
-  pub codes : List ℕ
-
--- Nothing is done: the state and the code buffer are as they came.
-abbrev pub notBegun : Outcome → State → List ℕ → Course
-notBegun o t codes = record { done = 0; outcome = o; state = t; codes = codes }
+    slotBy (checkSlot h t releases (length codes)) (nextState h t releases, nextCodes h t releases codes) (t, codes)
 
 -- The entries of slot j, n to a slot.
 abbrev pub entriesOf : ℕ → ℕ → List ℕ → List ℕ
 entriesOf n j releases = take n (drop (j * n) releases)
 
--- A slot's answer, with the codes of the slots before it in front.
-abbrev pub behind : List ℕ → Outcome × (State × List ℕ) → Outcome × (State × List ℕ)
-behind front (o, (t, codes)) = (o, (t, front ++ codes))
-
--- Slot j of a list: on its own entries and its own part of the code buffer.
-unfoldable pub slotAt : Sheet → State → List ℕ → List ℕ → ℕ → Outcome × (State × List ℕ)
+-- Slot j of a list: on its own entries and its own part of the code buffer, with the codes of the slots before it in front.
+unfoldable pub slotAt : Sheet → State → List ℕ → List ℕ → ℕ → SlotAnswer State
 slotAt h t releases codes j =
-    behind (take (j * h .count) codes) (slot h t (entriesOf (h .count) j releases) (drop (j * h .count) codes))
+    let a = slot h t (entriesOf (h .count) j releases) (drop (j * h .count) codes) in
+    slotAnswer (a .outcome) (a .state) (take (j * h .count) codes ++ a .codes)
 
--- The course with a slot's answer: an accepted slot is done, a refused one is not.
-abbrev pub followed : ℕ → Outcome × (State × List ℕ) → Course
-followed done (accepted, (t, codes)) = record { done = done + 1; outcome = accepted; state = t; codes = codes }
-followed done (refused number place, (t, codes)) = record { done = done; outcome = refused number place; state = t; codes = codes }
-
--- Slot j after a course, where nothing in it was refused.
-unfoldable pub onward : Sheet → List ℕ → ℕ → Course → Course
+-- Slot j after a run so far, where nothing in it was refused: an accepted slot is done, a refused one is not.
+unfoldable pub onward : Sheet → List ℕ → ℕ → RunAnswer State → RunAnswer State
 onward h releases j c =
-    pick (isAccepted (c .outcome)) (followed (c .done) (slotAt h (c .state) releases (c .codes) j)) c
+    let a = slotAt h (c .state) releases (c .codes) j in
+    pick (isAccepted (c .outcome)) (runAnswer (pick (isAccepted (a .outcome)) (c .done + 1) (c .done)) (a .outcome) (a .state) (a .codes)) c
 
 -- So many slots one after another, to the first that is refused.
-unfoldable pub course : Sheet → List ℕ → Course → ℕ → Course
+unfoldable pub course : Sheet → List ℕ → RunAnswer State → ℕ → RunAnswer State
 course h releases c zero = c
 course h releases c (suc j) = onward h releases j (course h releases c j)
 
--- A run whose checks before its first slot gave this outcome.
-abbrev pub runBy : Outcome → Sheet → State → List ℕ → List ℕ → Course
-runBy accepted h t releases codes = course h releases (notBegun accepted t codes) (length releases / h .count)
-runBy (refused number place) h t releases codes = notBegun (refused number place) t codes
-
--- A run: its checks, then slot by slot.
-unfoldable pub run : Sheet → State → List ℕ → List ℕ → Course
-run h t releases codes = runBy (checkRun h t releases (length codes)) h t releases codes
+-- A run: its checks, and then all slots of its list.
+unfoldable pub run : Sheet → State → List ℕ → List ℕ → RunAnswer State
+run h t releases codes = course h releases (runAnswer 0 (checkRun h t releases (length codes)) t codes) (length releases / h .count)
 
 -- What is told of a row's margin: that there is no job, the margin, or a refusal.
 pub data Told : Type 0 where

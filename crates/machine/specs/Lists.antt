@@ -6,14 +6,14 @@ use lib.ListN.{length, set}
 use lib.Dec.{ltb, eqb}
 use Rattle.basis.specs.Limits.{mostRows}
 use Rattle.basis.specs.Words.{pick, allOf}
-use Rattle.basis.specs.Refusals.{Outcome, outcome, orElse, roomFor, handed}
+use Rattle.basis.specs.Refusals.{outcome, isAccepted, orElse, roomFor}
 use Rattle.basis.specs.Upto.{upto}
 use Rattle.sheet.specs.Lists.{numberAt, filled}
 use Rattle.sheet.specs.declared.row.Sheet.{Sheet}
 use Rattle.records.specs.declared.record.RowState.{RowState}
 use Rattle.machine.specs.States.{State, noState, stateOf, recordAt}
 use Rattle.machine.specs.declared.places.Done.{Done}
-use Rattle.machine.specs.Answers.{Course, fresh, slot, run}
+use Rattle.machine.specs.Answers.{FreshAnswer, SlotAnswer, RunAnswer, freshAnswer, slotAnswer, runAnswer, fresh, slot, run}
 
 -- The numbers of a record.
 abbrev pub recordWide : ℕ
@@ -61,33 +61,31 @@ abbrev pub cleared : List ℕ → List ℕ
 cleared l = filled (λ i. 0) l
 
 -- The answer of fresh put into a list: 15 comes after its refusals, where there is no room for a record for each row; past the records every number is zero, and beside a refusal the list is as it was.
-abbrev pub freshListed : ℕ → Outcome × State → List ℕ → Outcome × List ℕ
-freshListed n (o, t) list = handed (orElse o (roomFor (stateLong n) (length list))) (putState n t (cleared list)) list
+abbrev pub freshListed : ℕ → FreshAnswer State → List ℕ → FreshAnswer (List ℕ)
+freshListed n a list =
+    let o = orElse (a .outcome) (roomFor (stateLong n) (length list)) in
+    freshAnswer o (pick (isAccepted o) (putState n (a .state) (cleared list)) list)
 
 -- Fresh, in a list: 10, then 15.
-unfoldable pub freshOn : Sheet → List ℕ → Outcome × List ℕ
+unfoldable pub freshOn : Sheet → List ℕ → FreshAnswer (List ℕ)
 freshOn h list = freshListed (h .count) (fresh h) list
 
 -- The answer of a slot put into a list: the next state, and beside a refusal the list is as it was.
-abbrev pub slotListed : ℕ → Outcome × (State × List ℕ) → List ℕ → Outcome × (List ℕ × List ℕ)
-slotListed n (o, (t, codes)) list = (o, (handed o (putState n t list) list .1, codes))
+abbrev pub slotListed : ℕ → SlotAnswer State → List ℕ → SlotAnswer (List ℕ)
+slotListed n a list = slotAnswer (a .outcome) (pick (isAccepted (a .outcome)) (putState n (a .state) list) list) (a .codes)
 
 -- One slot of the state in a list.
-unfoldable pub slotIn : Sheet → List ℕ → List ℕ → List ℕ → Outcome × (List ℕ × List ℕ)
+unfoldable pub slotIn : Sheet → List ℕ → List ℕ → List ℕ → SlotAnswer (List ℕ)
 slotIn h list releases codes = slotListed (h .count) (slot h (stateIn list) releases codes) list
 
--- The answer of a run put into a list: the slots done and the outcome, the list with the state after them, which is as it was where none is done, and the codes.
-abbrev pub runListed : ℕ → Course → List ℕ → (ℕ × Outcome) × (List ℕ × List ℕ)
-runListed n c list = ((c .done, c .outcome), (pick (eqb (c .done) 0) list (putState n (c .state) list), c .codes))
+-- The answer of a run put into a list: the list with the state after the slots done, which is as it was where none is done.
+abbrev pub runListed : ℕ → RunAnswer State → List ℕ → RunAnswer (List ℕ)
+runListed n a list = runAnswer (a .done) (a .outcome) (pick (eqb (a .done) 0) list (putState n (a .state) list)) (a .codes)
 
 -- A run of the state in a list.
-unfoldable pub runIn : Sheet → List ℕ → List ℕ → List ℕ → (ℕ × Outcome) × (List ℕ × List ℕ)
+unfoldable pub runIn : Sheet → List ℕ → List ℕ → List ℕ → RunAnswer (List ℕ)
 runIn h list releases codes = runListed (h .count) (run h (stateIn list) releases codes) list
 
--- What the code of a run in place answers.
-abbrev pub ranIn : Done → ℕ × Outcome
-ranIn r = (r .done, outcome (r .refusal))
-
--- How the code follows a run, of which no promise of a public function speaks: a course, by that answer, the state in the list and the codes.
-abbrev pub courseIn : Done → State → List ℕ → Course
-courseIn r t codes = record { done = r .done; outcome = outcome (r .refusal); state = t; codes = codes }
+-- What the code of a run in place answers, with the state, by value or in its list, and the code buffer after it.
+abbrev pub ranIn : {S : Type 0} → Done → S → List ℕ → RunAnswer S
+ranIn r t codes = runAnswer (r .done) (outcome (r .refusal)) t codes

@@ -7,7 +7,7 @@ use lib.IntN.{pos, _-ℤ_}
 use lib.Dec.{eqb}
 use Rattle.basis.specs.Limits.{mostRows}
 use Rattle.basis.specs.Words.{pick}
-use Rattle.basis.specs.Refusals.{Outcome, accepted, orElse, firstOf, needed, roomFor, handed}
+use Rattle.basis.specs.Refusals.{Outcome, accepted, orElse, firstOf, needed, roomFor}
 use Rattle.basis.specs.Upto.{upto}
 use Rattle.sheet.specs.Legal.{rowAt, legal}
 use Rattle.sheet.specs.declared.row.Sheet.{Sheet}
@@ -18,35 +18,35 @@ use Rattle.records.specs.Wrong.{rec, thirteenFirst, stopsAtUnfit}
 use Rattle.machine.specs.States.{State, noState, stateOf, recordAt, freshState}
 use Rattle.machine.specs.Slot.{Given, begun, runs, reached, next}
 use Rattle.machine.specs.Checks.{checkState, checkRoom, checkSlot, checkMargin}
-use Rattle.machine.specs.Answers.{given, nextState, nextCodes, slot, Course, notBegun, course, run, Told, no-job, margin-is, marginAt, marginBy, margin}
+use Rattle.machine.specs.Answers.{FreshAnswer, SlotAnswer, RunAnswer, freshAnswer, slotAnswer, runAnswer, given, nextState, nextCodes, slotBy, slot, course, run, Told, no-job, margin-is, marginAt, marginBy, margin}
 use Rattle.machine.specs.Lists.{putState, cleared, freshOn, slotIn, runIn}
 
 -- ---- fresh
 
 -- A fresh state in which row k has this record.
-abbrev pub freshBy : (Sheet → ℕ → RowState) → Sheet → Outcome × State
-freshBy f h = (needed (legal h) 10, pick (legal h) (stateOf (upto (h .count) (f h) (replicate mostRows noRecord))) noState)
+abbrev pub freshBy : (Sheet → ℕ → RowState) → Sheet → FreshAnswer State
+freshBy f h = freshAnswer (needed (legal h) 10) (pick (legal h) (stateOf (upto (h .count) (f h) (replicate mostRows noRecord))) noState)
 
 -- A fresh row has a job of all its budget.
-unfoldable pub freshWithJobs : Sheet → Outcome × State
+unfoldable pub freshWithJobs : Sheet → FreshAnswer State
 freshWithJobs = freshBy (λ h k. rec (rowAt h k .budget) (rowAt h k .separation))
 
 -- A fresh row has to wait for its separation.
-unfoldable pub freshTooYoung : Sheet → Outcome × State
+unfoldable pub freshTooYoung : Sheet → FreshAnswer State
 freshTooYoung = freshBy (λ h k. rec 0 1)
 
 -- ---- one slot
 
 -- A slot by other rules: what each row becomes, and its code.
-abbrev pub slotBy : (Given → ℕ → RowState) → (Given → ℕ → ℕ) → Sheet → State → List ℕ → List ℕ → Outcome × (State × List ℕ)
-slotBy next code h t releases codes =
-    handed (checkSlot h t releases (length codes))
+abbrev pub slotWith : (Given → ℕ → RowState) → (Given → ℕ → ℕ) → Sheet → State → List ℕ → List ℕ → SlotAnswer State
+slotWith next code h t releases codes =
+    slotBy (checkSlot h t releases (length codes))
     (stateOf (upto (h .count) (next (given h t releases)) (t .rows)), upto (h .count) (code (given h t releases)) codes) (t, codes)
 
 -- A slot in which these rows run.
-abbrev pub slotRunning : (Given → ℕ → Bool) → Sheet → State → List ℕ → List ℕ → Outcome × (State × List ℕ)
+abbrev pub slotRunning : (Given → ℕ → Bool) → Sheet → State → List ℕ → List ℕ → SlotAnswer State
 slotRunning ran =
-    slotBy (λ g k. ended (g .rows k) (aged (g .rows k) (worked (ran g k) (begun g k))))
+    slotWith (λ g k. ended (g .rows k) (aged (g .rows k) (worked (ran g k) (begun g k))))
     (λ g k. codeOf (g .rows k) (ran g k) (begun g k) (aged (g .rows k) (worked (ran g k) (begun g k))))
 
 -- The processors free at row k where nothing is free below a row that does not fit.
@@ -55,31 +55,31 @@ freeToUnfit g zero = g .processors
 freeToUnfit g (suc k) = stopsAtUnfit (g .rows k) (begun g k) (freeToUnfit g k) .free
 
 -- It stops at the first row that does not fit.
-unfoldable pub slotToUnfit : Sheet → State → List ℕ → List ℕ → Outcome × (State × List ℕ)
+unfoldable pub slotToUnfit : Sheet → State → List ℕ → List ℕ → SlotAnswer State
 slotToUnfit = slotRunning (λ g k. fits (freeToUnfit g k) (g .rows k) (begun g k))
 
 -- Every job runs: all processors are free at each row.
-unfoldable pub slotOfAll : Sheet → State → List ℕ → List ℕ → Outcome × (State × List ℕ)
+unfoldable pub slotOfAll : Sheet → State → List ℕ → List ℕ → SlotAnswer State
 slotOfAll = slotRunning (λ g k. fits (g .processors) (g .rows k) (begun g k))
 
 -- A miss is judged before the finish of the same slot.
-unfoldable pub slotMissedFirst : Sheet → State → List ℕ → List ℕ → Outcome × (State × List ℕ)
+unfoldable pub slotMissedFirst : Sheet → State → List ℕ → List ℕ → SlotAnswer State
 slotMissedFirst =
-    slotBy next
+    slotWith next
     (λ g k. pick (hasJob (begun g k)) (pick (eqb (reached g k .since) (g .rows k .deadline)) 4 (pick (hasJob (reached g k)) (pick (runs g k) 2 1) 3)) 0)
 
 -- The state is handed back untouched.
-unfoldable pub slotUntouched : Sheet → State → List ℕ → List ℕ → Outcome × (State × List ℕ)
-slotUntouched h t releases codes = (slot h t releases codes .0, (t, slot h t releases codes .1 .1))
+unfoldable pub slotUntouched : Sheet → State → List ℕ → List ℕ → SlotAnswer State
+slotUntouched h t releases codes = slotAnswer (slot h t releases codes .outcome) t (slot h t releases codes .codes)
 
 -- The releases are checked, and then lost.
-unfoldable pub slotUnreleased : Sheet → State → List ℕ → List ℕ → Outcome × (State × List ℕ)
-slotUnreleased h t releases codes = handed (checkSlot h t releases (length codes)) (nextState h t [], nextCodes h t [] codes) (t, codes)
+unfoldable pub slotUnreleased : Sheet → State → List ℕ → List ℕ → SlotAnswer State
+slotUnreleased h t releases codes = slotBy (checkSlot h t releases (length codes)) (nextState h t [], nextCodes h t [] codes) (t, codes)
 
 -- A refused slot writes its codes.
-unfoldable pub slotCodesAlways : Sheet → State → List ℕ → List ℕ → Outcome × (State × List ℕ)
+unfoldable pub slotCodesAlways : Sheet → State → List ℕ → List ℕ → SlotAnswer State
 slotCodesAlways h t releases codes =
-    handed (checkSlot h t releases (length codes)) (nextState h t releases, nextCodes h t releases codes) (t, nextCodes h t releases codes)
+    slotBy (checkSlot h t releases (length codes)) (nextState h t releases, nextCodes h t releases codes) (t, nextCodes h t releases codes)
 
 -- The checks of a slot, but 13 comes before 12.
 unfoldable pub checkThirteenFirst : Sheet → State → List ℕ → ℕ → Outcome
@@ -94,24 +94,24 @@ anyReleases h t releases room =
     orElse (checkState h t) (checkRoom (eqb (length releases) (h .count)) (length releases) room)
 
 -- 13 comes before 12.
-unfoldable pub slotThirteenFirst : Sheet → State → List ℕ → List ℕ → Outcome × (State × List ℕ)
+unfoldable pub slotThirteenFirst : Sheet → State → List ℕ → List ℕ → SlotAnswer State
 slotThirteenFirst h t releases codes =
-    handed (checkThirteenFirst h t releases (length codes)) (nextState h t releases, nextCodes h t releases codes) (t, codes)
+    slotBy (checkThirteenFirst h t releases (length codes)) (nextState h t releases, nextCodes h t releases codes) (t, codes)
 
 -- ---- a run
 
 -- It works its first slot and only counts the rest.
-unfoldable pub runOfFirst : Sheet → State → List ℕ → List ℕ → Course
+unfoldable pub runOfFirst : Sheet → State → List ℕ → List ℕ → RunAnswer State
 runOfFirst h t releases codes =
     record {
       done = length releases / h .count;
-      outcome = course h releases (notBegun accepted t codes) 1 .outcome;
-      state = course h releases (notBegun accepted t codes) 1 .state;
-      codes = course h releases (notBegun accepted t codes) 1 .codes;
+      outcome = course h releases (runAnswer 0 accepted t codes) 1 .outcome;
+      state = course h releases (runAnswer 0 accepted t codes) 1 .state;
+      codes = course h releases (runAnswer 0 accepted t codes) 1 .codes;
     }
 
 -- Its number of slots done is made up: it is that of the list, whatever was refused.
-unfoldable pub runMadeUp : Sheet → State → List ℕ → List ℕ → Course
+unfoldable pub runMadeUp : Sheet → State → List ℕ → List ℕ → RunAnswer State
 runMadeUp h t releases codes =
     record {
       done = length releases / h .count;
@@ -121,7 +121,7 @@ runMadeUp h t releases codes =
     }
 
 -- It hands its state back untouched.
-unfoldable pub runUntouched : Sheet → State → List ℕ → List ℕ → Course
+unfoldable pub runUntouched : Sheet → State → List ℕ → List ℕ → RunAnswer State
 runUntouched h t releases codes =
     record {
       done = run h t releases codes .done;
@@ -160,28 +160,28 @@ marginOfFirst h t row = margin h t 0
 -- ---- on lists
 
 -- Fresh, but the list is as it was.
-unfoldable pub freshKept : Sheet → List ℕ → Outcome × List ℕ
-freshKept h list = (freshOn h list .0, list)
+unfoldable pub freshKept : Sheet → List ℕ → FreshAnswer (List ℕ)
+freshKept h list = freshAnswer (freshOn h list .outcome) list
 
 -- Fresh, but the room for it is not looked at.
-unfoldable pub freshRoomless : Sheet → List ℕ → Outcome × List ℕ
-freshRoomless h list = handed (needed (legal h) 10) (putState (h .count) (freshState h) (cleared list)) list
+unfoldable pub freshRoomless : Sheet → List ℕ → FreshAnswer (List ℕ)
+freshRoomless h list = freshAnswer (needed (legal h) 10) (pick (legal h) (putState (h .count) (freshState h) (cleared list)) list)
 
 -- A slot, but the list is as it was.
-unfoldable pub slotListKept : Sheet → List ℕ → List ℕ → List ℕ → Outcome × (List ℕ × List ℕ)
-slotListKept h list releases codes = (slotIn h list releases codes .0, (list, slotIn h list releases codes .1 .1))
+unfoldable pub slotListKept : Sheet → List ℕ → List ℕ → List ℕ → SlotAnswer (List ℕ)
+slotListKept h list releases codes = slotAnswer (slotIn h list releases codes .outcome) list (slotIn h list releases codes .codes)
 
 -- A slot, but the codes are as they were.
-unfoldable pub slotCodesKept : Sheet → List ℕ → List ℕ → List ℕ → Outcome × (List ℕ × List ℕ)
-slotCodesKept h list releases codes = (slotIn h list releases codes .0, (slotIn h list releases codes .1 .0, codes))
+unfoldable pub slotCodesKept : Sheet → List ℕ → List ℕ → List ℕ → SlotAnswer (List ℕ)
+slotCodesKept h list releases codes = slotAnswer (slotIn h list releases codes .outcome) (slotIn h list releases codes .state) codes
 
 -- A run, but the list is as it was.
-unfoldable pub runListKept : Sheet → List ℕ → List ℕ → List ℕ → (ℕ × Outcome) × (List ℕ × List ℕ)
-runListKept h list releases codes = (runIn h list releases codes .0, (list, runIn h list releases codes .1 .1))
+unfoldable pub runListKept : Sheet → List ℕ → List ℕ → List ℕ → RunAnswer (List ℕ)
+runListKept h list releases codes = runAnswer (runIn h list releases codes .done) (runIn h list releases codes .outcome) list (runIn h list releases codes .codes)
 
 -- A run, but every slot of the list is said to be done.
-unfoldable pub runListMadeUp : Sheet → List ℕ → List ℕ → List ℕ → (ℕ × Outcome) × (List ℕ × List ℕ)
-runListMadeUp h list releases codes = ((length releases / h .count, runIn h list releases codes .0 .1), runIn h list releases codes .1)
+unfoldable pub runListMadeUp : Sheet → List ℕ → List ℕ → List ℕ → RunAnswer (List ℕ)
+runListMadeUp h list releases codes = runAnswer (length releases / h .count) (runIn h list releases codes .outcome) (runIn h list releases codes .state) (runIn h list releases codes .codes)
 
 -- ---- what tells them apart
 

@@ -11,9 +11,9 @@ ghost use Rattle.machine.specs.States.{legalState};
 ghost use Rattle.machine.specs.Slot.{next};
 ghost use Rattle.records.specs.Checks.{checkRow};
 ghost use Rattle.machine.specs.Checks.{checkReleases, checkState, checkSlot, checkRun};
-ghost use Rattle.machine.specs.Answers.{given, nextCodes, slotAt, notBegun, course};
+ghost use Rattle.machine.specs.Answers.{slotAnswer, runAnswer, given, nextCodes, slotAt, course};
 ghost use Rattle.records.specs.Methods.{steppedRow};
-ghost use Rattle.machine.specs.Lists.{stateLong, recordIn, stateIn, putRecord, putTo, slotIn, runIn, ranIn, courseIn};
+ghost use Rattle.machine.specs.Lists.{stateLong, recordIn, stateIn, putRecord, putTo, slotIn, runIn, ranIn};
 use crate::places::Done;
 use crate::places::is_legal_in;
 use crate::places::put_record;
@@ -97,7 +97,7 @@ fn slot_part(
 ) -> Refusal
     requires { ⌜ (n ≡ sheetIn (now sheet) .count) × (legal (sheetIn (now sheet)) ≡ true) × (legalState (sheetIn (now sheet)) (stateIn (now list)) ≡ true)
         × (j * n + n ≤ length (now releases)) × (j * n + n ≤ length (now codes)) ⌝ }
-    ensures { λ r. ⌜ ((outcome r, (stateIn (now (list .exit)), now (codes .exit))) ≡ slotAt (sheetIn (now (sheet .entry))) (stateIn (now (list .entry))) (now (releases .entry)) (now (codes .entry)) j)
+    ensures { λ r. ⌜ (slotAnswer (outcome r) (stateIn (now (list .exit))) (now (codes .exit)) ≡ slotAt (sheetIn (now (sheet .entry))) (stateIn (now (list .entry))) (now (releases .entry)) (now (codes .entry)) j)
         × (legalState (sheetIn (now (sheet .entry))) (stateIn (now (list .exit))) ≡ true) ⌝ }
 {
     let at = j * n;
@@ -123,7 +123,7 @@ fn run_part(
 ) -> Done
     requires { ⌜ (n ≡ sheetIn (now sheet) .count) × (legal (sheetIn (now sheet)) ≡ true) × (legalState (sheetIn (now sheet)) (stateIn (now list)) ≡ true)
         × (slots * n ≤ length (now releases)) × (slots * n ≤ length (now codes)) ⌝ }
-    ensures { λ r. ⌜ (courseIn r (stateIn (now (list .exit))) (now (codes .exit)) ≡ course (sheetIn (now (sheet .entry))) (now (releases .entry)) (notBegun accepted (stateIn (now (list .entry))) (now (codes .entry))) slots)
+    ensures { λ r. ⌜ (ranIn r (stateIn (now (list .exit))) (now (codes .exit)) ≡ course (sheetIn (now (sheet .entry))) (now (releases .entry)) (runAnswer 0 accepted (stateIn (now (list .entry))) (now (codes .entry))) slots)
         × (legalState (sheetIn (now (sheet .entry))) (stateIn (now (list .exit))) ≡ true) ⌝ }
 {
     let mut done: usize = 0;
@@ -198,7 +198,7 @@ pub fn check_run_in(sheet: &[u64], list: &[u64], releases: &[u64], room: usize) 
 
 // One slot of the state in a list: a refused slot leaves all as found.
 pub fn slot_on(sheet: &[u64], list: &mut [u64], releases: &[u64], codes: &mut [u8]) -> Refusal
-    ensures { λ r. ⌜ (outcome r, (now (list .exit), now (codes .exit))) ≡ slotIn (sheetIn (now (sheet .entry))) (now (list .entry)) (now (releases .entry)) (now (codes .entry)) ⌝ }
+    ensures { λ r. ⌜ slotAnswer (outcome r) (now (list .exit)) (now (codes .exit)) ≡ slotIn (sheetIn (now (sheet .entry))) (now (list .entry)) (now (releases .entry)) (now (codes .entry)) ⌝ }
 {
     let refusal = check_slot_in(sheet, list, releases, codes.len());
     match refusal {
@@ -213,7 +213,7 @@ pub fn slot_on(sheet: &[u64], list: &mut [u64], releases: &[u64], codes: &mut [u
 
 // A run of slots on the state in a list.
 pub fn run_on(sheet: &[u64], list: &mut [u64], releases: &[u64], codes: &mut [u8]) -> Done
-    ensures { λ r. ⌜ (ranIn r, (now (list .exit), now (codes .exit))) ≡ runIn (sheetIn (now (sheet .entry))) (now (list .entry)) (now (releases .entry)) (now (codes .entry)) ⌝ }
+    ensures { λ r. ⌜ ranIn r (now (list .exit)) (now (codes .exit)) ≡ runIn (sheetIn (now (sheet .entry))) (now (list .entry)) (now (releases .entry)) (now (codes .entry)) ⌝ }
 {
     let refusal = check_run_in(sheet, list, releases, codes.len());
     match refusal {

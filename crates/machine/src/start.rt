@@ -7,6 +7,7 @@ ghost use Rattle.basis.specs.Refusals.{outcome};
 ghost use Rattle.sheet.specs.Legal.{legal};
 ghost use Rattle.sheet.specs.Lists.{sheetIn};
 ghost use Rattle.machine.specs.States.{freshAt};
+ghost use Rattle.machine.specs.Answers.{freshAnswer};
 ghost use Rattle.machine.specs.Lists.{stateLong, putTo, freshOn};
 use crate::places::RECORD_WIDE;
 use crate::places::put_record;
@@ -34,7 +35,7 @@ fn put_fresh(sheet: &[u64], list: &mut [u64], n: usize)
 
 // The fresh state of a sheet in a list: 10, then 15 where there is no room for it; a refusal leaves the list as found.
 pub fn fresh_on(sheet: &[u64], list: &mut [u64]) -> Refusal
-    ensures { λ r. ⌜ (outcome r, now (list .exit)) ≡ freshOn (sheetIn (now (sheet .entry))) (now (list .entry)) ⌝ }
+    ensures { λ r. ⌜ freshAnswer (outcome r) (now (list .exit)) ≡ freshOn (sheetIn (now (sheet .entry))) (now (list .entry)) ⌝ }
 {
     let fine = sheet::is_legal(sheet);
     if fine {

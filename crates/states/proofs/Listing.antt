@@ -21,10 +21,10 @@ use Rattle.states.specs.declared.state.State.{State as Value}
 use Rattle.states.specs.Values.{held}
 use Rattle.machine.specs.declared.places.Done.{Done}
 use Rattle.records.specs.Records.{noRecord}
-use Rattle.machine.specs.Lists.{recordWide, recordIn, stateLong, stateIn, putRecord, putTo, freshOn, runIn, ranIn, courseIn}
+use Rattle.machine.specs.Lists.{recordWide, recordIn, stateLong, stateIn, putRecord, putTo, freshOn, runIn, ranIn}
 use Rattle.machine.proofs.Stored.{put-more, state-put, spare-of-full, state-rows-long}
 use Rattle.machine.specs.Checks.{checkSlot, checkRun}
-use Rattle.machine.specs.Answers.{fresh, Course, run, Told, margin}
+use Rattle.machine.specs.Answers.{FreshAnswer, freshAnswer, runAnswer, fresh, run, Told, margin}
 use Rattle.machine.proofs.Handed.{fresh-of-zeros, run-listed-back}
 
 -- `listed`
@@ -33,19 +33,19 @@ sheet-in-list h l l₀ e long room = ap sheetIn e ∙ whole-sheet-comes-back h l
 
 -- each call by value, by its call on lists: `fresh`
 module _ (h : Sheet) (s : List ℕ) (eh : sheetIn s ≡ h) where
-  pub fresh-by-list : (r : Refusal) (l′ : List ℕ) → (outcome r, l′) ≡ freshOn (sheetIn s) (replicate (stateLong mostRows) 0) → (u : State) → u ≡ stateIn l′ → (outcome r, u) ≡ fresh h
+  pub fresh-by-list : (r : Refusal) (l′ : List ℕ) → freshAnswer (outcome r) l′ ≡ freshOn (sheetIn s) (replicate (stateLong mostRows) 0) → (u : State) → u ≡ stateIn l′ → freshAnswer (outcome r) u ≡ fresh h
   fresh-by-list r l′ f u eu =
-      ap (λ (x : State). (outcome r, x)) eu
-      ∙ ap (λ (x : Outcome × List ℕ). (x .0, stateIn (x .1))) f
+      ap (freshAnswer (outcome r)) eu
+      ∙ ap (λ (x : FreshAnswer (List ℕ)). freshAnswer (x .outcome) (stateIn (x .state))) f
       ∙ fresh-of-zeros (sheetIn s)
       ∙ ap fresh eh
 
   -- a run, a margin, and the checks of a slot and of a run
   module _ (l : List ℕ) (t : State) (et : stateIn l ≡ t) where
-    pub run-by-list : (rel cs : List ℕ) (r : Done) (l′ ds : List ℕ) → (ranIn r, (l′, ds)) ≡ runIn (sheetIn s) l rel cs → (u : State) → u ≡ stateIn l′
-        → _≡_ {A = Course} (record { done = r .done; outcome = outcome (r .refusal); state = u; codes = ds }) (run h t rel cs)
+    pub run-by-list : (rel cs : List ℕ) (r : Done) (l′ ds : List ℕ) → ranIn r l′ ds ≡ runIn (sheetIn s) l rel cs → (u : State) → u ≡ stateIn l′
+        → runAnswer (r .done) (outcome (r .refusal)) u ds ≡ run h t rel cs
     run-by-list rel cs r l′ ds f u eu =
-        ap (λ (x : State). courseIn r x ds) eu ∙ run-listed-back (sheetIn s) l rel cs r l′ ds f ∙ ap₂ (λ (g : Sheet) (x : State). run g x rel cs) eh et
+        ap (λ (x : State). ranIn r x ds) eu ∙ run-listed-back (sheetIn s) l rel cs r l′ ds f ∙ ap₂ (λ (g : Sheet) (x : State). run g x rel cs) eh et
 
     pub margin-by-list : (k : ℕ) (x : Told) → x ≡ margin (sheetIn s) (stateIn l) k → x ≡ margin h t k
     margin-by-list k x f = f ∙ ap₂ (λ (g : Sheet) (y : State). margin g y k) eh et

@@ -3,14 +3,14 @@
 use Prim.Native.Nat.{ℕ}
 use mathlib.Core.Path.{_≡_, sym, ap, ap₂, _∙_}
 use mathlib.Core.List.{List}
-use Rattle.basis.specs.Refusals.{Outcome, outcome}
+use Rattle.basis.specs.Refusals.{outcome}
 use Rattle.basis.specs.declared.refusal.Refusal.{Refusal}
 use Rattle.basis.proofs.Refusals.{outcome-one-to-one}
 use Rattle.sheet.specs.declared.row.Sheet.{Sheet}
 use Rattle.machine.specs.declared.margins.Margin.{Margin}
 use Rattle.machine.specs.States.{State}
 use Rattle.machine.specs.Checks.{checkRun}
-use Rattle.machine.specs.Answers.{fresh, slot, Course, run, told, margin}
+use Rattle.machine.specs.Answers.{FreshAnswer, SlotAnswer, RunAnswer, fresh, slot, run, told, margin}
 use Rattle.machine.proofs.Same.{told-one-to-one}
 use Rattle.states.specs.declared.state.State.{State as Value}
 use Rattle.states.specs.declared.start.Started.{Started}
@@ -30,8 +30,8 @@ held-one-to-one a b e = ap value e
 pub started-one-to-one : (a b : Started) → started a ≡ started b → a ≡ b
 started-one-to-one a b e =
     ap₂ (λ (r : Refusal) (t : Value). record { refusal = r; state = t })
-    (outcome-one-to-one (a .refusal) (b .refusal) (ap (λ (x : Outcome × State). x .0) e))
-    (ap (λ (x : Outcome × State). value (x .1)) e)
+    (outcome-one-to-one (a .refusal) (b .refusal) (ap (λ (x : FreshAnswer State). x .outcome) e))
+    (ap (λ (x : FreshAnswer State). value (x .state)) e)
 
 pub fresh-same : (h : Sheet) (a b : Started) → started a ≡ fresh h → started b ≡ fresh h → a ≡ b
 fresh-same h a b e f = started-one-to-one a b (e ∙ sym f)
@@ -40,9 +40,9 @@ fresh-same h a b e f = started-one-to-one a b (e ∙ sym f)
 pub slotted-one-to-one : (a b : Slotted) (cs ds : List ℕ) → slotted a cs ≡ slotted b ds → (a ≡ b) × (cs ≡ ds)
 slotted-one-to-one a b cs ds e = (
   ap₂ (λ (r : Refusal) (t : Value). record { refusal = r; state = t })
-      (outcome-one-to-one (a .refusal) (b .refusal) (ap (λ (x : Outcome × (State × List ℕ)). x .0) e))
-      (ap (λ (x : Outcome × (State × List ℕ)). value (x .1 .0)) e),
-  ap (λ (x : Outcome × (State × List ℕ)). x .1 .1) e,
+      (outcome-one-to-one (a .refusal) (b .refusal) (ap (λ (x : SlotAnswer State). x .outcome) e))
+      (ap (λ (x : SlotAnswer State). value (x .state)) e),
+  ap (λ (x : SlotAnswer State). x .codes) e,
 )
 
 pub slot-same : (h : Sheet) (t : Value) (rel before : List ℕ) (a b : Slotted) (cs ds : List ℕ)
@@ -52,10 +52,10 @@ slot-same h t rel before a b cs ds e f = slotted-one-to-one a b cs ds (e ∙ sym
 -- `run`: the answer, and the code buffer after it
 pub ran-one-to-one : (a b : Ran) (cs ds : List ℕ) → ran a cs ≡ ran b ds → (a ≡ b) × (cs ≡ ds)
 ran-one-to-one a b cs ds e =
-    let d : a .done ≡ b .done = ap (λ (x : Course). x .done) e in
-    let r = outcome-one-to-one (a .refusal) (b .refusal) (ap (λ (x : Course). x .outcome) e) in
-    let s : a .state ≡ b .state = ap (λ (x : Course). value (x .state)) e in
-    (λ i. record { done = d i; refusal = r i; state = s i }, ap (λ (x : Course). x .codes) e)
+    let d : a .done ≡ b .done = ap (λ (x : RunAnswer State). x .done) e in
+    let r = outcome-one-to-one (a .refusal) (b .refusal) (ap (λ (x : RunAnswer State). x .outcome) e) in
+    let s : a .state ≡ b .state = ap (λ (x : RunAnswer State). value (x .state)) e in
+    (λ i. record { done = d i; refusal = r i; state = s i }, ap (λ (x : RunAnswer State). x .codes) e)
 
 pub run-same : (h : Sheet) (t : Value) (rel before : List ℕ) (a b : Ran) (cs ds : List ℕ)
     → ran a cs ≡ run h (held t) rel before → ran b ds ≡ run h (held t) rel before → (a ≡ b) × (cs ≡ ds)

@@ -8,7 +8,7 @@ use Rattle.basis.specs.Refusals.{accepted}
 use Rattle.sheet.specs.Legal.{legal}
 use Rattle.sheet.specs.Lists.{sheetIn}
 use Rattle.machine.specs.States.{legalState}
-use Rattle.machine.specs.Answers.{notBegun, course}
+use Rattle.machine.specs.Answers.{runAnswer, course}
 use Rattle.machine.specs.Lists.{stateIn}
 use Rattle.machine.proofs.Courses.{room-for, goes-on, stops, ends}
 use Rattle.machine.proofs.inplace.run_part.Statement.{statement}
@@ -24,7 +24,7 @@ Inv-loop sheet list₀ n releases codes₀ slots done₀ list codes done =
     × (slots * n ≤ length codes)
     × (length list ≡ length list₀)
     × (length codes ≡ length codes₀)
-    × (course (sheetIn sheet) releases (notBegun accepted (stateIn list₀) codes₀) done ≡ record { done = done; outcome = accepted; state = stateIn list; codes = codes })
+    × (course (sheetIn sheet) releases (runAnswer 0 accepted (stateIn list₀) codes₀) done ≡ runAnswer done accepted (stateIn list) codes)
 
 abbrev μ-loop : tie.MeasureT-loop
 μ-loop sheet list₀ n releases codes₀ slots done₀ list codes done = slots - done

@@ -35,7 +35,7 @@ use Rattle.basis.specs.declared.refusal.Refusal.{Refusal}
 use Rattle.basis.proofs.refusal.Refusal.is_accepted.Symbol.{name as #is-accepted}
 use Rattle.states.specs.declared.state.State.{State}
 use Rattle.aboard.specs.declared.lent.Begun.{Begun}
-use Rattle.machine.specs.Answers.{slotAt, notBegun}
+use Rattle.machine.specs.Answers.{slotAt, runAnswer}
 use Rattle.states.specs.Values.{held}
 use Rattle.aboard.specs.Lent.{slottedIn}
 use Rattle.aboard.proofs.lent.Begun as Be
@@ -92,7 +92,7 @@ module _ {M : Type 1} (𝓤 : URA M) (H : Heap 𝓤) (A : Atoms 𝓤) (W : Given
       rewrite ! 20 (λ (y : Bool). ‵ (fat fullShare tyBool (l 12) 0 (vbool y))) (le-ltb (c .done) (b .slots) over) refl $ leaves-loop ! (load ! (from ! (stop !)) (look ! 20 refl)) $
       exec ! C Λ E mir-code.t-8 (atRet E Ends) $ forget ! 20 refl $
       leaves 𝓤 H A W mem run p C Λ l b (c .done) (c .refusal) (c .state) (c .codes) (omega (arith, few, c .going .within)) (c .is-refusal) (c .is-state) (c .going .long)
-      (box-ends h (rel .now) (cs .now) (notBegun (outcome (b .refusal)) (held (b .state)) (cs .now)) (b .slots) (c .done) (c .refusal) (c .state) (c .codes) (c .going) over ∙ bs .whole)
+      (box-ends h (rel .now) (cs .now) (runAnswer 0 (outcome (b .refusal)) (held (b .state)) (cs .now)) (b .slots) (c .done) (c .refusal) (c .state) (c .codes) (c .going) over ∙ bs .whole)
 
   -- a slot is done
   module _ (fm : FmC 𝓤 H (W .laws) C) (known : Triple 𝓤 (C #is-accepted) (IsAccepted 𝓤 H A mem run)) (c : Turn p b) (less : c .done < b .slots) (y : Refusal) (u : State) (ds : List ℕ)
@@ -103,7 +103,7 @@ module _ {M : Type 1} (𝓤 : URA M) (H : Heap 𝓤) (A : Atoms 𝓤) (W : Given
       refusal = y;
       state = u;
       codes = ds;
-      going = box-goes-on h (rel .now) (cs .now) (notBegun (outcome (b .refusal)) (held (b .state)) (cs .now)) (b .slots) (c .done) (c .refusal) (c .state) (c .codes) (c .going) less y u ds e long a;
+      going = box-goes-on h (rel .now) (cs .now) (runAnswer 0 (outcome (b .refusal)) (held (b .state)) (cs .now)) (b .slots) (c .done) (c .refusal) (c .state) (c .codes) (c .going) less y u ds e long a;
       is-refusal = gy;
       is-state = gu;
     }
@@ -120,7 +120,7 @@ module _ {M : Type 1} (𝓤 : URA M) (H : Heap 𝓤) (A : Atoms 𝓤) (W : Given
         again ! (Nearer p b) (HeadOf 𝓤 H l p b) c (next (sym ez ∙ is-true z yes)) nearer)
         (λ no. jumps ! $ exec ! C Λ E mir-code.t-8 (atRet E Ends) $ forget ! 8 refl $
         leaves 𝓤 H A W mem run p C Λ l b (c .done) y u ds (omega (arith, few, less)) gy gu (long ∙ c .going .long)
-        (box-stops h (rel .now) (cs .now) (notBegun (outcome (b .refusal)) (held (b .state)) (cs .now)) (b .slots) (c .done) (c .refusal) (c .state) (c .codes) (c .going) less y u ds e (sym ez ∙ is-false z no) ∙ bs .whole))))))
+        (box-stops h (rel .now) (cs .now) (runAnswer 0 (outcome (b .refusal)) (held (b .state)) (cs .now)) (b .slots) (c .done) (c .refusal) (c .state) (c .codes) (c .going) less y u ds e (sym ez ∙ is-false z no) ∙ bs .whole))))))
       where
         one-more : c .done + 1 < 2 ^ 64
         one-more = omega (arith, few, less)

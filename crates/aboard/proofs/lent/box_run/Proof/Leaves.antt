@@ -63,7 +63,7 @@ module _ {M : Type 1} (𝓤 : URA M) (H : Heap 𝓤) (A : Atoms 𝓤) (W : Given
   abbrev pub Post : Val → SProp 𝓤
   Post = walkOf 𝓤 H A box-run.ended stayed (box-run.clauses 𝓤 H A mem run) .post (((κ₁, (κ₂, tt)), (q₁, (q₂, tt)), tt, args, vals), tt)
 
-  exits : (r : Ran) (zs : List ℕ) → ran r zs ≡ the-run h (fresh h .1) (rel .now) (cs .now) → length zs ≡ length (cs .now) → Is Ra.the-row r (rav r ∷ [])
+  exits : (r : Ran) (zs : List ℕ) → ran r zs ≡ the-run h (fresh h .state) (rel .now) (cs .now) → length zs ≡ length (cs .now) → Is Ra.the-row r (rav r ∷ [])
       → ent 𝓤 (⋆ 𝓤 H A (‵ (flft κ₁ q₁) ∷ ‵ (flft κ₂ q₂) ∷ ‵ (finally u8 (cs .name) zs) ∷ [])) (Post (rav r))
   exits r zs e l is =
       qed W (‵ (flft κ₁ q₁) ∷ ‵ (flft κ₂ q₂) ∷ ‵ (finally u8 (cs .name) zs) ∷ []) ∵
@@ -72,7 +72,7 @@ module _ {M : Type 1} (𝓤 : URA M) (H : Heap 𝓤) (A : Atoms 𝓤) (W : Given
       owned ! Ra.the-row (Is Ra.the-row) (LL.makes Ra.the-type Ra′.the-plain 𝓤 H A) r _ is $ move ! (1 ∷ 0 ∷ []) $ done !
 
   module _ (C : Calls 𝓤 H) (Λ : Loops 𝓤 H) (l : ℕ → ℕ) (b : Begun) (j : ℕ) (x : Refusal) (t : State) (zs : List ℕ)
-      (small : j < 2 ^ 64) (gx : IsRefusal x) (gt : IsState t) (long : length zs ≡ length (cs .now)) (e : ran (record { done = j; refusal = x; state = t }) zs ≡ the-run h (fresh h .1) (rel .now) (cs .now)) where
+      (small : j < 2 ^ 64) (gx : IsRefusal x) (gt : IsState t) (long : length zs ≡ length (cs .now)) (e : ran (record { done = j; refusal = x; state = t }) zs ≡ the-run h (fresh h .state) (rel .now) (cs .now)) where
     abbrev answer : Ran
     answer = record { done = j; refusal = x; state = t }
 

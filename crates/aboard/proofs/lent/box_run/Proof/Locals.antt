@@ -21,7 +21,7 @@ use Rattle.sheet.proofs.row.Sheet.Laws as Sh′
 use Rattle.states.specs.declared.state.State.{State}
 use Rattle.states.specs.declared.runs.Ran.{Ran}
 use Rattle.aboard.specs.declared.lent.Begun.{Begun}
-use Rattle.machine.specs.Answers.{notBegun}
+use Rattle.machine.specs.Answers.{runAnswer}
 use Rattle.states.specs.Values.{held as holds}
 use Rattle.states.proofs.state.State as St
 use Rattle.states.proofs.state.State.Laws as St′
@@ -56,7 +56,7 @@ pub record Turn (p : Passed) (b : Begun) : Type 0 where
   pub refusal : Refusal
   pub state : State
   pub codes : List ℕ
-  pub going : Going (p .h) (p .rel .now) (p .cs .now) (notBegun (outcome (b .refusal)) (holds (b .state)) (p .cs .now)) (b .slots) done refusal state codes
+  pub going : Going (p .h) (p .rel .now) (p .cs .now) (runAnswer 0 (outcome (b .refusal)) (holds (b .state)) (p .cs .now)) (b .slots) done refusal state codes
   pub is-refusal : IsRefusal refusal
   pub is-state : IsState state
 
