@@ -1,4 +1,4 @@
-pub mod First
+pub mod FirstRefusal
 pub mod Lists
 pub mod Marks
 pub mod Pairs
@@ -12,3 +12,4 @@ pub mod Words
 pub mod Workload
 pub mod Faults
 pub mod Wrong
+pub mod Same

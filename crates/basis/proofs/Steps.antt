@@ -1,4 +1,4 @@
--- Laws of steps: what is known where readers that follow each other accept, and of a step of which a part is told.
+-- Laws of steps: what is known where readers that follow each other accept, and of a step with what a function makes of its value.
 -- Assumes nothing.
 use Prim.Native.Nat.{ℕ, _+_, _≤_, _<_}
 use mathlib.Core.Path.{_≡_, refl, sym, ap, ap₂, _∙_}
@@ -9,7 +9,7 @@ use lib.ListN.{length, getD}
 use lib.Dec.{ltb, leb}
 use borrow.Author.Tests.{ltb-true, ltb-false, leb-true}
 use Rattle.basis.specs.Words.{pick}
-use Rattle.basis.specs.Readers.{Step, ok, refuse, Reader, after, refuse-at, byte, enough, end, begins, marked, told}
+use Rattle.basis.specs.Readers.{Step, ok, refuse, Reader, after, refuse-at, byte, enough, end, begins, marked, mapStep}
 
 -- an accepted step and a refused one differ
 pub never-ok : {A : Type 0} {k p n : ℕ} {a : A} {x : Step A} → x ≡ refuse k p → x ≡ ok a n → ⊥
@@ -76,28 +76,28 @@ marked-ok bs s at u n e =
 pub got : {R A : Type 0} (f : R → Step A) {r r′ : R} {x : Step A} → f r ≡ x → r ≡ r′ → x ≡ f r′
 got f e q = sym e ∙ ap f q
 
--- what a told step says of the step
-pub told-ok : {A B : Type 0} (f : A → B) (x : Step A) {b : B} {n : ℕ} → told f x ≡ ok b n → (a : A) × (x ≡ ok a n) × (f a ≡ b)
-unfolding told
-told-ok {A} {B} f x {b} {n} e = go x e
+-- what such a step says of the first
+pub map-step-ok : {A B : Type 0} (f : A → B) (x : Step A) {b : B} {n : ℕ} → mapStep f x ≡ ok b n → (a : A) × (x ≡ ok a n) × (f a ≡ b)
+unfolding mapStep
+map-step-ok {A} {B} f x {b} {n} e = go x e
   where
-    go : (y : Step A) → told f y ≡ ok b n → (a : A) × (y ≡ ok a n) × (f a ≡ b)
+    go : (y : Step A) → mapStep f y ≡ ok b n → (a : A) × (y ≡ ok a n) × (f a ≡ b)
     go (ok a m) e₁ = (a, cc, cc)
     go (refuse k p) e₁ = absurd (never-ok refl e₁)
 
-pub told-no : {A B : Type 0} (f : A → B) (x : Step A) {k p : ℕ} → told f x ≡ refuse k p → x ≡ refuse k p
-unfolding told
-told-no {A} {B} f x {k} {p} e = go x e
+pub map-step-no : {A B : Type 0} (f : A → B) (x : Step A) {k p : ℕ} → mapStep f x ≡ refuse k p → x ≡ refuse k p
+unfolding mapStep
+map-step-no {A} {B} f x {k} {p} e = go x e
   where
-    go : (y : Step A) → told f y ≡ refuse k p → y ≡ refuse k p
+    go : (y : Step A) → mapStep f y ≡ refuse k p → y ≡ refuse k p
     go (ok a m) e₁ = absurd (never-ok e₁ refl)
     go (refuse j q) e₁ =
         let ek : j ≡ k = cc in
         let ep : q ≡ p = cc in
         ap₂ (λ (x : ℕ) (y : ℕ). refuse x y) ek ep
 
--- a part that is told of what another reader gives
-pub told-after : {A B C : Type 0} (f : A → B) (g : C → A) (x : Step C) → told f (after x (λ c n. ok (g c) n)) ≡ told (λ (c : C). f (g c)) x
-unfolding told
-told-after f g (ok c n) = refl
-told-after f g (refuse k p) = refl
+-- two functions, one after the other
+pub map-step-after : {A B C : Type 0} (f : A → B) (g : C → A) (x : Step C) → mapStep f (after x (λ c n. ok (g c) n)) ≡ mapStep (λ (c : C). f (g c)) x
+unfolding mapStep
+map-step-after f g (ok c n) = refl
+map-step-after f g (refuse k p) = refl

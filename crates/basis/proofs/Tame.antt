@@ -14,7 +14,7 @@ use Rattle.basis.proofs.Steps.{never-ok, ok-same, refuse-same, after-ok
 use Rattle.basis.proofs.Words.{both-left, both-right}
 
 -- a refusal of the bytes s: a number from 1 to 9 and a place in them, which is 0 for 1 and the length for 2
-pub record Listed (s : List ℕ) (number place : ℕ) : Type 0 where
+pub record BytesRefusal (s : List ℕ) (number place : ℕ) : Type 0 where
   pub at-least : 1 ≤ number
   pub at-most : number ≤ 9
   pub inside : place ≤ length s
@@ -30,19 +30,19 @@ pub record Agree (l : ℕ) (s t : List ℕ) : Type 0 where
 -- r looks at b bytes at most and goes on by c at most
 pub record Tame {A : Type 0} (r : Reader A) (b c : ℕ) : Type 0 where
   pub ends : (s : List ℕ) (at : ℕ) (a : A) (n : ℕ) → at ≤ length s → r s at ≡ ok a n → (n ≤ at + c) × (n ≤ length s)
-  pub refuses : (s : List ℕ) (at k p : ℕ) → at ≤ length s → r s at ≡ refuse k p → Listed s k p
+  pub refuses : (s : List ℕ) (at k p : ℕ) → at ≤ length s → r s at ≡ refuse k p → BytesRefusal s k p
   pub alike : (l : ℕ) (s t : List ℕ) → Agree l s t → (at : ℕ) → at + b ≤ l → r s at ≡ r t at
 
 -- a number that is not 1 or 2, at a place in the bytes
-pub listed : (s : List ℕ) (k p : ℕ) → 3 ≤ k → k ≤ 9 → p ≤ length s → Listed s k p
-listed s k p a b c = record { at-least = omega arith; at-most = b; inside = c; one = λ e. absurd (omega arith); two = λ e. absurd (omega arith) }
+pub bytes-refusal : (s : List ℕ) (k p : ℕ) → 3 ≤ k → k ≤ 9 → p ≤ length s → BytesRefusal s k p
+bytes-refusal s k p a b c = record { at-least = omega arith; at-most = b; inside = c; one = λ e. absurd (omega arith); two = λ e. absurd (omega arith) }
 
 -- the bytes end
-pub listed-two : (s : List ℕ) → Listed s 2 (length s)
-listed-two s = record { at-least = omega arith; at-most = omega arith; inside = omega arith; one = λ e. absurd (omega arith); two = λ e. refl }
+pub bytes-end-refusal : (s : List ℕ) → BytesRefusal s 2 (length s)
+bytes-end-refusal s = record { at-least = omega arith; at-most = omega arith; inside = omega arith; one = λ e. absurd (omega arith); two = λ e. refl }
 
-pub listed-as : (s : List ℕ) {k p j q : ℕ} → k ≡ j → p ≡ q → Listed s k p → Listed s j q
-listed-as s e f r = record {
+pub bytes-refusal-as : (s : List ℕ) {k p j q : ℕ} → k ≡ j → p ≡ q → BytesRefusal s k p → BytesRefusal s j q
+bytes-refusal-as s e f r = record {
   at-least = omega (arith, r .at-least);
   at-most = omega (arith, r .at-most);
   inside = omega (arith, r .inside);
@@ -51,10 +51,10 @@ listed-as s e f r = record {
 }
 
 -- a step that is refused where a test fails
-pub refused-listed : {A : Type 0} (s : List ℕ) (x : Step A) (t : Bool) (j q : ℕ) {k p : ℕ} → Listed s j q → (t ≡ true → x ≡ refuse k p → Listed s k p)
-    → pick t x (refuse j q) ≡ refuse k p → Listed s k p
-refused-listed s x true j q h f e = f refl e
-refused-listed s x false j q h f e = let (a, b) = refuse-same e in listed-as s a b h
+pub test-refusal : {A : Type 0} (s : List ℕ) (x : Step A) (t : Bool) (j q : ℕ) {k p : ℕ} → BytesRefusal s j q → (t ≡ true → x ≡ refuse k p → BytesRefusal s k p)
+    → pick t x (refuse j q) ≡ refuse k p → BytesRefusal s k p
+test-refusal s x true j q h f e = f refl e
+test-refusal s x false j q h f e = let (a, b) = refuse-same e in bytes-refusal-as s a b h
 
 pub tame-give : {A : Type 0} (a : A) → Tame (give a) 0 0
 tame-give a = record {
@@ -73,7 +73,7 @@ tame-more b′ c′ h k T = record {
 -- one reader after another
 module _ {A B : Type 0} (r : Reader A) (f : A → Reader B) {b c b′ c′ : ℕ} (T : Tame r b c)
     (U : (s : List ℕ) (at : ℕ) (a : A) (n : ℕ) → at ≤ length s → r s at ≡ ok a n → Tame (f a) b′ c′) (h : b ≤ c + b′) where
-  then-refuses : (s : List ℕ) (at k p : ℕ) → at ≤ length s → (x : Step A) → r s at ≡ x → after x (λ a n. f a s n) ≡ refuse k p → Listed s k p
+  then-refuses : (s : List ℕ) (at k p : ℕ) → at ≤ length s → (x : Step A) → r s at ≡ x → after x (λ a n. f a s n) ≡ refuse k p → BytesRefusal s k p
   then-refuses s at k p l (ok a n) e q = U s at a n l e .refuses s n k p (T .ends s at a n l e .1) q
   then-refuses s at k p l (refuse j i) e q = let (ek, ep) = refuse-same q in T .refuses s at k p l (e ∙ ap₂ (λ (x : ℕ) (y : ℕ). refuse x y) ek ep)
 
@@ -100,12 +100,12 @@ module _ {A B : Type 0} (r : Reader A) (f : A → Reader B) {b c b′ c′ : ℕ
 pub tame-enough : (k : ℕ) → Tame (enough k) k 0
 tame-enough k = record {
   ends = λ s at u n l e. let (h, en) = enough-ok k s at u n e in (omega arith, omega arith);
-  refuses = λ s at j p l e. refused-listed s (ok tt at) (leb (at + k) (length s)) 2 (length s) (listed-two s) (λ t q. absurd (never-ok q refl)) e;
+  refuses = λ s at j p l e. test-refusal s (ok tt at) (leb (at + k) (length s)) 2 (length s) (bytes-end-refusal s) (λ t q. absurd (never-ok q refl)) e;
   alike = λ l s t g at h. simp (le-leb (at + k) (length s) (omega (arith, g .left)), le-leb (at + k) (length t) (omega (arith, g .right)));
 }
 
-end-refuses : (s : List ℕ) (at k p : ℕ) → at ≤ length s → (t : Bool) → pick t (refuse 9 at) (ok (tt {0}) at) ≡ refuse k p → Listed s k p
-end-refuses s at k p l true e = let (a, b) = refuse-same {A = Unit {0}} e in listed-as s a b (listed s 9 at (omega arith) (omega arith) l)
+end-refuses : (s : List ℕ) (at k p : ℕ) → at ≤ length s → (t : Bool) → pick t (refuse 9 at) (ok (tt {0}) at) ≡ refuse k p → BytesRefusal s k p
+end-refuses s at k p l true e = let (a, b) = refuse-same {A = Unit {0}} e in bytes-refusal-as s a b (bytes-refusal s 9 at (omega arith) (omega arith) l)
 end-refuses s at k p l false e = absurd (never-ok e refl)
 
 pub tame-end : Tame end 1 0
@@ -133,19 +133,19 @@ begins-alike (b ∷ bs) (x ∷ s) (y ∷ t) h k e =
 pub tame-marked : (bs : List ℕ) → Tame (marked bs) (length bs) (length bs)
 tame-marked bs = record {
   ends = λ s at u n l e. let (is, en) = marked-ok bs s at u n e in (omega arith, omega (arith, begins-long bs s is));
-  refuses = λ s at k p l e. refused-listed s (ok tt (length bs)) (begins bs s) 1 0 (first s) (λ t q. absurd (never-ok q refl)) e;
+  refuses = λ s at k p l e. test-refusal s (ok tt (length bs)) (begins bs s) 1 0 (first s) (λ t q. absurd (never-ok q refl)) e;
   alike = λ l s t g at h.
       ap (λ (x : Bool). pick x (ok tt (length bs)) (refuse 1 0))
       (begins-alike bs s t (omega (arith, g .left)) (omega (arith, g .right)) (λ i k. g .same i (omega arith)));
 }
   where
-    first : (s : List ℕ) → Listed s 1 0
+    first : (s : List ℕ) → BytesRefusal s 1 0
     first s = record { at-least = omega arith; at-most = omega arith; inside = omega arith; one = λ e. refl; two = λ e. absurd (omega arith) }
 
 pub tame-byte : Tame byte 1 1
 tame-byte = record {
   ends = λ s at b n l e. let (h, _, en) = byte-ok s at b n e in (omega arith, omega arith);
-  refuses = λ s at k p l e. refused-listed s (ok (getD s at 0) (at + 1)) (ltb at (length s)) 2 (length s) (listed-two s) (λ t q. absurd (never-ok q refl)) e;
+  refuses = λ s at k p l e. test-refusal s (ok (getD s at 0) (at + 1)) (ltb at (length s)) 2 (length s) (bytes-end-refusal s) (λ t q. absurd (never-ok q refl)) e;
   alike = λ l s t g at h. simp (lt-ltb at (length s) (omega (arith, g .left)), lt-ltb at (length t) (omega (arith, g .right)), g .same at (omega arith));
 }
 
@@ -156,13 +156,13 @@ pick-alike false r q s t n e f = f
 
 -- a byte that is tested, refused by j at its place, and followed by a reader
 module _ {A : Type 0} (test : ℕ → Bool) (r : ℕ → Reader A) (j : ℕ) {b c : ℕ} (U : (x : ℕ) → Tame (r x) b c) (low : 3 ≤ j) (high : j ≤ 9) where
-  tested-refuses : (s : List ℕ) (at k p : ℕ) → at ≤ length s → (y : Step ℕ) → byte s at ≡ y → after y (λ x n. pick (test x) (r x) (refuse-at j at) s n) ≡ refuse k p → Listed s k p
+  tested-refuses : (s : List ℕ) (at k p : ℕ) → at ≤ length s → (y : Step ℕ) → byte s at ≡ y → after y (λ x n. pick (test x) (r x) (refuse-at j at) s n) ≡ refuse k p → BytesRefusal s k p
   tested-refuses s at k p l (ok x n) e q = go (test x) q
     where
-      go : (t : Bool) → pick t (r x) (refuse-at j at) s n ≡ refuse k p → Listed s k p
+      go : (t : Bool) → pick t (r x) (refuse-at j at) s n ≡ refuse k p → BytesRefusal s k p
       go true q₁ = U x .refuses s n k p (tame-byte .ends s at x n l e .1) q₁
-      go false q₁ = let (ek, ep) = refuse-same q₁ in listed-as s ek ep (listed s j at low high l)
-  tested-refuses s at k p l (refuse i n) e q = let (ek, ep) = refuse-same {A = A} q in listed-as s ek ep (tame-byte .refuses s at i n l e)
+      go false q₁ = let (ek, ep) = refuse-same q₁ in bytes-refusal-as s ek ep (bytes-refusal s j at low high l)
+  tested-refuses s at k p l (refuse i n) e q = let (ek, ep) = refuse-same {A = A} q in bytes-refusal-as s ek ep (tame-byte .refuses s at i n l e)
 
   pub tame-tested : Tame (here >>= (λ place. byte >>= (λ x. pick (test x) (r x) (refuse-at j place)))) (1 + b) (1 + c)
   tame-tested = record {

@@ -1,11 +1,11 @@
--- Laws of `upto`: what a loop that stores once a turn has made, read at a place, its length, and as two lists.
+-- Laws of `upto`: what a loop that stores once a turn has made, read at a place, and its length.
 -- Assumes nothing.
-use Prim.Native.Nat.{ℕ, zero, suc, _+_, _-_, _≤_, _<_}
+use Prim.Native.Nat.{ℕ, zero, suc, _+_, _≤_, _<_}
 use mathlib.Core.Path.{_≡_, refl, sym, ap, _∙_}
-use mathlib.Core.List.{List, [], _∷_, _++_}
+use mathlib.Core.List.{List}
 use mathlib.Core.Logic.{⊎-elim}
-use lib.ListN.{length, getD, set, drop, length-set, length-append, length-drop, List·getD-append}
-use lib.Seq.{getD-set-same, getD-set-other, ext-getD, getD-append-add, getD-drop}
+use lib.ListN.{length, getD, set, length-set}
+use lib.Seq.{getD-set-same, getD-set-other, ext-getD}
 use native.Mathlib.Numerals.{add-one}
 use native.Mathlib.Omega.{arith}
 use native.Mathlib.Nat.{le-refl, eq-or-lt-of-le}
@@ -39,7 +39,7 @@ module _ {A : Type 0} where
   pub upto-set : (i : ℕ) (f : ℕ → A) (l l₀ : List A) (v : A) → l ≡ upto i f l₀ → v ≡ f i → set l i v ≡ upto (i + 1) f l₀
   upto-set i f l l₀ v e k = cc (upto-more i f l₀)
 
-  -- the other views: below n the list has f's values; it is f 0, .., f (n - 1) and then the rest as it was
+  -- below n the list has f's values
   pub upto-below : (n : ℕ) (f : ℕ → A) (l : List A) (d : A) (k : ℕ) → k < n → n ≤ length l → getD (upto n f l) k d ≡ f k
   unfolding upto
   upto-below zero f l d k h r = absurd (omega arith)
@@ -47,33 +47,6 @@ module _ {A : Type 0} where
       ⊎-elim (λ e. rw e (getD-set-same (upto n f l) n (f n) d (rw length-upto (omega arith))))
       (λ m. getD-set-other (upto n f l) n k (f n) d (λ e. omega arith) ∙ upto-below n f l d k m (omega arith))
       (eq-or-lt-of-le {n = k} {m = n} (omega arith))
-
-  -- f k, f (k + 1), .. : n of them
-  abbrev pub table : ℕ → ℕ → (ℕ → A) → List A
-  table zero k f = []
-  table (suc n) k f = f k ∷ table n (suc k) f
-
-  length-table : (n k : ℕ) (f : ℕ → A) → length (table n k f) ≡ n
-  length-table zero k f = refl
-  length-table (suc n) k f = ap suc (length-table n (suc k) f)
-
-  getD-table : (n k : ℕ) (f : ℕ → A) (d : A) (i : ℕ) → i < n → getD (table n k f) i d ≡ f (k + i)
-  getD-table zero k f d i h = absurd (omega arith)
-  getD-table (suc n) k f d zero h = ap f (omega arith)
-  getD-table (suc n) k f d (suc i) h = getD-table n (suc k) f d i (omega arith) ∙ ap f (omega arith)
-
-  pub upto-split : (n : ℕ) (f : ℕ → A) (l : List A) (d : A) → n ≤ length l → upto n f l ≡ table n 0 f ++ drop n l
-  upto-split n f l d r =
-      ext-getD d (upto n f l) (table n 0 f ++ drop n l)
-      (length-upto n f l ∙ sym (simp (length-append, length-table, length-drop) (omega arith)))
-      (λ i h. ⊎-elim (λ m. upto-below n f l d i m r ∙ sym (front i m)) (λ m. upto-past n f l d i m ∙ sym (split i m)) (lt-or-le i n)) where
-        front : (i : ℕ) → i < n → getD (table n 0 f ++ drop n l) i d ≡ f i
-        front i m = List·getD-append (table n 0 f) (drop n l) d i (rw length-table m) ∙ getD-table n 0 f d i m ∙ ap f (omega arith)
-
-        split : (i : ℕ) → n ≤ i → getD (table n 0 f ++ drop n l) i d ≡ getD l i d
-        split i m =
-            let q : i ≡ length (table n 0 f) + (i - n) = rw length-table (omega arith) in
-            ap (λ (j : ℕ). getD (table n 0 f ++ drop n l) j d) q ∙ getD-append-add (table n 0 f) (drop n l) (i - n) d ∙ getD-drop n l (i - n) d ∙ ap (λ (j : ℕ). getD l j d) (omega arith)
 
   -- two fillings are one where they agree below n
   pub upto-agree : (n : ℕ) (f g : ℕ → A) (l : List A) → ((k : ℕ) → k < n → f k ≡ g k) → upto n f l ≡ upto n g l

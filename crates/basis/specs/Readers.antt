@@ -66,7 +66,7 @@ begins (b ∷ bs) (x ∷ s) = both (eqb x b) (begins bs s)
 abbrev pub marked : List ℕ → Reader (Unit {0})
 marked bs s at = pick (begins bs s) (ok tt (length bs)) (refuse 1 0)
 
--- A step of whose value only a part is told.
-unfoldable pub told : {A B : Type 0} → (A → B) → Step A → Step B
-told f (ok a n) = ok (f a) n
-told f (refuse k p) = refuse k p
+-- The step with what f makes of its value.
+unfoldable pub mapStep : {A B : Type 0} → (A → B) → Step A → Step B
+mapStep f (ok a n) = ok (f a) n
+mapStep f (refuse k p) = refuse k p

@@ -15,7 +15,7 @@ use Rattle.basis.specs.Upto.{upto}
 use Rattle.basis.specs.Refusals.{Outcome, accepted, refused, outcome, orElse, roomFor}
 use Rattle.basis.specs.declared.refusal.Refusal.{Refusal}
 use Rattle.basis.specs.declared.refusal.Refusal.the-variants.{Accepted, Refused}
-use Rattle.basis.proofs.First.{both-accepted}
+use Rattle.basis.proofs.FirstRefusal.{both-accepted}
 use Rattle.basis.proofs.Refusals.{outcome-one-to-one, room-holds, handed-found, handed-done, handed-outcome}
 use Rattle.basis.proofs.Upto.{length-upto}
 use Rattle.sheet.specs.Legal.{legal}
@@ -25,8 +25,8 @@ use Rattle.sheet.proofs.Legality.{legal-is}
 use Rattle.reader.specs.Answers.{reading, labelIn}
 use Rattle.reader.specs.Lists.{labelsLong, readInto}
 use Rattle.reader.specs.Steps.{partIn}
-use Rattle.reader.proofs.After.{list-kept, labels-kept, list-has-room, labels-have-room, list-as-long, count-read, front-hands-over, sheet-is-legal, outcome-is-the-readers, parts-written, labels-as-long}
-use Rattle.reader.proofs.Owned.{lists}
+use Rattle.reader.proofs.LentLists.{list-kept, labels-kept, list-has-room, labels-have-room, list-as-long, count-read, front-hands-over, sheet-is-legal, outcome-is-the-readers, parts-written, labels-as-long}
+use Rattle.reader.proofs.ZeroLists.{lists}
 use Rattle.bound.specs.declared.results.Judgement.{Judgement}
 use Rattle.bound.specs.Test.{passes}
 use Rattle.bound.specs.Bound.{Answer, resultOf, holds, judged, boundsBy, boundsOf}

@@ -23,7 +23,7 @@ use Rattle.sheet.specs.Legal.{legal, Legal}
 use Rattle.sheet.specs.declared.row.Sheet.{Sheet}
 use Rattle.sheet.specs.Lists.{numberAt, filled, sheetIn, clearedCell}
 use Rattle.sheet.proofs.Legality.{legal-is}
-use Rattle.sheet.proofs.Clearing.{cleared-is-filled}
+use Rattle.sheet.proofs.ClearedLists.{cleared-is-filled}
 use Rattle.bound.specs.Test.{passes}
 use Rattle.bound.specs.Bound.{Word, bound, none, unreached, resultOf, allUnreached, holds, judged, boundsBy}
 use Rattle.bound.specs.Lists.{wordNumber, boundNumber, resultsLong, resultCell, resultsOn, boundsOn, words, putResult, wordAt}

@@ -19,7 +19,7 @@ use Rattle.sheet.specs.declared.row.Sheet.{Sheet}
 use Rattle.sheet.specs.Lists.{filled, sheetCell, sheetIn, sheetLong}
 use Rattle.sheet.proofs.Legality.{legal-is}
 use Rattle.sheet.proofs.Ranges.{legal-sheet-long}
-use Rattle.sheet.proofs.Back.{whole-sheet-comes-back}
+use Rattle.sheet.proofs.RoundTrip.{whole-sheet-comes-back}
 use Rattle.bound.specs.Quantities.{slots}
 use Rattle.bound.specs.Test.{passes}
 use Rattle.bound.specs.Bound.{Word, unreached, bound, none, word, wordIn, isBound, valueOf, boundBy, bounds, bounded, resultOf, allUnreached, holds, Answer, judged, boundsOf}

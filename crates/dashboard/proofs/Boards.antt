@@ -16,20 +16,20 @@ use Rattle.reader.specs.Answers.{labelIn}
 use Rattle.reader.specs.Lists.{labelsLong}
 use Rattle.reader.specs.Steps.{partIn}
 use Rattle.reader.specs.declared.row.Part.{Part}
-use Rattle.reader.proofs.Shown.{inside}
+use Rattle.reader.proofs.LentParts.{inside}
 use Rattle.bound.specs.Test.{passes}
 use Rattle.bound.specs.Bound.{Word, resultOf, holds}
 use Rattle.bound.specs.Lists.{resultsLong, wordAt}
 use Rattle.bound.proofs.Lists.{unreached-read, bound-read, none-read}
 use Rattle.page.specs.Decimals.{decimal}
-use Rattle.dashboard.specs.Words.{boundWord, noneWord, unreachedWord, told, line, holdsLine, failsLine, ending}
-use Rattle.dashboard.specs.Labels.{ownLabel, numbered, labelBy}
+use Rattle.dashboard.specs.Words.{boundWord, noneWord, unreachedWord, resultWords, line, holdsLine, failsLine, ending}
+use Rattle.dashboard.specs.Labels.{ownLabel, numbered, lineLabel}
 use Rattle.dashboard.specs.Ready.{LabelsLie}
 use Rattle.dashboard.specs.declared.line.Labels.{Labels}
 use Rattle.dashboard.specs.declared.line.Labels.the-variants.{Own, Numbered}
 use Rattle.dashboard.specs.Texts.{lines, board}
 use Rattle.page.specs.Pages.{Page, said}
-use Rattle.page.proofs.Saying.{two-said}
+use Rattle.page.proofs.Pages.{two-said}
 
 -- ---- a line
 
@@ -55,27 +55,27 @@ module _ (s parts : List ℕ) (i : ℕ) (e : partIn parts i ≡ labelIn s i) whe
 
 module _ (p q : Page) (labels : Labels) (s : List ℕ) (i : ℕ) where
   -- the sheet's own label
-  pub own-said : (l : List ℕ) → labels ≡ Own → l ≡ ownLabel s i → q ≡ said p l → q ≡ said p (labelBy labels s i)
-  unfolding labelBy
+  pub own-said : (l : List ℕ) → labels ≡ Own → l ≡ ownLabel s i → q ≡ said p l → q ≡ said p (lineLabel labels s i)
+  unfolding lineLabel
   own-said l h k e = rw h (e ∙ ap (said p) k)
 
   -- or the bytes and the row number
-  pub numbered-said : (r : Page) → labels ≡ Numbered → r ≡ said p s → q ≡ said r (decimal i) → q ≡ said p (labelBy labels s i)
-  unfolding labelBy numbered
+  pub numbered-said : (r : Page) → labels ≡ Numbered → r ≡ said p s → q ≡ said r (decimal i) → q ≡ said p (lineLabel labels s i)
+  unfolding lineLabel numbered
   numbered-said r h e f = rw h (two-said p r q s (decimal i) e f)
 
 module _ (p q : Page) (results : List ℕ) (i : ℕ) where
-  pub unreached-said : numberAt results (i * 2) ≡ 0 → q ≡ said p unreachedWord → q ≡ said p (told (wordAt results i))
-  unfolding told
-  unreached-said h e = e ∙ ap (λ (w : Word). said p (told w)) (unreached-read results i h)
+  pub unreached-said : numberAt results (i * 2) ≡ 0 → q ≡ said p unreachedWord → q ≡ said p (resultWords (wordAt results i))
+  unfolding resultWords
+  unreached-said h e = e ∙ ap (λ (w : Word). said p (resultWords w)) (unreached-read results i h)
 
-  pub bound-said : (o : Page) → numberAt results (i * 2) ≡ 1 → o ≡ said p boundWord → q ≡ said o (decimal (numberAt results (i * 2 + 1))) → q ≡ said p (told (wordAt results i))
-  unfolding told
-  bound-said o h e f = two-said p o q boundWord (decimal (numberAt results (i * 2 + 1))) e f ∙ ap (λ (w : Word). said p (told w)) (bound-read results i h)
+  pub bound-said : (o : Page) → numberAt results (i * 2) ≡ 1 → o ≡ said p boundWord → q ≡ said o (decimal (numberAt results (i * 2 + 1))) → q ≡ said p (resultWords (wordAt results i))
+  unfolding resultWords
+  bound-said o h e f = two-said p o q boundWord (decimal (numberAt results (i * 2 + 1))) e f ∙ ap (λ (w : Word). said p (resultWords w)) (bound-read results i h)
 
-  pub none-said : (numberAt results (i * 2) ≡ 0 → ⊥) → (numberAt results (i * 2) ≡ 1 → ⊥) → q ≡ said p noneWord → q ≡ said p (told (wordAt results i))
-  unfolding told
-  none-said a b e = e ∙ ap (λ (w : Word). said p (told w)) (none-read results i a b)
+  pub none-said : (numberAt results (i * 2) ≡ 0 → ⊥) → (numberAt results (i * 2) ≡ 1 → ⊥) → q ≡ said p noneWord → q ≡ said p (resultWords (wordAt results i))
+  unfolding resultWords
+  none-said a b e = e ∙ ap (λ (w : Word). said p (resultWords w)) (none-read results i a b)
 
 -- the last line
 module _ (p q : Page) (yes : Bool) where

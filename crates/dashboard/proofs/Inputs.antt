@@ -12,7 +12,7 @@ use Rattle.basis.specs.Readers.{Step, ok, refuse}
 use Rattle.basis.proofs.Words.{lt-or-le}
 use Rattle.numbers.specs.Numbers.{spelt, width}
 use Rattle.reader.specs.Form.{Held, sheet}
-use Rattle.reader.specs.Answers.{handed, reading}
+use Rattle.reader.specs.Answers.{readingOf, reading}
 use Rattle.reader.specs.Longest.{longestRow, longestSheet}
 use Rattle.sheet.specs.declared.row.Sheet.{Sheet}
 use Rattle.reader.proofs.Reach.{accepted-is-short, first-bytes-decide}
@@ -28,7 +28,7 @@ input-is-871 = refl
 read-is-short : (s : List ℕ) → reading s .0 ≡ accepted → length s ≤ longestSheet
 read-is-short s e = go (sheet s 0) refl e
   where
-    go : (x : Step Held) → sheet s 0 ≡ x → handed x .0 ≡ accepted → length s ≤ longestSheet
+    go : (x : Step Held) → sheet s 0 ≡ x → readingOf x .0 ≡ accepted → length s ≤ longestSheet
     go (ok h n) q f = accepted-is-short s h n q
     go (refuse k p) q f = let z : _≡_ {A = ℕ} 0 1 = cc in absurd (omega arith)
 

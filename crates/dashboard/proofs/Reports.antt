@@ -20,15 +20,15 @@ use Rattle.sheet.specs.Legal.{legalRow, legalAt, legal}
 use Rattle.sheet.specs.Lists.{filled, sheetIn, sheetCell, sheetLong}
 use Rattle.sheet.specs.declared.row.Sheet.{Sheet}
 use Rattle.sheet.proofs.Legality.{legal-is}
-use Rattle.sheet.proofs.Back.{whole-sheet-comes-back}
-use Rattle.sheet.proofs.Filling.{zeros, zeros-long}
+use Rattle.sheet.proofs.RoundTrip.{whole-sheet-comes-back}
+use Rattle.sheet.proofs.FilledLists.{zeros, zeros-long}
 use Rattle.reader.specs.Form.{headBy, sheetBy}
 use Rattle.reader.specs.Answers.{reading}
 use Rattle.reader.specs.Lists.{labelsLong}
 use Rattle.reader.specs.Steps.{partIn}
-use Rattle.reader.proofs.Accepted.{accepted-is-legal, refused-is-no-sheet}
-use Rattle.reader.proofs.Least.{accepted-is-not-shorter}
-use Rattle.reader.proofs.Naming.{no-label}
+use Rattle.reader.proofs.LegalSheets.{accepted-is-legal, refused-is-no-sheet}
+use Rattle.reader.proofs.ShortestSheet.{accepted-is-not-shorter}
+use Rattle.reader.proofs.RowLabels.{no-label}
 use Rattle.bound.specs.Test.{passes}
 use Rattle.bound.specs.Bound.{resultOf, holds}
 use Rattle.tables.specs.Tables.{fixedSheet}
@@ -37,13 +37,13 @@ use Rattle.bound.specs.declared.results.Judgement.{Judgement}
 use Rattle.bound.proofs.FromBytes.{found, judged-outcome, judged-count, judged-few, judged-labels-long, judged-label, judged-results-long, judged-word, judged-holds}
 use Rattle.bound.proofs.Lists.{legal-is-put, word-there, word-comes-back}
 use Rattle.dashboard.specs.Words.{newline, ending, noVerdict}
-use Rattle.dashboard.specs.Labels.{ownLabel, numbered, labelBy}
+use Rattle.dashboard.specs.Labels.{ownLabel, numbered, lineLabel}
 use Rattle.dashboard.specs.Ready.{LabelsLie, Roomy}
 use Rattle.dashboard.specs.declared.line.Labels.the-variants.{Own, Numbered}
 use Rattle.dashboard.specs.Texts.{lines, board, textOf, verdictText, fixedCount, letter, prefix, section, sections, referenceText}
 use Rattle.page.specs.Pages.{Page, written, said}
 use Rattle.dashboard.proofs.Boards.{board-is}
-use Rattle.page.proofs.Saying.{two-said, three-said, said-is-written}
+use Rattle.page.proofs.Pages.{two-said, three-said, said-is-written}
 
 -- ---- a verdict, where the bytes were judged
 
@@ -77,8 +77,8 @@ module _ (s list parts results : List ℕ) (room : Roomy s list parts results) (
     pub results-there : resultsLong n ≤ length rs
     results-there = omega (arith, count-is, judged-results-long s list parts results (outcome a) h l b rs e accepts)
 
-    pub verdict-accepted : (buffer : List ℕ) (q : Page) → q ≡ said (buffer, 0) (lines (labelBy Own s) (wordAt rs) n ++ ending h) → q ≡ written (verdictText s) buffer
-    unfolding labelBy
+    pub verdict-accepted : (buffer : List ℕ) (q : Page) → q ≡ said (buffer, 0) (lines (lineLabel Own s) (wordAt rs) n ++ ending h) → q ≡ written (verdictText s) buffer
+    unfolding lineLabel
     verdict-accepted buffer q f =
         said-is-written q _ buffer
         (f
@@ -163,8 +163,8 @@ module _ (i : ℕ) (i<n : i < fixedCount) (h : Sheet) (eh : h ≡ fixedSheet i) 
   unfolding filled
   whole-list = ap (λ (k : ℕ). upto k (resultCell (words h)) (zeros (resultsLong mostRows))) (zeros-long (resultsLong mostRows))
 
-  pub fixed-said : (p q : Page) → q ≡ said p (lines (labelBy Numbered prefix) (wordAt rs) (h .count) ++ ending (r .holds)) → q ≡ said p (board (numbered prefix) (fixedSheet i))
-  unfolding labelBy
+  pub fixed-said : (p q : Page) → q ≡ said p (lines (lineLabel Numbered prefix) (wordAt rs) (h .count) ++ ending (r .holds)) → q ≡ said p (board (numbered prefix) (fixedSheet i))
+  unfolding lineLabel
   fixed-said p q f =
       f ∙ ap (said p) (board-is h (numbered prefix) (wordAt rs) (h .count) (r .holds) refl word-so (ap (λ (x : Outcome × (Bool × List ℕ)). x .1 .0) judged-so))
       ∙ ap (λ (x : Sheet). said p (board (numbered prefix) x)) eh

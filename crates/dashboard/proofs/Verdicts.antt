@@ -11,19 +11,19 @@ use Rattle.basis.specs.Refusals.{accepted, isAccepted}
 use Rattle.basis.proofs.Words.{true-not-false, both-left, both-right}
 use Rattle.reader.specs.Answers.{reading}
 use Rattle.sheet.specs.declared.row.Sheet.{Sheet}
-use Rattle.reader.proofs.Accepted.{accepted-is-legal}
+use Rattle.reader.proofs.LegalSheets.{accepted-is-legal}
 use Rattle.bound.specs.Test.{passes}
 use Rattle.bound.specs.Bound.{Word, resultOf, holds}
 use Rattle.green.specs.Demand.{NoJobIsLate}
 use Rattle.green.specs.Green.{greenOf}
 use Rattle.green.proofs.Theorem.{no-job-is-late}
 use Rattle.page.specs.Decimals.{decimal}
-use Rattle.dashboard.specs.Words.{space, newline, told, head, line, holdsLine, ending, refusedBy, noVerdict}
+use Rattle.dashboard.specs.Words.{space, newline, resultWords, lineStart, line, holdsLine, ending, refusedBy, noVerdict}
 use Rattle.dashboard.specs.Labels.{ownLabel}
 use Rattle.dashboard.specs.Texts.{lines, board, verdictText}
 use Rattle.dashboard.specs.Meaning.{EndsIn, LastLine}
 use Rattle.page.proofs.Digits.{last-digit}
-use Rattle.dashboard.proofs.General.{ends-same}
+use Rattle.dashboard.proofs.Lists.{ends-same}
 use Rattle.dashboard.proofs.Outcomes.{accepted-prints-its-rows, refused-prints-one-line, by-outcome}
 
 module _ (label : ℕ → List ℕ) (result : ℕ → Word) where
@@ -32,8 +32,8 @@ module _ (label : ℕ → List ℕ) (result : ℕ → Word) where
   lines-end zero = inl refl
   lines-end (suc n) =
       inr (record {
-        before = lines label result n ++ (head n (label n) ++ told (result n));
-        whole = sym (append-assoc (lines label result n) (head n (label n) ++ told (result n)) newline);
+        before = lines label result n ++ (lineStart n (label n) ++ resultWords (result n));
+        whole = sym (append-assoc (lines label result n) (lineStart n (label n) ++ resultWords (result n)) newline);
       })
 
 -- HOLDS or FAILS is the last line of a sheet's text

@@ -16,8 +16,7 @@ use Rattle.bound.specs.Test.{q, X, x, W, durationOf, amountOf, amounts, room, p
 use Rattle.bound.specs.Bound.{least, boundBy, judge, resultsTo, resultOf, holds}
 use Rattle.tables.specs.Tables.{fixedSheet}
 use Rattle.page.specs.Decimals.{digits, decimal}
-use Rattle.dashboard.specs.Words.{told, line, refusedBy, noVerdict}
-use Rattle.dashboard.specs.Words as words
+use Rattle.dashboard.specs.Words.{resultWords, lineStart, line, refusedBy, noVerdict}
 use Rattle.dashboard.specs.Labels.{ownLabel, numbered}
 use Rattle.dashboard.specs.Texts.{lines, board, verdictText, section, sections, referenceText}
 use Rattle.page.specs.Pages.{Page, written}
@@ -33,22 +32,22 @@ long (text, n) = n
 
 -- HOLDS for every sheet: sheet C fails
 pub always-holds-is-shut-out : NoneMeets (written (alwaysHolds sheetCBytes) forty) (written (verdictText sheetCBytes) forty)
-unfolding alwaysHolds textBy boardBy written at allOf sum begins groups upToBy plain labelBy entryBy entriesBy bodyBy headBy sheetBy labelHead labelIn q X x W durationOf amountOf amounts room passes least boundBy judge resultsTo resultOf holds digits decimal told words.head line ownLabel lines board verdictText
+unfolding alwaysHolds textBy boardBy written at allOf sum begins groups upToBy plain labelBy entryBy entriesBy bodyBy headBy sheetBy labelHead labelIn q X x W durationOf amountOf amounts room passes least boundBy judge resultsTo resultOf holds digits decimal resultWords lineStart line ownLabel lines board verdictText
 always-holds-is-shut-out = values-apart _ _ (at 29) refl
 
 -- the first label again: sheet C's second row is trim
 pub first-label-again-is-shut-out : NoneMeets (written (firstLabelAgain sheetCBytes) forty) (written (verdictText sheetCBytes) forty)
-unfolding firstLabelAgain textBy boardBy written at allOf sum begins groups upToBy plain labelBy entryBy entriesBy bodyBy headBy sheetBy labelHead labelIn q X x W durationOf amountOf amounts room passes least boundBy judge resultsTo resultOf holds digits decimal told words.head line ownLabel lines board verdictText
+unfolding firstLabelAgain textBy boardBy written at allOf sum begins groups upToBy plain labelBy entryBy entriesBy bodyBy headBy sheetBy labelHead labelIn q X x W durationOf amountOf amounts room passes least boundBy judge resultsTo resultOf holds digits decimal resultWords lineStart line ownLabel lines board verdictText
 first-label-again-is-shut-out = values-apart _ _ (at 17) refl
 
 -- the last digit lost: sheet C's first bound, 1, would be 0
 pub short-bounds-is-shut-out : NoneMeets (written (shortBounds sheetCBytes) forty) (written (verdictText sheetCBytes) forty)
-unfolding shortBounds digitLost textBy boardBy written at allOf sum begins groups upToBy plain labelBy entryBy entriesBy bodyBy headBy sheetBy labelHead labelIn q X x W durationOf amountOf amounts room passes least boundBy judge resultsTo resultOf holds digits decimal told words.head line ownLabel lines board verdictText
+unfolding shortBounds digitLost textBy boardBy written at allOf sum begins groups upToBy plain labelBy entryBy entriesBy bodyBy headBy sheetBy labelHead labelIn q X x W durationOf amountOf amounts room passes least boundBy judge resultsTo resultOf holds digits decimal resultWords lineStart line ownLabel lines board verdictText
 short-bounds-is-shut-out = values-apart _ _ (at 13) refl
 
 -- the last row lost: the text of sheet C has 35 bytes
 pub last-row-lost-is-shut-out : NoneMeets (written (lastRowLost sheetCBytes) forty) (written (verdictText sheetCBytes) forty)
-unfolding lastRowLost textBy written long allOf sum begins groups upToBy plain labelBy entryBy entriesBy bodyBy headBy sheetBy labelHead labelIn q X x W durationOf amountOf amounts room passes least boundBy judge resultsTo resultOf holds digits decimal told words.head line ownLabel lines board verdictText
+unfolding lastRowLost textBy written long allOf sum begins groups upToBy plain labelBy entryBy entriesBy bodyBy headBy sheetBy labelHead labelIn q X x W durationOf amountOf amounts room passes least boundBy judge resultsTo resultOf holds digits decimal resultWords lineStart line ownLabel lines board verdictText
 last-row-lost-is-shut-out = values-apart _ _ long refl
 
 -- the place of a refusal lost: sheet C with a blank is refused at 23
@@ -63,12 +62,12 @@ refused-is-empty-is-shut-out = values-apart _ _ long refl
 
 -- sheet A each time: the reference would be of another length
 pub sheet-a-each-time-is-shut-out : NoneMeets (written sheetAEachTime fourHundred) (written referenceText fourHundred)
-unfolding sheetAEachTime sameSections sameSection written long allOf sum q X x W durationOf amountOf amounts room passes least boundBy judge resultsTo resultOf holds fixedSheet digits decimal told words.head line numbered lines board section sections referenceText
+unfolding sheetAEachTime sameSections sameSection written long allOf sum q X x W durationOf amountOf amounts room passes least boundBy judge resultsTo resultOf holds fixedSheet digits decimal resultWords lineStart line numbered lines board section sections referenceText
 sheet-a-each-time-is-shut-out = values-apart _ _ long refl
 
 -- sheet E left out
 pub sheet-left-out-is-shut-out : NoneMeets (written sheetLeftOut fourHundred) (written referenceText fourHundred)
-unfolding sheetLeftOut written long allOf sum q X x W durationOf amountOf amounts room passes least boundBy judge resultsTo resultOf holds fixedSheet digits decimal told words.head line numbered lines board section sections referenceText
+unfolding sheetLeftOut written long allOf sum q X x W durationOf amountOf amounts room passes least boundBy judge resultsTo resultOf holds fixedSheet digits decimal resultWords lineStart line numbered lines board section sections referenceText
 sheet-left-out-is-shut-out = values-apart _ _ long refl
 
 -- the first number of a buffer

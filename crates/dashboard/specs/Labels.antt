@@ -21,6 +21,6 @@ unfoldable pub numbered : List ℕ → ℕ → List ℕ
 numbered s i = s ++ decimal i
 
 -- The label of row i, by where the labels come from.
-unfoldable pub labelBy : Labels → List ℕ → ℕ → List ℕ
-labelBy Own = ownLabel
-labelBy Numbered = numbered
+unfoldable pub lineLabel : Labels → List ℕ → ℕ → List ℕ
+lineLabel Own = ownLabel
+lineLabel Numbered = numbered

@@ -27,18 +27,18 @@ abbrev pub unreachedWord : List ℕ
 unreachedWord = 0x75 ∷ 0x6E ∷ 0x72 ∷ 0x65 ∷ 0x61 ∷ 0x63 ∷ 0x68 ∷ 0x65 ∷ 0x64 ∷ 0x20 ∷ 0x2D ∷ []
 
 -- The word of a result, and the bound or a dash.
-unfoldable pub told : Word → List ℕ
-told (bound r) = boundWord ++ decimal r
-told none = noneWord
-told unreached = unreachedWord
+unfoldable pub resultWords : Word → List ℕ
+resultWords (bound r) = boundWord ++ decimal r
+resultWords none = noneWord
+resultWords unreached = unreachedWord
 
 -- The row number and the label, each before a space.
-unfoldable pub head : ℕ → List ℕ → List ℕ
-head row label = decimal row ++ space ++ label ++ space
+unfoldable pub lineStart : ℕ → List ℕ → List ℕ
+lineStart row label = decimal row ++ space ++ label ++ space
 
 -- The line of a row: row number, label, word, and the bound or a dash.
 unfoldable pub line : ℕ → List ℕ → Word → List ℕ
-line row label result = head row label ++ told result ++ newline
+line row label result = lineStart row label ++ resultWords result ++ newline
 
 -- The line `HOLDS`.
 abbrev pub holdsLine : List ℕ

@@ -8,7 +8,7 @@ ghost use Rattle.reader.specs.Lists.{labelsLong};
 ghost use Rattle.bound.specs.Lists.{resultsLong, wordAt};
 ghost use Rattle.dashboard.specs.Words.{ending};
 ghost use Rattle.dashboard.specs.Texts.{lines};
-ghost use Rattle.dashboard.specs.Labels.{labelBy};
+ghost use Rattle.dashboard.specs.Labels.{lineLabel};
 ghost use Rattle.dashboard.specs.Ready.{LabelsLie};
 ghost use Rattle.page.specs.Pages.{said};
 use crate::line::Labels;
@@ -26,7 +26,7 @@ fn put_lines(
     count: usize,
 ) -> usize
     requires { ⌜ (count ≤ mostRows) × (labelsLong count ≤ length (now parts)) × (LabelsLie (now bytes) (now parts) count) × (resultsLong count ≤ length (now results)) ⌝ }
-    ensures { λ r. ⌜ (now (text .exit), r) ≡ said (now (text .entry), at) (lines (labelBy labels (now (bytes .entry))) (wordAt (now (results .entry))) count) ⌝ }
+    ensures { λ r. ⌜ (now (text .exit), r) ≡ said (now (text .entry), at) (lines (lineLabel labels (now (bytes .entry))) (wordAt (now (results .entry))) count) ⌝ }
 {
     let mut next = at;
     let mut i: usize = 0;
@@ -49,7 +49,7 @@ pub(crate) fn put_board(
     holds: bool,
 ) -> usize
     requires { ⌜ (count ≤ mostRows) × (labelsLong count ≤ length (now parts)) × (LabelsLie (now bytes) (now parts) count) × (resultsLong count ≤ length (now results)) ⌝ }
-    ensures { λ r. ⌜ (now (text .exit), r) ≡ said (now (text .entry), at) (lines (labelBy labels (now (bytes .entry))) (wordAt (now (results .entry))) count ++ ending holds) ⌝ }
+    ensures { λ r. ⌜ (now (text .exit), r) ≡ said (now (text .entry), at) (lines (lineLabel labels (now (bytes .entry))) (wordAt (now (results .entry))) count ++ ending holds) ⌝ }
 {
     let next = put_lines(text, at, labels, bytes, parts, results, count);
     put_ending(text, next, holds)

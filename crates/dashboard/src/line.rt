@@ -7,8 +7,8 @@ ghost use Rattle.reader.specs.Answers.{labelIn};
 ghost use Rattle.reader.specs.Lists.{labelsLong};
 ghost use Rattle.reader.specs.Steps.{partIn};
 ghost use Rattle.bound.specs.Lists.{resultsLong, wordAt};
-ghost use Rattle.dashboard.specs.Words.{told, head, line, ending, refusedBy, noVerdict};
-ghost use Rattle.dashboard.specs.Labels.{ownLabel, labelBy};
+ghost use Rattle.dashboard.specs.Words.{resultWords, lineStart, line, ending, refusedBy, noVerdict};
+ghost use Rattle.dashboard.specs.Labels.{ownLabel, lineLabel};
 ghost use Rattle.page.specs.Pages.{said};
 use page::put;
 use page::put_bytes;
@@ -42,7 +42,7 @@ fn put_label(
     row: usize,
 ) -> usize
     requires { ⌜ (row < mostRows) × (labelsLong (row + 1) ≤ length (now parts)) × (partIn (now parts) row ≡ labelIn (now bytes) row) ⌝ }
-    ensures { λ r. ⌜ (now (text .exit), r) ≡ said (now (text .entry), at) (labelBy labels (now (bytes .entry)) row) ⌝ }
+    ensures { λ r. ⌜ (now (text .exit), r) ≡ said (now (text .entry), at) (lineLabel labels (now (bytes .entry)) row) ⌝ }
 {
     match labels {
         Labels::Own => put_bytes(text, at, cut(bytes, parts, row)),
@@ -63,7 +63,7 @@ fn put_head(
     row: usize,
 ) -> usize
     requires { ⌜ (row < mostRows) × (labelsLong (row + 1) ≤ length (now parts)) × (partIn (now parts) row ≡ labelIn (now bytes) row) ⌝ }
-    ensures { λ r. ⌜ (now (text .exit), r) ≡ said (now (text .entry), at) (head row (labelBy labels (now (bytes .entry)) row)) ⌝ }
+    ensures { λ r. ⌜ (now (text .exit), r) ≡ said (now (text .entry), at) (lineStart row (lineLabel labels (now (bytes .entry)) row)) ⌝ }
 {
     let a = put_number(text, at, row as u64);
     let b = put(text, a, b' ');
@@ -74,7 +74,7 @@ fn put_head(
 // The word of a row's result in a list, and the bound or a dash.
 fn put_result(text: &mut [u8], at: usize, results: &[u64], row: usize) -> usize
     requires { ⌜ (row < mostRows) × (resultsLong (row + 1) ≤ length (now results)) ⌝ }
-    ensures { λ r. ⌜ (now (text .exit), r) ≡ said (now (text .entry), at) (told (wordAt (now (results .entry)) row)) ⌝ }
+    ensures { λ r. ⌜ (now (text .exit), r) ≡ said (now (text .entry), at) (resultWords (wordAt (now (results .entry)) row)) ⌝ }
 {
     let word = results[row * 2];
     if word == 0 {
@@ -98,7 +98,7 @@ pub(crate) fn put_line(
     row: usize,
 ) -> usize
     requires { ⌜ (row < mostRows) × (labelsLong (row + 1) ≤ length (now parts)) × (partIn (now parts) row ≡ labelIn (now bytes) row) × (resultsLong (row + 1) ≤ length (now results)) ⌝ }
-    ensures { λ r. ⌜ (now (text .exit), r) ≡ said (now (text .entry), at) (line row (labelBy labels (now (bytes .entry)) row) (wordAt (now (results .entry)) row)) ⌝ }
+    ensures { λ r. ⌜ (now (text .exit), r) ≡ said (now (text .entry), at) (line row (lineLabel labels (now (bytes .entry)) row) (wordAt (now (results .entry)) row)) ⌝ }
 {
     let a = put_head(text, at, labels, bytes, parts, row);
     let b = put_result(text, a, results, row);

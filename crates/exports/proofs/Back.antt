@@ -10,10 +10,10 @@ use native.Mathlib.Omega.{arith}
 use Rattle.basis.specs.Refusals.{Outcome, accepted, refused, orElse, needed, roomFor}
 use Rattle.basis.proofs.Refusals.{room-holds}
 use Rattle.reader.specs.Answers.{reading}
-use Rattle.reader.proofs.Accepted.{accepted-is-legal}
+use Rattle.reader.proofs.LegalSheets.{accepted-is-legal}
 use Rattle.reader.proofs.Reach.{refusal-is-listed}
-use Rattle.reader.proofs.Owned.{rows-long}
-use Rattle.sheet.proofs.Back.{sheet-comes-back}
+use Rattle.reader.proofs.ZeroLists.{rows-long}
+use Rattle.sheet.proofs.RoundTrip.{sheet-comes-back}
 use Rattle.sheet.specs.Lists.{sheetIn, sheetLong}
 use Rattle.exports.specs.Answers.{told, fieldsIn, readIn}
 

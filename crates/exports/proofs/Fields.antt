@@ -15,15 +15,15 @@ use Rattle.basis.specs.declared.refusal.Refusal.the-variants.{Accepted, Refused
 use Rattle.basis.proofs.Refusals.{handed-outcome, or-nothing}
 use Rattle.sheet.specs.Lists.{numberAt, filled, sheetIn, sheetCell, sheetLong, clearedCell}
 use Rattle.sheet.proofs.Cells.{cell-past}
-use Rattle.sheet.proofs.Clearing.{cleared-is-filled}
-use Rattle.sheet.proofs.Filling.{zeros, zeros-long}
+use Rattle.sheet.proofs.ClearedLists.{cleared-is-filled}
+use Rattle.sheet.proofs.FilledLists.{zeros, zeros-long}
 use Rattle.reader.specs.Answers.{reading, labelIn}
 use Rattle.reader.specs.Lists.{labelsLong, intoLists, readInto}
 use Rattle.reader.specs.Steps.{partIn}
 use Rattle.reader.specs.declared.row.Part.{Part}
-use Rattle.reader.proofs.Accepted.{accepted-is-legal}
-use Rattle.reader.proofs.After.{outcome-is-the-readers, list-kept, reader-accepts, list-has-room, list-written, count-read, parts-written}
-use Rattle.reader.proofs.Owned.{Lists, lists, rows-few}
+use Rattle.reader.proofs.LegalSheets.{accepted-is-legal}
+use Rattle.reader.proofs.LentLists.{outcome-is-the-readers, list-kept, reader-accepts, list-has-room, list-written, count-read, parts-written}
+use Rattle.reader.proofs.ZeroLists.{Lists, lists, rows-few}
 use Rattle.exports.specs.Answers.{fieldsIn, readIn, labelAnswer}
 
 -- `giachimu_read`, with a list of labels that has room for every row

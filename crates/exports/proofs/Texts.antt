@@ -10,8 +10,8 @@ use borrow.Author.Tests.{le-leb, lt-leb}
 use Rattle.dashboard.specs.Longest.{textSize, textBuffer}
 use Rattle.page.specs.Pages.{Page, written}
 use Rattle.dashboard.specs.Texts.{verdictText}
-use Rattle.dashboard.proofs.Fits.{verdict-is-short, longest-fits}
-use Rattle.dashboard.proofs.Rooms.{written-part, verdict-is-printed}
+use Rattle.dashboard.proofs.TextLengths.{verdict-is-short, longest-fits}
+use Rattle.dashboard.proofs.Buffers.{written-part, verdict-is-printed}
 use Rattle.exports.specs.Answers.{verdictIn}
 
 -- a text that fits is written whole

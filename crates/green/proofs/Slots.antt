@@ -11,7 +11,7 @@ use lib.Dec.{ltb, leb}
 use borrow.Author.Tests.{ltb-true, lt-ltb, ne-eqb}
 use Rattle.basis.specs.Words.{pick, both}
 use Rattle.basis.specs.Refusals.{accepted}
-use Rattle.basis.proofs.First.{first-at}
+use Rattle.basis.proofs.FirstRefusal.{first-at}
 use Rattle.basis.proofs.Sums.{sum-same}
 use Rattle.basis.proofs.Words.{lt-or-le}
 use Rattle.basis.proofs.Upto.{upto-below}

@@ -14,7 +14,7 @@ use Rattle.basis.specs.Limits.{mostRows, mostProcessors}
 use Rattle.basis.specs.Words.{pick, both, within}
 use Rattle.basis.specs.Refusals.{Outcome, accepted, refused, isAccepted, orElse, needed}
 use Rattle.basis.proofs.Words.{all-same, lt-or-le}
-use Rattle.basis.proofs.First.{first-same}
+use Rattle.basis.proofs.FirstRefusal.{first-same}
 use Rattle.sheet.specs.Legal.{noRow, rowAt, legalRow, legal}
 use Rattle.sheet.specs.Legal as sheets
 use Rattle.sheet.specs.declared.row.Row.{Row}

@@ -13,7 +13,7 @@ use Rattle.basis.specs.Limits.{mostRows}
 use Rattle.basis.specs.Refusals.{accepted, refused, outcome, needed, Outcome}
 use Rattle.basis.specs.declared.refusal.Refusal.{Refusal}
 use Rattle.basis.specs.declared.refusal.Refusal.the-variants.{Accepted, Refused}
-use Rattle.basis.proofs.First.{both-accepted}
+use Rattle.basis.proofs.FirstRefusal.{both-accepted}
 use Rattle.basis.proofs.Refusals.{needed-holds}
 use Rattle.sheet.specs.Legal.{legal}
 use Rattle.sheet.specs.declared.row.Sheet.{Sheet}

@@ -17,8 +17,8 @@ use Rattle.sheet.specs.declared.row.Row.{Row}
 use Rattle.sheet.specs.declared.row.Sheet.{Sheet}
 use Rattle.sheet.proofs.Legality.{legal-is}
 use Rattle.sheet.specs.Lists.{filled, clearedCell}
-use Rattle.sheet.proofs.Clearing.{cleared-is-filled}
-use Rattle.sheet.proofs.Filling.{length-filled}
+use Rattle.sheet.proofs.ClearedLists.{cleared-is-filled}
+use Rattle.sheet.proofs.FilledLists.{length-filled}
 use Rattle.records.specs.declared.record.RowState.{RowState}
 use Rattle.records.specs.Records.{noRecord}
 use Rattle.machine.specs.States.{noState, recordAt, freshAt, freshState}

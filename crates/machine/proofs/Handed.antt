@@ -13,7 +13,7 @@ use Rattle.basis.specs.Limits.{mostRows}
 use Rattle.basis.specs.Words.{pick}
 use Rattle.basis.specs.Refusals.{Outcome, accepted, refused, outcome, orElse, needed}
 use Rattle.basis.specs.Upto.{upto}
-use Rattle.basis.proofs.First.{both-accepted}
+use Rattle.basis.proofs.FirstRefusal.{both-accepted}
 use Rattle.basis.proofs.Lists.{getD-all}
 use Rattle.basis.proofs.Words.{lt-or-le}
 use Rattle.basis.proofs.Refusals.{needed-holds}
@@ -21,7 +21,7 @@ use Rattle.sheet.specs.Legal.{legal}
 use Rattle.sheet.specs.declared.row.Sheet.{Sheet}
 use Rattle.sheet.proofs.Legality.{legal-is}
 use Rattle.sheet.specs.Lists.{numberAt}
-use Rattle.sheet.proofs.Filling.{length-filled}
+use Rattle.sheet.proofs.FilledLists.{length-filled}
 use Rattle.machine.specs.States.{State, stateOf, recordAt, freshAt, freshState, legalState}
 use Rattle.machine.specs.declared.places.Done.{Done}
 use Rattle.machine.specs.Checks.{checkSlot, checkRun}

@@ -11,7 +11,7 @@ use native.Mathlib.Nat.{le-refl}
 use Rattle.basis.specs.Limits.{mostRows}
 use Rattle.basis.specs.Refusals.{accepted}
 use Rattle.basis.proofs.Words.{lt-or-le}
-use Rattle.basis.proofs.First.{first-at}
+use Rattle.basis.proofs.FirstRefusal.{first-at}
 use Rattle.basis.proofs.Upto.{upto-below, upto-past}
 use Rattle.sheet.specs.Legal.{rowAt, Legal, LegalRow}
 use Rattle.sheet.specs.declared.row.Row.{Row}

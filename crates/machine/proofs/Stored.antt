@@ -17,7 +17,7 @@ use Rattle.basis.proofs.Words.{lt-or-le, all-same, all-true}
 use Rattle.basis.proofs.Upto.{upto-below, upto-past, length-upto}
 use Rattle.basis.proofs.Lists.{getD-all}
 use Rattle.sheet.specs.Lists.{numberAt}
-use Rattle.sheet.proofs.Filling.{filled-read}
+use Rattle.sheet.proofs.FilledLists.{filled-read}
 use Rattle.records.specs.declared.record.RowState.{RowState}
 use Rattle.records.specs.Records.{noRecord}
 use Rattle.machine.specs.States.{noState, stateOf, recordAt}

@@ -15,7 +15,7 @@ use Rattle.basis.specs.Limits.{mostRows, mostSeparation}
 use Rattle.basis.specs.Refusals.{accepted, outcome}
 use Rattle.basis.specs.declared.refusal.Refusal.{Refusal}
 use Rattle.basis.specs.declared.refusal.Refusal.the-variants.{Accepted, Refused}
-use Rattle.basis.proofs.First.{both-accepted}
+use Rattle.basis.proofs.FirstRefusal.{both-accepted}
 use Rattle.basis.proofs.Refusals.{needed-holds}
 use Rattle.sheet.specs.Legal.{rowAt, legal, LegalRow}
 use Rattle.sheet.specs.declared.row.Row.{Row}

@@ -8,7 +8,7 @@ use native.Mathlib.Omega.{arith}
 use Rattle.basis.specs.Refusals.{accepted, refused, outcome, firstOf}
 use Rattle.basis.specs.declared.refusal.Refusal.{Refusal}
 use Rattle.basis.specs.declared.refusal.Refusal.the-variants.{Accepted, Refused}
-use Rattle.basis.proofs.First.{first-more, first-found}
+use Rattle.basis.proofs.FirstRefusal.{first-more, first-found}
 use Rattle.sheet.specs.Legal.{rowAt}
 use Rattle.sheet.specs.declared.row.Sheet.{Sheet}
 use Rattle.machine.specs.States.{State, recordAt}

@@ -12,7 +12,7 @@ use Rattle.basis.specs.Words.{pick}
 use Rattle.basis.specs.Readers.{Step, ok, refuse, after, give, refuse-at}
 use Rattle.basis.specs.Limits.{mostGroups}
 use Rattle.numbers.specs.Numbers.{groups, number, upToBy, upTo}
-use Rattle.numbers.proofs.Laws.{one-less, ends, over, low, last, more}
+use Rattle.numbers.proofs.Groups.{one-less, ends, over, low, last, more}
 use Rattle.basis.proofs.Words.{lt-or-le}
 use Rattle.basis.proofs.Steps.{never-ok, after-ok, ok-same, passed, not-stopped}
 

@@ -1,17 +1,18 @@
 -- The laws of a number: one encoding, its range, equal answers; and the worked numbers.
 -- Assumes nothing.
 use Prim.Native.Nat.{ℕ, _^_, _<_}
-use mathlib.Core.Path.{_≡_, refl, sym, _∙_}
-use mathlib.Core.List.{List, [], _∷_}
+use mathlib.Core.Path.{_≡_, sym, _∙_}
+use mathlib.Core.List.{List}
 use native.Mathlib.Omega.{arith}
 use lib.ListN.{length}
-use lib.Seq.{slice, take-length}
+use lib.Seq.{take-length}
 use Rattle.basis.specs.Limits.{mostGroups}
-use Rattle.basis.specs.Readers.{Bytes, Step, ok, refuse}
-use Rattle.numbers.specs.Numbers.{step, groups, number, upTo}
+use Rattle.basis.specs.Readers.{Bytes, ok}
+use Rattle.basis.proofs.Same.{same-by}
+use Rattle.numbers.specs.Numbers.{step, number, upTo}
 use Rattle.numbers.specs.declared.number.Number.{Number}
 use Rattle.numbers.specs.declared.number.Number.the-variants.{Is, Refused}
-use Rattle.numbers.proofs.Spelling.{number-spelled, one-spelling}
+use Rattle.numbers.proofs.OneSpelling.{number-spelled, one-spelling}
 
 -- two byte strings that read as the same value, each to its end, are the same bytes
 pub number-has-one-encoding : (s t : List ℕ) → Bytes s → Bytes t → (v : ℕ) → number s 0 ≡ ok v (length s) → number t 0 ≡ ok v (length t) → s ≡ t
@@ -37,8 +38,8 @@ step-one-to-one (Refused k p) (Refused j q) e =
 
 -- `read_number`
 pub read-number-same : (s : List ℕ) (at : ℕ) (a b : Number) → step a ≡ number s at → step b ≡ number s at → a ≡ b
-read-number-same s at a b e f = step-one-to-one a b (e ∙ sym f)
+read-number-same s at = same-by step step-one-to-one (number s at)
 
 -- `read_up_to`
 pub read-up-to-same : (most under beyond : ℕ) (s : List ℕ) (at : ℕ) (a b : Number) → step a ≡ upTo most under beyond s at → step b ≡ upTo most under beyond s at → a ≡ b
-read-up-to-same most under beyond s at a b e f = step-one-to-one a b (e ∙ sym f)
+read-up-to-same most under beyond s at = same-by step step-one-to-one (upTo most under beyond s at)

@@ -1,8 +1,7 @@
 pub mod Bounds
 pub mod Cases
-pub mod Covers
 pub mod Encoding
-pub mod Laws
+pub mod Groups
 pub mod Reach
-pub mod Spelling
+pub mod OneSpelling
 pub mod Wrong

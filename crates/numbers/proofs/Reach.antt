@@ -14,11 +14,11 @@ use Rattle.basis.specs.Limits.{mostGroups}
 use Rattle.basis.specs.Words.{pick}
 use Rattle.basis.specs.Readers.{Step, ok, refuse, Reader, after, _>>=_, byte, refuse-at, give}
 use Rattle.basis.proofs.Steps.{never-ok, ok-same, refuse-same}
-use Rattle.basis.proofs.Tame.{Listed, Agree, Tame, listed, listed-two, listed-as, pick-alike}
+use Rattle.basis.proofs.Tame.{BytesRefusal, Agree, Tame, bytes-refusal, bytes-end-refusal, bytes-refusal-as, pick-alike}
 use Rattle.basis.proofs.Words.{lt-or-le}
 use Rattle.numbers.specs.Numbers.{groups, number, upToBy, upTo, spelt, spell, width}
-use Rattle.numbers.proofs.Laws.{one-less, ends, over, low, last, more}
-use Rattle.numbers.proofs.Spelling.{spelt-one, spelt-more}
+use Rattle.numbers.proofs.Groups.{one-less, ends, over, low, last, more}
+use Rattle.numbers.proofs.OneSpelling.{spelt-one, spelt-more}
 use Rattle.numbers.proofs.Bounds.{inside, bounded}
 
 -- ---- how far it goes
@@ -82,21 +82,21 @@ taken (suc g) first least s at v n l e =
 
 -- ---- its refusals
 
-groups-refuses : (g first least : ℕ) (s : List ℕ) (at k p : ℕ) → first ≤ length s → groups g first least s at ≡ refuse k p → Listed s k p
+groups-refuses : (g first least : ℕ) (s : List ℕ) (at k p : ℕ) → first ≤ length s → groups g first least s at ≡ refuse k p → BytesRefusal s k p
 groups-refuses zero first least s at k p l e =
     let (a, b) = refuse-same {A = ℕ} (sym (over 0 first least s at (omega arith)) ∙ e) in
-    listed-as s a b (listed s 3 first (omega arith) (omega arith) l)
+    bytes-refusal-as s a b (bytes-refusal s 3 first (omega arith) (omega arith) l)
 groups-refuses (suc g) first least s at k p l e =
     by-group g first least s at (refuse k p) e
-    (λ q. let (a, b) = refuse-same q in listed-as s (sym a) (sym b) (listed-two s))
-    (λ h q. let (a, b) = refuse-same q in listed-as s (sym a) (sym b) (listed s 3 first (omega arith) (omega arith) l))
+    (λ q. let (a, b) = refuse-same q in bytes-refusal-as s (sym a) (sym b) (bytes-end-refusal s))
+    (λ h q. let (a, b) = refuse-same q in bytes-refusal-as s (sym a) (sym b) (bytes-refusal s 3 first (omega arith) (omega arith) l))
     (λ h m b q. absurd (never-ok (sym q) refl))
     (λ h b q. several (λ j i e₁. groups-refuses g first 1 s (at + 1) j i l e₁) (groups g first 1 s (at + 1)) refl q)
   where
-    several : ((j i : ℕ) → groups g first 1 s (at + 1) ≡ refuse j i → Listed s j i) → (x : Step ℕ) → groups g first 1 s (at + 1) ≡ x
-        → refuse k p ≡ after x (λ u m. ok (getD s at 0 - 128 + 128 * u) m) → Listed s k p
+    several : ((j i : ℕ) → groups g first 1 s (at + 1) ≡ refuse j i → BytesRefusal s j i) → (x : Step ℕ) → groups g first 1 s (at + 1) ≡ x
+        → refuse k p ≡ after x (λ u m. ok (getD s at 0 - 128 + 128 * u) m) → BytesRefusal s k p
     several ih (ok u m) e₁ q = absurd (never-ok (sym q) refl)
-    several ih (refuse j i) e₁ q = let (a, b) = refuse-same {A = ℕ} q in listed-as s (sym a) (sym b) (ih j i e₁)
+    several ih (refuse j i) e₁ q = let (a, b) = refuse-same {A = ℕ} q in bytes-refusal-as s (sym a) (sym b) (ih j i e₁)
 
 -- ---- what it looks at
 
@@ -116,18 +116,18 @@ groups-alike (suc g) first least l s t a at h =
 
 -- ---- together
 
-up-to-refuses : (s : List ℕ) (at k p most under beyond : ℕ) → 3 ≤ under → under ≤ 9 → 3 ≤ beyond → beyond ≤ 9 → at ≤ length s → upTo most under beyond s at ≡ refuse k p → Listed s k p
+up-to-refuses : (s : List ℕ) (at k p most under beyond : ℕ) → 3 ≤ under → under ≤ 9 → 3 ≤ beyond → beyond ≤ 9 → at ≤ length s → upTo most under beyond s at ≡ refuse k p → BytesRefusal s k p
 unfolding upToBy
 up-to-refuses s at k p most under beyond u₁ u₂ o₁ o₂ l e = go (number s at) refl e
   where
-    tests : (v n : ℕ) (t x : Bool) → pick t (refuse-at under at) (pick x (give v) (refuse-at beyond at)) s n ≡ refuse k p → Listed s k p
-    tests v n true x q = let (a, b) = refuse-same {A = ℕ} q in listed-as s a b (listed s under at u₁ u₂ l)
+    tests : (v n : ℕ) (t x : Bool) → pick t (refuse-at under at) (pick x (give v) (refuse-at beyond at)) s n ≡ refuse k p → BytesRefusal s k p
+    tests v n true x q = let (a, b) = refuse-same {A = ℕ} q in bytes-refusal-as s a b (bytes-refusal s under at u₁ u₂ l)
     tests v n false true q = absurd (never-ok q refl)
-    tests v n false false q = let (a, b) = refuse-same {A = ℕ} q in listed-as s a b (listed s beyond at o₁ o₂ l)
+    tests v n false false q = let (a, b) = refuse-same {A = ℕ} q in bytes-refusal-as s a b (bytes-refusal s beyond at o₁ o₂ l)
 
-    go : (x : Step ℕ) → number s at ≡ x → after x (λ v n. pick (eqb v 0) (refuse-at under at) (pick (leb v most) (give v) (refuse-at beyond at)) s n) ≡ refuse k p → Listed s k p
+    go : (x : Step ℕ) → number s at ≡ x → after x (λ v n. pick (eqb v 0) (refuse-at under at) (pick (leb v most) (give v) (refuse-at beyond at)) s n) ≡ refuse k p → BytesRefusal s k p
     go (ok v n) e₁ q = tests v n (eqb v 0) (leb v most) q
-    go (refuse j i) e₁ q = let (a, b) = refuse-same {A = ℕ} q in listed-as s a b (groups-refuses mostGroups at 0 s at j i l e₁)
+    go (refuse j i) e₁ q = let (a, b) = refuse-same {A = ℕ} q in bytes-refusal-as s a b (groups-refuses mostGroups at 0 s at j i l e₁)
 
 up-to-alike : (most under beyond at : ℕ) (s t : List ℕ) → number s at ≡ number t at → upTo most under beyond s at ≡ upTo most under beyond t at
 unfolding upToBy

@@ -12,7 +12,7 @@ use borrow.Author.Tests.{lt-ltb, le-ltb, ltb-true, ltb-false}
 use Rattle.basis.specs.Words.{pick}
 use Rattle.page.specs.Decimals.{digits, decimal, mostDigits, valueAfter, value}
 use Rattle.page.specs.Pages.{Page, said}
-use Rattle.page.proofs.Saying.{two-said}
+use Rattle.page.proofs.Pages.{two-said}
 
 -- any number of places that suffices gives the same digits
 enough : (j k n : ℕ) → n < 10 ^ suc j → n < 10 ^ suc k → digits (suc j) n ≡ digits (suc k) n

@@ -5,13 +5,13 @@ use mathlib.Core.Path.{_≡_, refl, sym, ap, subst, _∙_}
 use mathlib.Core.List.{List}
 use lib.ListN.{length}
 use Rattle.basis.specs.Limits.{longestLabel, mostSeparation}
-use Rattle.basis.specs.Readers.{Step, ok, refuse, after, told}
-use Rattle.basis.proofs.Steps.{got, told-ok, told-no}
+use Rattle.basis.specs.Readers.{Step, ok, refuse, after, mapStep}
+use Rattle.basis.proofs.Steps.{got, map-step-ok, map-step-no}
 use Rattle.numbers.specs.Numbers.{step, upTo}
 use Rattle.numbers.specs.declared.number.Number.{Number}
 use Rattle.numbers.specs.declared.number.Number.the-variants.{Is, Refused}
 use Rattle.sheet.specs.declared.row.Row.{Row}
-use Rattle.reader.specs.Form.{rowOf, label, entryBy, entry}
+use Rattle.reader.specs.Form.{entryRow, label, entryBy, entry}
 use Rattle.reader.specs.Answers.{partAfter}
 use Rattle.reader.specs.Steps.{labelStep, LabelAt, numbers, rowStep}
 use Rattle.reader.specs.declared.row.Part.{Part}
@@ -46,30 +46,30 @@ module _ (m : ℕ) (s : List ℕ) (at : ℕ) (r₁ : Number) (e₁ : step r₁ �
         whole-row C f g = simp (got step e₁ g₁, got step e₂ g₂, got step e₃ g₃, got step e₄ g)
 
 -- a part that is told of what follows a step
-through : {A B C : Type 0} (f : B → C) (x : Step A) (K : A → ℕ → Step B) (K′ : A → ℕ → Step C) → ((a : A) (n : ℕ) → told f (K a n) ≡ K′ a n) → told f (after x K) ≡ after x K′
-unfolding told
+through : {A B C : Type 0} (f : B → C) (x : Step A) (K : A → ℕ → Step B) (K′ : A → ℕ → Step C) → ((a : A) (n : ℕ) → mapStep f (K a n) ≡ K′ a n) → mapStep f (after x K) ≡ after x K′
+unfolding mapStep
 through f (ok a n) K K′ h = h a n
 through f (refuse k p) K K′ h = refl
 
 -- a label, and the numbers after it
-module _ (m : ℕ) (s : List ℕ) (at : ℕ) (r₀ : LabelRead) (e₀ : labelStep r₀ ≡ told length (label s at)) where
-  pub no-label : (k p : ℕ) → r₀ ≡ label-variants.Refused k p → refuse k p ≡ told rowOf (entry m s at)
-  unfolding entryBy told
-  no-label k p g = simp (told-no length (label s at) (got labelStep e₀ g))
+module _ (m : ℕ) (s : List ℕ) (at : ℕ) (r₀ : LabelRead) (e₀ : labelStep r₀ ≡ mapStep length (label s at)) where
+  pub no-label : (k p : ℕ) → r₀ ≡ label-variants.Refused k p → refuse k p ≡ mapStep entryRow (entry m s at)
+  unfolding entryBy mapStep
+  no-label k p g = simp (map-step-no length (label s at) (got labelStep e₀ g))
 
   module _ (w : Part) (a : ℕ) (g₀ : r₀ ≡ label-variants.Is w a) (x : RowRead) (q : rowStep x ≡ numbers m s a) where
-    after-label : numbers m s a ≡ told rowOf (entry m s at)
-    unfolding entryBy numbers told
+    after-label : numbers m s a ≡ mapStep entryRow (entry m s at)
+    unfolding entryBy numbers mapStep
     after-label =
-        let (l, el, _) = told-ok length (label s at) (got labelStep e₀ g₀) in
+        let (l, el, _) = map-step-ok length (label s at) (got labelStep e₀ g₀) in
         sym (simp el
-        (through rowOf (upTo m 7 8 s a) _ _ λ t b. through rowOf (upTo mostSeparation 7 8 s b) _ _ λ T c.
-        through rowOf (upTo T 7 8 s c) _ _ λ D d. through rowOf (upTo D 7 8 s d) _ _ λ C f. refl))
+        (through entryRow (upTo m 7 8 s a) _ _ λ t b. through entryRow (upTo mostSeparation 7 8 s b) _ _ λ T c.
+        through entryRow (upTo T 7 8 s c) _ _ λ D d. through entryRow (upTo D 7 8 s d) _ _ λ C f. refl))
 
-    pub no-numbers : (k p : ℕ) → x ≡ row-variants.Refused k p → refuse k p ≡ told rowOf (entry m s at)
+    pub no-numbers : (k p : ℕ) → x ≡ row-variants.Refused k p → refuse k p ≡ mapStep entryRow (entry m s at)
     no-numbers k p g = sym (got rowStep q g) ∙ after-label
 
-    pub whole-entry : (r : Row) (f : ℕ) → x ≡ row-variants.Is r f → ok r f ≡ told rowOf (entry m s at)
+    pub whole-entry : (r : Row) (f : ℕ) → x ≡ row-variants.Is r f → ok r f ≡ mapStep entryRow (entry m s at)
     whole-entry r f g = sym (got rowStep q g) ∙ after-label
 
 -- where the label lies

@@ -34,7 +34,6 @@ module _ (s : List ℕ) (b : Bool) (e : b ≡ begins markBytes s) where
 
 -- what is known where it is accepted
 pub record Headed (s : List ℕ) (h : Head) (n : ℕ) : Type 0 where
-  pub is-marked : begins markBytes s ≡ true
   pub from : ℕ
   pub processors : upTo mostProcessors 4 4 s 4 ≡ ok (h .processors) from
   pub count : upTo mostRows 5 5 s from ≡ ok (h .count) n
@@ -48,7 +47,6 @@ headed s h n e =
     after-ok (upTo mostRows 5 5 s a) _ e₂ λ k b e₃ e₄.
     let (same, eb) = ok-same e₄ in
     record {
-      is-marked = is;
       from = a;
       processors = ap (upTo mostProcessors 4 4 s) ez ∙ e₁ ∙ ap (λ (x : Head). ok (x .processors) a) same;
       count = e₃ ∙ ap₂ (λ (x : Head) (y : ℕ). ok (x .count) y) same eb;

@@ -7,35 +7,35 @@ use native.Mathlib.Numerals.{add-one}
 use lib.ListN.{length, getD, take, drop}
 use lib.Seq.{drop-cons}
 use borrow.Author.Tests.{lt-ltb, le-leb, lt-leb}
-use Rattle.basis.specs.Readers.{ok, refuse, told, byte}
-use Rattle.basis.proofs.Steps.{told-after, after-ok, ok-same, passed, byte-ok}
+use Rattle.basis.specs.Readers.{ok, refuse, mapStep, byte}
+use Rattle.basis.proofs.Steps.{map-step-after, after-ok, ok-same, passed, byte-ok}
 use Rattle.reader.specs.Form.{plain, isPlain}
 use Rattle.reader.specs.Steps.{nothing}
 
 -- the loop over a label's bytes, which has come from at to i: a turn by the tests that it makes, and its end
-module _ (s : List ℕ) (at end i : ℕ) (long : end ≤ length s) (so-far : told nothing (plain (end - at) s at) ≡ told nothing (plain (end - i) s i)) where
-  one-left : i < end → told nothing (plain (end - at) s at) ≡ told nothing (plain (suc (end - (i + 1))) s i)
-  one-left h = so-far ∙ ap (λ (k : ℕ). told nothing (plain k s i)) (omega arith)
+module _ (s : List ℕ) (at end i : ℕ) (long : end ≤ length s) (so-far : mapStep nothing (plain (end - at) s at) ≡ mapStep nothing (plain (end - i) s i)) where
+  one-left : i < end → mapStep nothing (plain (end - at) s at) ≡ mapStep nothing (plain (suc (end - (i + 1))) s i)
+  one-left h = so-far ∙ ap (λ (k : ℕ). mapStep nothing (plain k s i)) (omega arith)
 
-  pub plain-low : i < end → getD s i 0 < 0x21 → refuse 6 i ≡ told nothing (plain (end - at) s at)
-  unfolding plain told
+  pub plain-low : i < end → getD s i 0 < 0x21 → refuse 6 i ≡ mapStep nothing (plain (end - at) s at)
+  unfolding plain mapStep
   plain-low h b = sym (one-left h ∙ simp (lt-ltb i (length s) (omega arith), lt-leb _ _ b))
 
-  pub plain-high : i < end → 0x21 ≤ getD s i 0 → 0x7E < getD s i 0 → refuse 6 i ≡ told nothing (plain (end - at) s at)
-  unfolding plain told
+  pub plain-high : i < end → 0x21 ≤ getD s i 0 → 0x7E < getD s i 0 → refuse 6 i ≡ mapStep nothing (plain (end - at) s at)
+  unfolding plain mapStep
   plain-high h a b = sym (one-left h ∙ simp (lt-ltb i (length s) (omega arith), le-leb _ _ a, lt-leb _ _ b))
 
-  pub plain-more : i < end → 0x21 ≤ getD s i 0 → getD s i 0 ≤ 0x7E → told nothing (plain (end - at) s at) ≡ told nothing (plain (end - (i + 1)) s (i + 1))
+  pub plain-more : i < end → 0x21 ≤ getD s i 0 → getD s i 0 ≤ 0x7E → mapStep nothing (plain (end - at) s at) ≡ mapStep nothing (plain (end - (i + 1)) s (i + 1))
   unfolding plain
   plain-more h a b =
       one-left h
-      ∙ simp (lt-ltb i (length s) (omega arith), le-leb _ _ a, le-leb _ _ b) (told-after nothing (λ (bs : List ℕ). getD s i 0 ∷ bs) (plain (end - (i + 1)) s (i + 1)))
+      ∙ simp (lt-ltb i (length s) (omega arith), le-leb _ _ a, le-leb _ _ b) (map-step-after nothing (λ (bs : List ℕ). getD s i 0 ∷ bs) (plain (end - (i + 1)) s (i + 1)))
 
-  pub plain-all : end ≤ i → i ≤ end → ok tt end ≡ told nothing (plain (end - at) s at)
-  unfolding plain told
+  pub plain-all : end ≤ i → i ≤ end → ok tt end ≡ mapStep nothing (plain (end - at) s at)
+  unfolding plain mapStep
   plain-all h l =
       let e : end - i ≡ 0 = omega arith in
-      sym (so-far ∙ ap (λ (k : ℕ). told nothing (plain k s i)) e ∙ ap (ok tt) (omega arith))
+      sym (so-far ∙ ap (λ (k : ℕ). mapStep nothing (plain k s i)) e ∙ ap (ok tt) (omega arith))
 
 -- the bytes that were read
 pub record Plainly (s : List ℕ) (at k : ℕ) (bs : List ℕ) (n : ℕ) : Type 0 where

@@ -11,15 +11,15 @@ use lib.Seq.{take-all, getD-take, length-take-le}
 use Rattle.basis.specs.Limits.{mostGroups, mostProcessors, mostRows, longestLabel, mostSeparation}
 use Rattle.basis.specs.Refusals.{refused}
 use Rattle.basis.specs.Readers.{Step, ok, refuse, Reader, _>>=_, give, enough, end, marked}
-use Rattle.basis.proofs.Tame.{Listed, Tame, listed-as, tame-give, tame-more, tame-then, tame-tested, tame-enough, tame-end, tame-marked}
+use Rattle.basis.proofs.Tame.{BytesRefusal, Tame, bytes-refusal-as, tame-give, tame-more, tame-then, tame-tested, tame-enough, tame-end, tame-marked}
 use Rattle.basis.proofs.Words.{lt-or-le}
 use Rattle.numbers.specs.Numbers.{upTo, spelt, width}
 use Rattle.numbers.proofs.Bounds.{bounded}
 use Rattle.numbers.proofs.Reach.{tame-up-to, width-grows}
 use Rattle.reader.specs.Form.{Held, markBytes, isPlain, plain, labelBy, label, entryBy, entry, entriesBy, entries, bodyBy, body, headBy, head, sheetBy, sheet}
 use Rattle.reader.specs.Longest.{longestRow, longestSheet}
-use Rattle.reader.specs.Answers.{handed, reading}
-use Rattle.reader.proofs.Found.{whole-length}
+use Rattle.reader.specs.Answers.{readingOf, reading}
+use Rattle.reader.proofs.LabelPlaces.{whole-length}
 use Rattle.reader.proofs.Heads.{headed}
 
 -- a number from 1 to most, where limit is no less, and what follows it
@@ -129,7 +129,7 @@ accepted-is-short s h n e = omega (arith, whole-length s h n e, tame-sheet .ends
 
 -- one byte more than that is enough to read
 pub first-bytes-decide : (s : List ℕ) → reading (take (longestSheet + 1) s) ≡ reading s
-first-bytes-decide s = ap handed (go (lt-or-le (longestSheet + 1) (length s)))
+first-bytes-decide s = ap readingOf (go (lt-or-le (longestSheet + 1) (length s)))
   where
     go : (longestSheet + 1 < length s) ⊎ (length s ≤ longestSheet + 1) → sheet (take (longestSheet + 1) s) 0 ≡ sheet s 0
     go (inl h) =
@@ -139,12 +139,12 @@ first-bytes-decide s = ap handed (go (lt-or-le (longestSheet + 1) (length s)))
     go (inr h) = ap (λ (t : List ℕ). sheet t 0) (take-all (longestSheet + 1) s h)
 
 -- a refusal of the reader is the table's: 1 to 9, at a place of the sheet, 0 for 1 and the length for 2
-pub refusal-is-listed : (s : List ℕ) (k p : ℕ) → reading s .0 ≡ refused k p → Listed s k p
+pub refusal-is-listed : (s : List ℕ) (k p : ℕ) → reading s .0 ≡ refused k p → BytesRefusal s k p
 refusal-is-listed s k p e = go (sheet s 0) refl e
   where
-    go : (x : Step Held) → sheet s 0 ≡ x → handed x .0 ≡ refused k p → Listed s k p
+    go : (x : Step Held) → sheet s 0 ≡ x → readingOf x .0 ≡ refused k p → BytesRefusal s k p
     go (ok h n) q f = let z : _≡_ {A = ℕ} 0 1 = cc in absurd (omega arith)
     go (refuse j i) q f =
         let ek : j ≡ k = cc in
         let ep : i ≡ p = cc in
-        listed-as s ek ep (tame-sheet .refuses s 0 j i (omega arith) q)
+        bytes-refusal-as s ek ep (tame-sheet .refuses s 0 j i (omega arith) q)

@@ -15,7 +15,7 @@ use Rattle.numbers.specs.Numbers.{groups, upToBy}
 use Rattle.sheet.specs.Lists.{rowCell, listCell}
 use Rattle.sheet.specs.declared.row.Sheet.{Sheet}
 use Rattle.reader.specs.Form.{plain, labelBy, entryBy, entriesBy, bodyBy, headBy, sheetBy, labelHead}
-use Rattle.reader.specs.Answers.{answer, reading, nowhere, labelIn, labelsIn, shown, part}
+use Rattle.reader.specs.Answers.{outcomeAndSheet, reading, nowhere, labelIn, labelsIn, shown, part}
 use Rattle.reader.specs.Lists.{intoLists, readInto}
 use Rattle.reader.specs.Cases.{twoPumps}
 use Rattle.reader.specs.declared.row.Part.{Part}
@@ -41,49 +41,49 @@ count-of : Outcome × Sheet → ℕ
 count-of (o, h) = h .count
 
 -- another kind of file: 47 53 43 01 would be cut off after its mark
-pub another-kind-is-shut-out : NoAnswer answer (readBy anotherKind otherMark) (reading otherMark)
+pub another-kind-is-shut-out : NoAnswer outcomeAndSheet (readBy anotherKind otherMark) (reading otherMark)
 unfolding anotherKind formBy rowsBy entryBy labelBy plain upToBy groups begins entriesBy bodyBy headBy sheetBy number-of by
-another-kind-is-shut-out = told-apart answer _ _ number-of refl
+another-kind-is-shut-out = told-apart outcomeAndSheet _ _ number-of refl
 
 -- bytes after the last row: two pumps and a byte would be a sheet
-pub bytes-after-is-shut-out : NoAnswer answer (readBy bytesAfter pumpsAndMore) (reading pumpsAndMore)
+pub bytes-after-is-shut-out : NoAnswer outcomeAndSheet (readBy bytesAfter pumpsAndMore) (reading pumpsAndMore)
 unfolding bytesAfter formBy rowsBy entryBy labelBy plain upToBy groups begins entriesBy bodyBy headBy sheetBy number-of by
-bytes-after-is-shut-out = told-apart answer _ _ number-of refl
+bytes-after-is-shut-out = told-apart outcomeAndSheet _ _ number-of refl
 
 -- a deadline over the separation
-pub long-deadline-is-shut-out : NoAnswer answer (readBy longDeadline lateRow) (reading lateRow)
+pub long-deadline-is-shut-out : NoAnswer outcomeAndSheet (readBy longDeadline lateRow) (reading lateRow)
 unfolding longDeadline formBy rowsBy rowBy entryBy labelBy plain upToBy groups begins entriesBy bodyBy headBy sheetBy number-of by
-long-deadline-is-shut-out = told-apart answer _ _ number-of refl
+long-deadline-is-shut-out = told-apart outcomeAndSheet _ _ number-of refl
 
 -- a blank budget read as 0
-pub blank-read-is-shut-out : NoAnswer answer (readBy blankRead blankRow) (reading blankRow)
+pub blank-read-is-shut-out : NoAnswer outcomeAndSheet (readBy blankRead blankRow) (reading blankRow)
 unfolding blankRead formBy rowsBy rowBy entryBy labelBy plain upToBy groups begins entriesBy bodyBy headBy sheetBy number-of by
-blank-read-is-shut-out = told-apart answer _ _ number-of refl
+blank-read-is-shut-out = told-apart outcomeAndSheet _ _ number-of refl
 
 -- a blank budget refused by 8
-pub seven-and-eight-is-shut-out : NoAnswer answer (readBy sevenAndEight blankRow) (reading blankRow)
+pub seven-and-eight-is-shut-out : NoAnswer outcomeAndSheet (readBy sevenAndEight blankRow) (reading blankRow)
 unfolding sevenAndEight formBy rowsBy rowBy entryBy labelBy plain upToBy groups begins entriesBy bodyBy headBy sheetBy number-of by
-seven-and-eight-is-shut-out = told-apart answer _ _ number-of refl
+seven-and-eight-is-shut-out = told-apart outcomeAndSheet _ _ number-of refl
 
 -- a label byte of 7F
-pub label-byte-is-shut-out : NoAnswer answer (readBy labelByte oddLabel) (reading oddLabel)
+pub label-byte-is-shut-out : NoAnswer outcomeAndSheet (readBy labelByte oddLabel) (reading oddLabel)
 unfolding labelByte formBy rowsBy rowBy anyLabel anyBytes entryBy labelBy plain upToBy groups begins entriesBy bodyBy headBy sheetBy number-of by
-label-byte-is-shut-out = told-apart answer _ _ number-of refl
+label-byte-is-shut-out = told-apart outcomeAndSheet _ _ number-of refl
 
 -- a label that is cut off, refused at 7 and not at 8
-pub cut-at-start-is-shut-out : NoAnswer answer (readBy cutAtStart shortLabel) (reading shortLabel)
+pub cut-at-start-is-shut-out : NoAnswer outcomeAndSheet (readBy cutAtStart shortLabel) (reading shortLabel)
 unfolding cutAtStart formBy rowsBy rowBy cutLabel enoughFrom entryBy labelBy plain upToBy groups begins entriesBy bodyBy headBy sheetBy place-of place
-cut-at-start-is-shut-out = told-apart answer _ _ place-of refl
+cut-at-start-is-shut-out = told-apart outcomeAndSheet _ _ place-of refl
 
 -- every sheet accepted: a blank budget is not
-pub all-accepted-is-shut-out : NoAnswer answer (allAccepted (reading blankRow)) (reading blankRow)
+pub all-accepted-is-shut-out : NoAnswer outcomeAndSheet (allAccepted (reading blankRow)) (reading blankRow)
 unfolding allAccepted entryBy labelBy plain upToBy groups begins entriesBy bodyBy headBy sheetBy number-of by
-all-accepted-is-shut-out = told-apart answer _ _ number-of refl
+all-accepted-is-shut-out = told-apart outcomeAndSheet _ _ number-of refl
 
 -- a sheet of zeros for what was read: two pumps are two rows
-pub nothing-read-is-shut-out : NoAnswer answer (nothingRead (reading twoPumps)) (reading twoPumps)
+pub nothing-read-is-shut-out : NoAnswer outcomeAndSheet (nothingRead (reading twoPumps)) (reading twoPumps)
 unfolding nothingRead entryBy labelBy plain upToBy groups begins entriesBy bodyBy headBy sheetBy count-of
-nothing-read-is-shut-out = told-apart answer _ _ count-of refl
+nothing-read-is-shut-out = told-apart outcomeAndSheet _ _ count-of refl
 
 -- `read_into`: the same, and the number at a place of the first list and of the second
 into-by : Outcome × (List ℕ × List ℕ) → ℕ

@@ -9,28 +9,28 @@ use Rattle.basis.specs.Words.{pick}
 use Rattle.basis.specs.Upto.{upto}
 use Rattle.basis.specs.Refusals.{Outcome, accepted, refused, outcome}
 use Rattle.basis.specs.Readers.{Step, ok, refuse}
-use Rattle.reader.specs.Form.{Held, rowOf, sheet, labelHead}
+use Rattle.reader.specs.Form.{Held, entryRow, sheet, labelHead}
 use Rattle.sheet.specs.Values.{padded, noSheet}
 use Rattle.reader.specs.declared.row.Part.{Part}
 use Rattle.sheet.specs.declared.row.Sheet.{Sheet}
 use Rattle.reader.specs.declared.whole.Reading.{Reading}
 
 -- What the code's answer stands for: the outcome, and the sheet beside it.
-abbrev pub answer : Reading → Outcome × Sheet
-answer r = (outcome (r .refusal), r .sheet)
+abbrev pub outcomeAndSheet : Reading → Outcome × Sheet
+outcomeAndSheet r = (outcome (r .refusal), r .sheet)
 
 -- The sheet by value of what was read.
-abbrev pub sheetOf : Held → Sheet
-sheetOf h = record { processors = h .processors; count = length (h .entries); rows = padded (map rowOf (h .entries)) }
+abbrev pub sheetHeld : Held → Sheet
+sheetHeld h = record { processors = h .processors; count = length (h .entries); rows = padded (map entryRow (h .entries)) }
 
 -- What is handed over after reading: the sheet, or the one refusal with a sheet of zeros beside it.
-abbrev pub handed : Step Held → Outcome × Sheet
-handed (ok h n) = (accepted, sheetOf h)
-handed (refuse number place) = (refused number place, noSheet)
+abbrev pub readingOf : Step Held → Outcome × Sheet
+readingOf (ok h n) = (accepted, sheetHeld h)
+readingOf (refuse number place) = (refused number place, noSheet)
 
 -- The reader's answer, for any bytes.
 abbrev pub reading : List ℕ → Outcome × Sheet
-reading s = handed (sheet s 0)
+reading s = readingOf (sheet s 0)
 
 -- The empty part.
 abbrev pub nowhere : Part

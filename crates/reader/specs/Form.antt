@@ -14,8 +14,12 @@ pub record Entry : Type 0 where
   pub row : Row
 
 -- The row of an entry.
-abbrev pub rowOf : Entry → Row
-rowOf e = e .row
+abbrev pub entryRow : Entry → Row
+entryRow e = e .row
+
+-- The label of an entry.
+abbrev pub entryLabel : Entry → List ℕ
+entryLabel e = e .label
 
 -- What a sheet holds.
 pub record Held : Type 0 where

@@ -66,12 +66,12 @@ EntryAt s at (entry-variants.Is r p n) = p ≡ partAfter (upTo longestLabel 6 6 
 EntryAt s at (entry-variants.Refused number place) = Unit {0}
 
 -- What stands before the rows.
-abbrev pub headed : ℕ → ℕ → Head
-headed m n = record { processors = m; count = n }
+abbrev pub headOf : ℕ → ℕ → Head
+headOf m n = record { processors = m; count = n }
 
 -- The step that reading it stands for.
 abbrev pub headStep : HeadRead → Step Head
-headStep (head-variants.Is m n next) = ok (headed m n) next
+headStep (head-variants.Is m n next) = ok (headOf m n) next
 headStep (head-variants.Refused number place) = refuse number place
 
 -- Nothing of a value.

@@ -15,7 +15,7 @@ use Rattle.sheet.specs.Values.{noSheet}
 use Rattle.sheet.specs.Lists.{sheetCell, sheetLong}
 use Rattle.sheet.specs.declared.row.Sheet.{Sheet}
 use Rattle.reader.specs.Form.{Entry, Held, markBytes, plain, label, entry}
-use Rattle.reader.specs.Answers.{handed, reading, labelIn, noParts}
+use Rattle.reader.specs.Answers.{readingOf, reading, labelIn, noParts}
 use Rattle.reader.specs.Lists.{labelsLong}
 use Rattle.reader.specs.Cases.{twoPumps}
 use Rattle.reader.specs.declared.row.Part.{Part}
@@ -54,7 +54,7 @@ upToIt most = upTo most 7 8
 
 -- What is handed over after reading by another form.
 abbrev pub readBy : Reader Held → List ℕ → Outcome × Sheet
-readBy form s = handed (form s 0)
+readBy form s = readingOf (form s 0)
 
 -- The mark of a file of another kind, 47 53 43 01.
 abbrev pub otherMark : List ℕ

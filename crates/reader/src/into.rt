@@ -9,7 +9,7 @@ ghost use Rattle.basis.specs.Upto.{upto};
 ghost use Rattle.sheet.specs.Lists.{numberAt, sheetLong};
 ghost use Rattle.reader.specs.Form.{head};
 ghost use Rattle.reader.specs.Lists.{labelsLong, readInto};
-ghost use Rattle.reader.specs.Steps.{headed, handedOver};
+ghost use Rattle.reader.specs.Steps.{headOf, handedOver};
 use crate::head::HeadRead;
 use crate::head::read_head;
 use crate::row::Passed;
@@ -66,7 +66,7 @@ fn read_body(
     list: &mut [u64],
     labels: &mut [u64],
 ) -> Refusal
-    requires { ⌜ head (now bytes) 0 ≡ ok (headed processors count) at ⌝ }
+    requires { ⌜ head (now bytes) 0 ≡ ok (headOf processors count) at ⌝ }
     ensures { λ r. ⌜ (outcome r, (now (list .exit), now (labels .exit))) ≡ readInto (now (bytes .entry)) (now (list .entry)) (now (labels .entry)) ⌝ }
 {
     let mut own = [0u64; SHEET_LONG];

@@ -2,8 +2,8 @@
 ghost use mathlib.Core.Path.{_≡_};
 ghost use Prim.Native.Nat.{_-_, _≤_};
 ghost use lib.ListN.{length};
-ghost use Rattle.basis.specs.Readers.{told};
-ghost use Rattle.reader.specs.Form.{rowOf, plain, label, entry};
+ghost use Rattle.basis.specs.Readers.{mapStep};
+ghost use Rattle.reader.specs.Form.{entryRow, plain, label, entry};
 ghost use Rattle.reader.specs.Steps.{passedStep, labelStep, rowStep, entryStep, nothing, numbers, LabelAt, EntryAt};
 use basis::LONGEST_LABEL;
 use basis::MOST_SEPARATION;
@@ -43,7 +43,7 @@ pub enum EntryRead {
 // The bytes of a label, from a place to its end.
 pub(crate) fn read_plain(bytes: &[u8], at: usize, end: usize) -> Passed
     requires { ⌜ (at ≤ end) × (end ≤ length (now bytes)) ⌝ }
-    ensures { λ r. ⌜ passedStep r ≡ told nothing (plain (end - at) (now (bytes .entry)) at) ⌝ }
+    ensures { λ r. ⌜ passedStep r ≡ mapStep nothing (plain (end - at) (now (bytes .entry)) at) ⌝ }
 {
     let mut i = at;
     while i < end {
@@ -61,7 +61,7 @@ pub(crate) fn read_plain(bytes: &[u8], at: usize, end: usize) -> Passed
 
 // The label at a place.
 pub(crate) fn read_label(bytes: &[u8], at: usize) -> LabelRead
-    ensures { λ r. ⌜ (labelStep r ≡ told length (label (now (bytes .entry)) at)) × (LabelAt (now (bytes .entry)) at r) ⌝ }
+    ensures { λ r. ⌜ (labelStep r ≡ mapStep length (label (now (bytes .entry)) at)) × (LabelAt (now (bytes .entry)) at r) ⌝ }
 {
     match numbers::read_up_to(bytes, at, LONGEST_LABEL, 6, 6) {
         Number::Refused(k, p) => LabelRead::Refused(k, p),
@@ -108,7 +108,7 @@ fn read_numbers(bytes: &[u8], at: usize, processors: u64) -> RowRead
 
 // The row at a place with its label, on so many processors.
 pub(crate) fn read_entry(bytes: &[u8], at: usize, processors: u64) -> EntryRead
-    ensures { λ r. ⌜ (entryStep r ≡ told rowOf (entry processors (now (bytes .entry)) at)) × (EntryAt (now (bytes .entry)) at r) ⌝ }
+    ensures { λ r. ⌜ (entryStep r ≡ mapStep entryRow (entry processors (now (bytes .entry)) at)) × (EntryAt (now (bytes .entry)) at r) ⌝ }
 {
     match read_label(bytes, at) {
         LabelRead::Refused(k, p) => EntryRead::Refused(k, p),

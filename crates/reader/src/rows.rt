@@ -3,7 +3,7 @@ ghost use mathlib.Core.Path.{_≡_};
 ghost use Prim.Native.Nat.{_+_, _≤_, _<_};
 ghost use lib.ListN.{length};
 ghost use Rattle.basis.specs.Limits.{mostRows};
-ghost use Rattle.basis.specs.Readers.{told};
+ghost use Rattle.basis.specs.Readers.{mapStep};
 ghost use Rattle.sheet.specs.Lists.{sheetLong};
 ghost use Rattle.reader.specs.Form.{entries};
 ghost use Rattle.reader.specs.Lists.{labelsLong};
@@ -44,7 +44,7 @@ pub(crate) fn take_rows(
     labels: &mut [u64],
 ) -> Passed
     requires { ⌜ (count ≤ mostRows) × (sheetLong count ≤ length (now list)) × (labelsLong count ≤ length (now labels)) ⌝ }
-    ensures { λ r. ⌜ (passedStep r ≡ told nothing (entries processors count (now (bytes .entry)) at))
+    ensures { λ r. ⌜ (passedStep r ≡ mapStep nothing (entries processors count (now (bytes .entry)) at))
         × (Took processors count (now (bytes .entry)) at (now (list .entry)) (now (labels .entry)) (now (list .exit)) (now (labels .exit)) r) ⌝ }
 {
     list[0] = processors;

@@ -1,6 +1,6 @@
 // The sheet by value.
 ghost use mathlib.Core.Path.{_≡_};
-ghost use Rattle.reader.specs.Answers.{answer, reading};
+ghost use Rattle.reader.specs.Answers.{outcomeAndSheet, reading};
 use crate::into::LABELS_LONG;
 use crate::into::read_into;
 use basis::Refusal;
@@ -15,7 +15,7 @@ pub struct Reading {
 
 // The sheet that the bytes hold, or the one refusal.
 pub fn read(bytes: &[u8]) -> Reading
-    ensures { λ r. ⌜ answer r ≡ reading (now (bytes .entry)) ⌝ }
+    ensures { λ r. ⌜ outcomeAndSheet r ≡ reading (now (bytes .entry)) ⌝ }
 {
     let mut list = [0u64; SHEET_LONG];
     let mut labels = [0u64; LABELS_LONG];

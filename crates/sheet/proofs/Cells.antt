@@ -12,13 +12,13 @@ use borrow.Author.Tests.{lt-ltb, le-ltb, le-leb, lt-leb, eq-eqb, ne-eqb}
 use Rattle.basis.specs.Limits.{mostRows}
 use Rattle.basis.specs.Upto.{upto}
 use Rattle.basis.proofs.Lists.{getD-all}
+use Rattle.basis.proofs.Upto.{upto-set}
 use Rattle.basis.proofs.Words.{lt-or-le}
 use Rattle.sheet.specs.Legal.{noRow, rowAt}
 use Rattle.sheet.specs.Values.{noSheet}
 use Rattle.sheet.specs.declared.row.Row.{Row}
 use Rattle.sheet.specs.declared.row.Sheet.{Sheet}
 use Rattle.sheet.specs.Lists.{rowCell, listCell, sheetCell, sheetLong, rowOf, cellBy}
-use Rattle.sheet.proofs.Filling.{fill-more}
 
 -- number j of row k of a list
 pub cell-of : (m n : ℕ) (rows : ℕ → Row) (i k j : ℕ) → i ≡ k * 4 + j + 2 → j < 4 → listCell m n rows i ≡ rowCell (rows k) j
@@ -98,4 +98,4 @@ cell-found h i r long e v f =
 -- and its store fills one place more
 pub cell-stored : (h : Sheet) (l₀ l : List ℕ) (i r : ℕ) → l ≡ upto i (sheetCell h) l₀ → length (h .rows) ≡ mostRows → r ≡ rowOf i → (v : ℕ) → v ≡ cellBy (h .processors) (h .count) (rowAt h r) i
     → set l i v ≡ upto (i + 1) (sheetCell h) l₀
-cell-stored h l₀ l i r so-far long e v f = fill-more (sheetCell h) l₀ l i so-far v (cell-found h i r long e v f)
+cell-stored h l₀ l i r so-far long e v f = upto-set i (sheetCell h) l l₀ v so-far (cell-found h i r long e v f)

@@ -1,8 +1,8 @@
 -- A legal sheet is one whose every number is in its range.
 -- Assumes nothing.
 use Prim.Native.Nat.{ℕ}
-use mathlib.Core.Path.{_≡_, sym, _∙_}
-use mathlib.Core.Bool.{Bool, true}
+use mathlib.Core.Path.{_≡_}
+use mathlib.Core.Bool.{true}
 use Rattle.basis.specs.Limits.{mostProcessors, mostRows, mostSeparation}
 use Rattle.basis.specs.Words.{within}
 use Rattle.basis.proofs.Words.{both-left, both-right, both-true, at-least, at-most, within-true, all-at, all-true}
@@ -61,7 +61,3 @@ legal-says h r =
     both-true _ _ (within-true 1 mostProcessors (h .processors) (r .some-processors) (r .most-processors))
     (both-true _ _ (within-true 1 mostRows (h .count) (r .some-rows) (r .most-rows))
     (all-true (h .count) (legalAt h) (λ i l. legal-row-says (h .processors) (rowAt h i) (r .rows i l))))
-
--- where the check has said so
-pub legal-told : (h : Sheet) (fine : Bool) → fine ≡ legal h → fine ≡ true → Legal h
-legal-told h fine e t = legal-is h (sym e ∙ t)

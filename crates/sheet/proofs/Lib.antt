@@ -1,8 +1,8 @@
-pub mod Back
+pub mod RoundTrip
 pub mod Cells
-pub mod Clearing
-pub mod Filling
-pub mod Handed
+pub mod ClearedLists
+pub mod FilledLists
+pub mod ListRows
 pub mod Legality
 pub mod Places
 pub mod Ranges

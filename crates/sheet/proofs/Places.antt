@@ -7,7 +7,7 @@ use Rattle.basis.specs.Limits.{mostRows}
 use Rattle.sheet.specs.Legal.{rowAt}
 use Rattle.sheet.specs.declared.row.Row.{Row}
 use Rattle.sheet.specs.Lists.{numberAt, rowIn, sheetIn}
-use Rattle.sheet.proofs.Handed.{row-handed}
+use Rattle.sheet.proofs.ListRows.{row-handed}
 
 -- `processors`
 pub processors-handed : (l : List ℕ) (m : ℕ) → m ≡ numberAt l 0 → m ≡ sheetIn l .processors

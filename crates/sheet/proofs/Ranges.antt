@@ -16,7 +16,7 @@ use Rattle.sheet.specs.declared.row.Row.{Row}
 use Rattle.sheet.specs.declared.row.Sheet.{Sheet}
 use Rattle.sheet.proofs.Legality.{legal-is}
 use Rattle.sheet.specs.Lists.{numberAt, rowIn, sheetIn, sheetLong, legalRows}
-use Rattle.sheet.proofs.Handed.{row-in-sheet}
+use Rattle.sheet.proofs.ListRows.{row-in-sheet}
 use mathlib.Core.Logic.{⊎-elim}
 
 -- `rows_are_legal`

@@ -10,6 +10,7 @@ pub use inside::processors;
 pub use legal::is_legal;
 pub use reading::number_at;
 pub use reading::sheet_in;
+pub use row::NO_ROW;
 pub use row::Row;
 pub use row::Sheet;
 pub use writing::SHEET_LONG;

@@ -3,6 +3,7 @@ ghost use mathlib.Core.Path.{_≡_};
 ghost use Prim.Native.Nat.{_<_};
 ghost use Rattle.basis.specs.Limits.{mostRows};
 ghost use Rattle.sheet.specs.Lists.{numberAt, rowIn, sheetIn};
+use crate::row::NO_ROW;
 use crate::row::Row;
 use crate::row::Sheet;
 use basis::MOST_ROWS;
@@ -34,13 +35,7 @@ fn row_in(list: &[u64], k: usize) -> Row
 pub fn sheet_in(list: &[u64]) -> Sheet
     ensures { λ r. ⌜ r ≡ sheetIn (now (list .entry)) ⌝ }
 {
-    let none = Row {
-        threads: 0,
-        separation: 0,
-        deadline: 0,
-        budget: 0,
-    };
-    let mut rows = [none; MOST_ROWS];
+    let mut rows = [NO_ROW; MOST_ROWS];
     let mut i: usize = 0;
     while i < MOST_ROWS {
         rows[i] = row_in(list, i);

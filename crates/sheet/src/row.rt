@@ -8,6 +8,14 @@ pub struct Row {
     pub budget: u64,
 }
 
+// A row that is not there: all zero.
+pub const NO_ROW: Row = Row {
+    threads: 0,
+    separation: 0,
+    deadline: 0,
+    budget: 0,
+};
+
 pub struct Sheet {
     pub processors: u64,
     pub count: u64,

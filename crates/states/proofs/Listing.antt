@@ -14,7 +14,7 @@ use Rattle.basis.specs.Upto.{upto}
 use Rattle.basis.proofs.Upto.{upto-set, upto-below, length-upto}
 use Rattle.sheet.specs.declared.row.Sheet.{Sheet}
 use Rattle.sheet.specs.Lists.{filled, sheetIn, sheetCell, sheetLong}
-use Rattle.sheet.proofs.Back.{whole-sheet-comes-back}
+use Rattle.sheet.proofs.RoundTrip.{whole-sheet-comes-back}
 use Rattle.records.specs.declared.record.RowState.{RowState}
 use Rattle.machine.specs.States.{State, noState, stateOf, recordAt}
 use Rattle.states.specs.declared.state.State.{State as Value}

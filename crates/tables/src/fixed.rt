@@ -3,6 +3,7 @@ ghost use mathlib.Core.Path.{_≡_};
 ghost use Rattle.sheet.specs.Values.{noSheet};
 ghost use Rattle.tables.specs.Tables.{sheetA, sheetB, sheetC, sheetD, sheetE, sheetF, fixedSheet};
 use basis::MOST_ROWS;
+use sheet::NO_ROW;
 use sheet::Row;
 use sheet::Sheet;
 
@@ -100,19 +101,11 @@ const F: [Row; 1] = [Row {
     budget: 1,
 }];
 
-// A row that is not there.
-const NONE: Row = Row {
-    threads: 0,
-    separation: 0,
-    deadline: 0,
-    budget: 0,
-};
-
 // Sheet A.
 fn sheet_a() -> Sheet
     ensures { λ r. ⌜ r ≡ sheetA ⌝ }
 {
-    let mut rows = [NONE; MOST_ROWS];
+    let mut rows = [NO_ROW; MOST_ROWS];
     rows[0] = A[0];
     rows[1] = A[1];
     Sheet {
@@ -126,7 +119,7 @@ fn sheet_a() -> Sheet
 fn sheet_b() -> Sheet
     ensures { λ r. ⌜ r ≡ sheetB ⌝ }
 {
-    let mut rows = [NONE; MOST_ROWS];
+    let mut rows = [NO_ROW; MOST_ROWS];
     rows[0] = B[0];
     rows[1] = B[1];
     rows[2] = B[2];
@@ -141,7 +134,7 @@ fn sheet_b() -> Sheet
 fn sheet_c() -> Sheet
     ensures { λ r. ⌜ r ≡ sheetC ⌝ }
 {
-    let mut rows = [NONE; MOST_ROWS];
+    let mut rows = [NO_ROW; MOST_ROWS];
     rows[0] = C[0];
     rows[1] = C[1];
     Sheet {
@@ -155,7 +148,7 @@ fn sheet_c() -> Sheet
 fn sheet_d() -> Sheet
     ensures { λ r. ⌜ r ≡ sheetD ⌝ }
 {
-    let mut rows = [NONE; MOST_ROWS];
+    let mut rows = [NO_ROW; MOST_ROWS];
     rows[0] = D[0];
     rows[1] = D[1];
     Sheet {
@@ -169,7 +162,7 @@ fn sheet_d() -> Sheet
 fn sheet_e() -> Sheet
     ensures { λ r. ⌜ r ≡ sheetE ⌝ }
 {
-    let mut rows = [NONE; MOST_ROWS];
+    let mut rows = [NO_ROW; MOST_ROWS];
     rows[0] = E[0];
     rows[1] = E[1];
     Sheet {
@@ -183,7 +176,7 @@ fn sheet_e() -> Sheet
 fn sheet_f() -> Sheet
     ensures { λ r. ⌜ r ≡ sheetF ⌝ }
 {
-    let mut rows = [NONE; MOST_ROWS];
+    let mut rows = [NO_ROW; MOST_ROWS];
     rows[0] = F[0];
     Sheet {
         processors: 1,
@@ -196,7 +189,7 @@ fn sheet_f() -> Sheet
 fn no_sheet() -> Sheet
     ensures { λ r. ⌜ r ≡ noSheet ⌝ }
 {
-    let rows = [NONE; MOST_ROWS];
+    let rows = [NO_ROW; MOST_ROWS];
     Sheet {
         processors: 0,
         count: 0,

@@ -25,7 +25,7 @@ fn bounds_of(sheet: Sheet) -> Results
 
 // The sheet that some bytes hold.
 fn read_of(bytes: &[u8]) -> Reading
-    ensures { λ r. ⌜ readers.answer r ≡ reading (now (bytes .entry)) ⌝ }
+    ensures { λ r. ⌜ readers.outcomeAndSheet r ≡ reading (now (bytes .entry)) ⌝ }
 {
     let told = reader::read(bytes);
     let refusal = told.refusal;

@@ -4,7 +4,7 @@ use Prim.Native.Nat.{_-_, _≤_}
 use mathlib.Core.Path.{_≡_}
 use lib.ListN.{length}
 use Rattle.bound.specs.Lists.{wordAt}
-use Rattle.dashboard.specs.Labels.{labelBy}
+use Rattle.dashboard.specs.Labels.{lineLabel}
 use Rattle.dashboard.specs.Texts.{lines}
 use Rattle.page.specs.Pages.{said}
 use Rattle.dashboard.proofs.Boards.{no-lines, one-line, all-lines, label-room, label-lies, result-room}
@@ -13,7 +13,7 @@ use Rattle.dashboard.proofs.board.put_lines.Tie as tie
 
 abbrev Inv-loop : tie.InvT-loop
 Inv-loop text₀ at labels bytes parts results count next₀ i₀ text next i =
-    (i ≤ count) × (length text ≡ length text₀) × ((text, next) ≡ said (text₀, at) (lines (labelBy labels bytes) (wordAt results) i))
+    (i ≤ count) × (length text ≡ length text₀) × ((text, next) ≡ said (text₀, at) (lines (lineLabel labels bytes) (wordAt results) i))
 
 abbrev μ-loop : tie.MeasureT-loop
 μ-loop text₀ at labels bytes parts results count next₀ i₀ text next i = count - i

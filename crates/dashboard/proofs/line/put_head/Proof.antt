@@ -1,12 +1,12 @@
 -- `put_head` meets its promise. Assumes nothing.
 use borrow.Author.Needs.{needs}
-use Rattle.dashboard.specs.Words.{head}
-use Rattle.page.proofs.Saying.{four-said}
+use Rattle.dashboard.specs.Words.{lineStart}
+use Rattle.page.proofs.Pages.{four-said}
 use Rattle.dashboard.proofs.line.put_head.Statement.{statement}
 use Rattle.dashboard.proofs.line.put_head.Tie as tie
 
 pub put-head-spec : {M : Type 1} → statement M
-unfolding head
+unfolding lineStart
 put-head-spec =
     tie.close
     (tie.spec

@@ -4,7 +4,8 @@ use Prim.Native.Nat.{_≤_, _-_}
 use mathlib.Core.Path.{_≡_}
 use lib.ListN.{length}
 use Rattle.basis.specs.Upto.{upto}
-use Rattle.sheet.proofs.Filling.{fill-none, fill-more, fill-done}
+use Rattle.basis.proofs.Upto.{upto-none, upto-set}
+use Rattle.sheet.proofs.FilledLists.{fill-done}
 use Rattle.states.specs.Values.{held}
 use Rattle.exports.specs.Further.{stateCell}
 use Rattle.exports.proofs.boxes.put_state.Statement.{statement}
@@ -17,10 +18,10 @@ abbrev μ-loop : tie.MeasureT-loop
 μ-loop list₀ state i₀ list i = length list₀ - i
 
 loop-holds : tie.Need-loop-holds Inv-loop μ-loop
-loop-holds c = (search needs, search needs, search fill-none)
+loop-holds c = (search needs, search needs, search upto-none)
 
 loop-again : tie.Need-loop-again Inv-loop μ-loop
-loop-again c = (search needs, search needs, search fill-more)
+loop-again c = (search needs, search needs, search upto-set)
 
 returns : tie.Need-returns Inv-loop μ-loop
 returns c = search fill-done

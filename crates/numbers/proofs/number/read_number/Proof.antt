@@ -6,7 +6,7 @@ use denote.Ref.{now}
 use mathlib.Core.Path.{_≡_, refl, sym, ap, _∙_}
 use Rattle.basis.specs.Limits.{mostGroups}
 use Rattle.numbers.specs.Numbers.{groups, number}
-use Rattle.numbers.proofs.Laws.{ends, over, low, last, again, scaled, scaled-none, room-more, room-one, digit-room}
+use Rattle.numbers.proofs.Groups.{ends, over, low, last, again, scaled, scaled-none, room-more, room-one, digit-room}
 use Rattle.numbers.proofs.number.read_number.Statement.{statement}
 use Rattle.numbers.proofs.number.read_number.Tie as tie
 

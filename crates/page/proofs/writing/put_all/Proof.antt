@@ -4,7 +4,7 @@ use Prim.Native.Nat.{_+_, _-_, _≤_}
 use mathlib.Core.Path.{_≡_}
 use lib.ListN.{length, take}
 use Rattle.page.specs.Pages.{said}
-use Rattle.page.proofs.Saying.{none-said, byte-inside, byte-put, all-said}
+use Rattle.page.proofs.Pages.{none-said, byte-inside, byte-put, all-said}
 use Rattle.page.proofs.writing.put_all.Statement.{statement}
 use Rattle.page.proofs.writing.put_all.Tie as tie
 

@@ -4,7 +4,7 @@ use Prim.Native.Nat.{_-_, _≤_}
 use mathlib.Core.Path.{_≡_}
 use lib.ListN.{length, take}
 use Rattle.page.specs.Pages.{said}
-use Rattle.page.proofs.Saying.{none-said, byte-said, all-said}
+use Rattle.page.proofs.Pages.{none-said, byte-said, all-said}
 use Rattle.page.proofs.writing.put_some.Statement.{statement}
 use Rattle.page.proofs.writing.put_some.Tie as tie
 

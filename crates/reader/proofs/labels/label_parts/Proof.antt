@@ -7,7 +7,7 @@ use Rattle.basis.specs.Upto.{upto}
 use Rattle.basis.proofs.Upto.{upto-none}
 use Rattle.reader.specs.Answers.{labelIn, noParts}
 use Rattle.reader.specs.Steps.{partIn}
-use Rattle.reader.proofs.Owned.{parts-were-read, one-part-more, all-parts}
+use Rattle.reader.proofs.ZeroLists.{parts-were-read, one-part-more, all-parts}
 use Rattle.reader.proofs.labels.label_parts.Statement.{statement}
 use Rattle.reader.proofs.labels.label_parts.Tie as tie
 

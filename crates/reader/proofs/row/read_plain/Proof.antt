@@ -2,7 +2,7 @@
 use borrow.Author.Needs.{needs}
 use Prim.Native.Nat.{_-_, _≤_}
 use mathlib.Core.Path.{_≡_, refl}
-use Rattle.basis.specs.Readers.{told}
+use Rattle.basis.specs.Readers.{mapStep}
 use Rattle.reader.specs.Form.{plain}
 use Rattle.reader.specs.Steps.{nothing}
 use Rattle.reader.proofs.Plain.{plain-low, plain-high, plain-more, plain-all}
@@ -10,7 +10,7 @@ use Rattle.reader.proofs.row.read_plain.Statement.{statement}
 use Rattle.reader.proofs.row.read_plain.Tie as tie
 
 abbrev Inv-loop : tie.InvT-loop
-Inv-loop bytes at end i₀ i = (i ≤ end) × (told nothing (plain (end - at) bytes at) ≡ told nothing (plain (end - i) bytes i))
+Inv-loop bytes at end i₀ i = (i ≤ end) × (mapStep nothing (plain (end - at) bytes at) ≡ mapStep nothing (plain (end - i) bytes i))
 
 abbrev μ-loop : tie.MeasureT-loop
 μ-loop bytes at end i₀ i = end - i

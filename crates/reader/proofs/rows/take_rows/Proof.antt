@@ -2,16 +2,16 @@
 use borrow.Author.Needs.{needs}
 use Prim.Native.Nat.{_-_, _≤_}
 use mathlib.Core.Path.{_≡_}
-use Rattle.basis.specs.Readers.{ok, told}
+use Rattle.basis.specs.Readers.{ok, mapStep}
 use Rattle.reader.specs.Form.{entries}
 use Rattle.reader.specs.Steps.{nothing, rowsIn, partsIn}
-use Rattle.reader.proofs.Taken.{none-passed, head-put, no-part-put, row-refused, one-passed, row-put, part-put, all-passed, rows-put, parts-put, rows-long, parts-long, row-room, part-room, count-inside}
+use Rattle.reader.proofs.RowLoop.{none-passed, head-put, no-part-put, row-refused, one-passed, row-put, part-put, all-passed, rows-put, parts-put, rows-long, parts-long, row-room, part-room, count-inside}
 use Rattle.reader.proofs.rows.take_rows.Statement.{statement}
 use Rattle.reader.proofs.rows.take_rows.Tie as tie
 
 abbrev Inv-loop : tie.InvT-loop
 Inv-loop bytes at processors count list₀ labels₀ next₀ i₀ list labels next i =
-    (i ≤ count) × (told nothing (entries processors i bytes at) ≡ ok tt next) × (list ≡ rowsIn processors count bytes at i list₀) × (labels ≡ partsIn processors bytes at i labels₀)
+    (i ≤ count) × (mapStep nothing (entries processors i bytes at) ≡ ok tt next) × (list ≡ rowsIn processors count bytes at i list₀) × (labels ≡ partsIn processors bytes at i labels₀)
 
 abbrev μ-loop : tie.MeasureT-loop
 μ-loop bytes at processors count list₀ labels₀ next₀ i₀ list labels next i = count - i

@@ -6,7 +6,7 @@ use Rattle.basis.specs.Limits.{mostRows}
 use Rattle.basis.specs.Upto.{upto}
 use Rattle.sheet.specs.Values.{noRows}
 use Rattle.sheet.specs.Lists.{rowIn}
-use Rattle.sheet.proofs.Handed.{rows-more, sheet-read}
+use Rattle.sheet.proofs.ListRows.{rows-more, sheet-read}
 use Rattle.sheet.proofs.reading.sheet_in.Statement.{statement}
 use Rattle.sheet.proofs.reading.sheet_in.Tie as tie
 

@@ -5,7 +5,7 @@ use mathlib.Core.Path.{_≡_}
 use lib.ListN.{length}
 use Rattle.basis.specs.Upto.{upto}
 use Rattle.sheet.specs.Lists.{clearedCell}
-use Rattle.sheet.proofs.Clearing.{clear-none, clear-more, clear-done}
+use Rattle.sheet.proofs.ClearedLists.{clear-none, clear-more, clear-done}
 use Rattle.sheet.proofs.writing.clear_from.Statement.{statement}
 use Rattle.sheet.proofs.writing.clear_from.Tie as tie
 

@@ -4,8 +4,9 @@ use Prim.Native.Nat.{_≤_, _-_}
 use mathlib.Core.Path.{_≡_}
 use lib.ListN.{length}
 use Rattle.basis.specs.Upto.{upto}
+use Rattle.basis.proofs.Upto.{upto-none}
 use Rattle.sheet.specs.Lists.{sheetCell}
-use Rattle.sheet.proofs.Filling.{fill-none, fill-done}
+use Rattle.sheet.proofs.FilledLists.{fill-done}
 use Rattle.sheet.proofs.Cells.{unmapped, row-there, cell-stored}
 use Rattle.sheet.proofs.writing.put_sheet.Statement.{statement}
 use Rattle.sheet.proofs.writing.put_sheet.Tie as tie
@@ -22,7 +23,7 @@ put-sheet-spec =
     (tie.spec
     Inv-loop
     μ-loop
-    (λ c. (search needs, search needs, search fill-none))
+    (λ c. (search needs, search needs, search upto-none))
     (λ c κs. search needs)
     (λ c. search (needs, row-there))
     (λ c. search (needs, row-there))

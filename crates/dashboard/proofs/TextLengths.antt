@@ -13,18 +13,18 @@ use Rattle.basis.proofs.Sums.{sum-grows}
 use Rattle.basis.specs.Refusals.{accepted}
 use Rattle.reader.specs.Form.{Held, sheet}
 use Rattle.sheet.specs.Legal.{Legal}
-use Rattle.reader.specs.Answers.{handed, reading, rowsRead}
+use Rattle.reader.specs.Answers.{readingOf, reading, rowsRead}
 use Rattle.sheet.specs.declared.row.Sheet.{Sheet}
-use Rattle.reader.proofs.Accepted.{accepted-is-legal}
+use Rattle.reader.proofs.LegalSheets.{accepted-is-legal}
 use Rattle.sheet.proofs.Legality.{legal-is}
-use Rattle.reader.proofs.Naming.{label-of-row}
+use Rattle.reader.proofs.RowLabels.{label-of-row}
 use Rattle.basis.specs.Readers.{Step, ok, refuse}
 use Rattle.bound.specs.Test.{passes}
 use Rattle.bound.specs.Bound.{Word, bound, none, unreached, isBound, valueOf, resultOf, holds}
 use Rattle.bound.proofs.Meaning.{bound-in-range}
 use Rattle.bound.proofs.Judging.{passes-local}
 use Rattle.page.specs.Decimals.{digits, decimal, mostDigits}
-use Rattle.dashboard.specs.Words.{boundWord, told, head, line, holdsLine, ending, refusedBy, noVerdict}
+use Rattle.dashboard.specs.Words.{boundWord, resultWords, lineStart, line, holdsLine, ending, refusedBy, noVerdict}
 use Rattle.dashboard.specs.Labels.{ownLabel}
 use Rattle.dashboard.specs.Texts.{lines, board, verdictText, referenceText}
 use Rattle.page.specs.Pages.{written}
@@ -48,15 +48,15 @@ refusal-fits = omega arith
 abbrev Small : Word → Type 0
 Small w = isBound w ≡ true → valueOf w .0 ≤ mostSeparation
 
-told-is-short : (w : Word) → Small w → length (told w) ≤ length boundWord + length (decimal mostSeparation)
-unfolding told
-told-is-short (bound r) h = rw length-append (omega (arith, decimal-grows r mostSeparation (h refl)))
-told-is-short none h = omega (arith, wide-separation)
-told-is-short unreached h = omega (arith, wide-separation)
+result-is-short : (w : Word) → Small w → length (resultWords w) ≤ length boundWord + length (decimal mostSeparation)
+unfolding resultWords
+result-is-short (bound r) h = rw length-append (omega (arith, decimal-grows r mostSeparation (h refl)))
+result-is-short none h = omega (arith, wide-separation)
+result-is-short unreached h = omega (arith, wide-separation)
 
 line-is-short : (row : ℕ) (label : List ℕ) (w : Word) → length label ≤ longestLabel → Small w → length (line row label w) ≤ longestLine row
-unfolding line head longestLine
-line-is-short row label w l s = simp length-append (omega (arith, told-is-short w s))
+unfolding line lineStart longestLine
+line-is-short row label w l s = simp length-append (omega (arith, result-is-short w s))
 
 lines-are-short : (label : ℕ → List ℕ) (result : ℕ → Word) (n : ℕ) → ((i : ℕ) → i < n → length (label i) ≤ longestLabel) → ((i : ℕ) → i < n → Small (result i))
     → length (lines label result n) ≤ sum n longestLine
@@ -91,7 +91,7 @@ module _ (label : ℕ → List ℕ) (h : Sheet) (fine : Legal h) where
 rows-of : (s : List ℕ) → reading s .0 ≡ accepted → rowsRead (sheet s 0) ≡ reading s .1 .count
 rows-of s e = go (sheet s 0) e
   where
-    go : (x : Step Held) → handed x .0 ≡ accepted → rowsRead x ≡ handed x .1 .count
+    go : (x : Step Held) → readingOf x .0 ≡ accepted → rowsRead x ≡ readingOf x .1 .count
     go (ok h n) f = refl
     go (refuse k p) f = let z : _≡_ {A = ℕ} 0 1 = cc in absurd (omega arith)
 

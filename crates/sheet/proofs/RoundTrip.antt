@@ -16,8 +16,8 @@ use Rattle.sheet.specs.Legal.{noRow, rowAt}
 use Rattle.sheet.specs.Values.{noRows}
 use Rattle.sheet.specs.declared.row.Sheet.{Sheet}
 use Rattle.sheet.specs.Lists.{numberAt, filled, rowIn, sheetIn, rowCell, listCell, sheetCell, sheetLong}
-use Rattle.sheet.proofs.Filling.{filled-read}
-use Rattle.sheet.proofs.Handed.{row-read}
+use Rattle.sheet.proofs.FilledLists.{filled-read}
+use Rattle.sheet.proofs.ListRows.{row-read}
 use Rattle.sheet.proofs.Cells.{cell-of-row, cell-past, no-row-past}
 
 -- A list whose every number is that of a sheet hands the sheet over.

@@ -22,7 +22,7 @@ use Rattle.bound.proofs.Meaning.{Reached, smallest-is-bound, passing-is-less}
 use Rattle.bound.proofs.Judging.{passes-local}
 use Rattle.page.specs.Decimals.{decimal}
 use Rattle.tables.specs.Tables.{row, sheetOf}
-use Rattle.dashboard.specs.Words.{told, head, line, ending}
+use Rattle.dashboard.specs.Words.{resultWords, lineStart, line, ending}
 use Rattle.dashboard.specs.Texts.{lines, board}
 use Rattle.dashboard.specs.Longest.{longestLine, longestText}
 
@@ -95,7 +95,7 @@ all-bounded (suc k) l =
 -- ---- so its text is the longest
 
 line-is : (i : ℕ) → i < mostRows → length (line i (longLabel i) (resultOf passes fullSheet i)) ≡ longestLine i
-unfolding line head told longestLine
+unfolding line lineStart resultWords longestLine
 line-is i l = rw (bounded-at-once i l (all-bounded i (omega arith))) (simp (length-append, length-replicate) (omega arith))
 
 lines-are : (n : ℕ) → n ≤ mostRows → length (lines longLabel (resultOf passes fullSheet) n) ≡ sum n longestLine

@@ -13,7 +13,7 @@ use Rattle.basis.specs.Upto.{upto}
 use Rattle.basis.proofs.Upto.{upto-set, upto-below, length-upto}
 use Rattle.basis.proofs.Words.{lt-or-le}
 use Rattle.sheet.specs.Lists.{numberAt, filled, clearedCell}
-use Rattle.sheet.proofs.Filling.{length-filled}
+use Rattle.sheet.proofs.FilledLists.{length-filled}
 
 -- `clear_from`
 module _ (from : ℕ) (l₀ : List ℕ) where

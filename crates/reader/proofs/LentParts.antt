@@ -14,7 +14,7 @@ use Rattle.basis.proofs.Words.{lt-or-le}
 use Rattle.reader.specs.Form.{sheet}
 use Rattle.reader.specs.Answers.{rowsRead, labelIn, part}
 use Rattle.reader.specs.declared.row.Part.{Part}
-use Rattle.reader.proofs.Naming.{label-of-row, no-label}
+use Rattle.reader.proofs.RowLabels.{label-of-row, no-label}
 
 -- a label lies within the bytes
 pub inside : (s : List ℕ) (i : ℕ) → labelIn s i .start + labelIn s i .long ≤ length s

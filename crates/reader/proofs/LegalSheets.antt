@@ -16,16 +16,16 @@ use Rattle.basis.proofs.Steps.{after-ok, ok-same}
 use Rattle.basis.proofs.Words.{lt-or-le}
 use Rattle.numbers.specs.Numbers.{upTo}
 use Rattle.numbers.proofs.Bounds.{bounded}
-use Rattle.reader.specs.Form.{Entry, Held, rowOf, label, entryBy, entry, entriesBy, entries, sheet}
+use Rattle.reader.specs.Form.{Entry, Held, entryRow, label, entryBy, entry, entriesBy, entries, sheet}
 use Rattle.sheet.specs.Legal.{noRow, rowAt, legal, ZeroPast, LegalRow, Legal}
 use Rattle.sheet.specs.Values.{noRows, padded, noSheet}
-use Rattle.reader.specs.Answers.{sheetOf, handed, reading}
+use Rattle.reader.specs.Answers.{sheetHeld, readingOf, reading}
 use Rattle.sheet.specs.declared.row.Row.{Row}
-use Rattle.reader.proofs.Found.{whole}
+use Rattle.reader.proofs.LabelPlaces.{whole}
 use Rattle.reader.proofs.Heads.{headed}
 use Rattle.sheet.proofs.Legality.{legal-says}
 
-entry-legal : (m : ℕ) (s : List ℕ) (at : ℕ) (x : Entry) (n : ℕ) → entry m s at ≡ ok x n → LegalRow m (rowOf x)
+entry-legal : (m : ℕ) (s : List ℕ) (at : ℕ) (x : Entry) (n : ℕ) → entry m s at ≡ ok x n → LegalRow m (entryRow x)
 unfolding entryBy
 entry-legal m s at x n e =
     after-ok (label s at) _ e λ l a e₁ e₂.
@@ -37,7 +37,7 @@ entry-legal m s at x n e =
     let Tb = bounded mostSeparation 7 8 s b T c e₅ in
     let Db = bounded T 7 8 s c D d e₇ in
     let Cb = bounded D 7 8 s d C f e₉ in
-    subst (λ (y : Entry). LegalRow m (rowOf y)) (ok-same e₀ .0)
+    subst (λ (y : Entry). LegalRow m (entryRow y)) (ok-same e₀ .0)
     (record {
       some-threads = tb .positive;
       most-threads = tb .not-over;
@@ -49,29 +49,29 @@ entry-legal m s at x n e =
       most-budget = Cb .not-over;
     })
 
-entries-legal : (m n i : ℕ) (s : List ℕ) (at : ℕ) (es : List Entry) (f : ℕ) → entries m n s at ≡ ok es f → i < n → LegalRow m (getD (map rowOf es) i noRow)
+entries-legal : (m n i : ℕ) (s : List ℕ) (at : ℕ) (es : List Entry) (f : ℕ) → entries m n s at ≡ ok es f → i < n → LegalRow m (getD (map entryRow es) i noRow)
 unfolding entriesBy
 entries-legal m zero i s at es f e h = absurd (not-suc-le-zero h)
 entries-legal m (suc n) i s at es f e h =
     after-ok (entry m s at) _ e λ x q e₁ e₂.
     after-ok (entries m n s q) _ e₂ λ gs l e₃ e₄.
-    subst (λ (y : List Entry). LegalRow m (getD (map rowOf y) i noRow)) (ok-same e₄ .0) (row x q gs e₁ (λ j k. entries-legal m n j s q gs l e₃ k) i h)
+    subst (λ (y : List Entry). LegalRow m (getD (map entryRow y) i noRow)) (ok-same e₄ .0) (row x q gs e₁ (λ j k. entries-legal m n j s q gs l e₃ k) i h)
   where
-    row : (x : Entry) (q : ℕ) (gs : List Entry) → entry m s at ≡ ok x q → ((j : ℕ) → j < n → LegalRow m (getD (map rowOf gs) j noRow))
-        → (j : ℕ) → j < suc n → LegalRow m (getD (map rowOf (x ∷ gs)) j noRow)
+    row : (x : Entry) (q : ℕ) (gs : List Entry) → entry m s at ≡ ok x q → ((j : ℕ) → j < n → LegalRow m (getD (map entryRow gs) j noRow))
+        → (j : ℕ) → j < suc n → LegalRow m (getD (map entryRow (x ∷ gs)) j noRow)
     row x q gs e₁ rest zero k = entry-legal m s at x q e₁
     row x q gs e₁ rest (suc j) k = rest j (le-of-suc-le-suc k)
 
 -- the rows of the sheet by value are those that were read, and zeros past them
 module _ (h : Held) where
-  pub row-read : (i : ℕ) → i < length (h .entries) → rowAt (sheetOf h) i ≡ getD (map rowOf (h .entries)) i noRow
-  row-read i l = List·getD-append (map rowOf (h .entries)) _ noRow i (omega (arith, length-map (h .entries) rowOf))
+  pub row-read : (i : ℕ) → i < length (h .entries) → rowAt (sheetHeld h) i ≡ getD (map entryRow (h .entries)) i noRow
+  row-read i l = List·getD-append (map entryRow (h .entries)) _ noRow i (omega (arith, length-map (h .entries) entryRow))
 
-  pub zero-past : ZeroPast (sheetOf h)
+  pub zero-past : ZeroPast (sheetHeld h)
   zero-past i l =
-      let rs : List Row = map rowOf (h .entries) in
+      let rs : List Row = map entryRow (h .entries) in
       let k : ℕ = i - length rs in
-      let e : i ≡ length rs + k = omega (arith, length-map (h .entries) rowOf) in
+      let e : i ≡ length rs + k = omega (arith, length-map (h .entries) entryRow) in
       ap (λ (j : ℕ). getD (padded rs) j noRow) e
       ∙ getD-append-add rs (noRows (mostRows - length rs)) k noRow
       ∙ ⊎-elim
@@ -80,7 +80,7 @@ module _ (h : Held) where
       (lt-or-le k (mostRows - length rs))
 
 -- where the sheet was read
-pub read-is-legal : (s : List ℕ) (h : Held) (n : ℕ) → sheet s 0 ≡ ok h n → Legal (sheetOf h)
+pub read-is-legal : (s : List ℕ) (h : Held) (n : ℕ) → sheet s 0 ≡ ok h n → Legal (sheetHeld h)
 read-is-legal s h n e =
     let w = whole s h n e in
     let t = headed s (w .top) (w .from) (w .before) in
@@ -92,7 +92,7 @@ read-is-legal s h n e =
       some-rows = omega (arith, nb .positive, w .many);
       most-rows = omega (arith, nb .not-over, w .many);
       rows = λ i l.
-          subst (λ (m : ℕ). LegalRow m (rowAt (sheetOf h) i)) (w .wide)
+          subst (λ (m : ℕ). LegalRow m (rowAt (sheetHeld h) i)) (w .wide)
           (subst (LegalRow (w .top .processors)) (sym (row-read h i l))
           (entries-legal (w .top .processors) (w .top .count) i s (w .from) (h .entries) (w .to) (w .all) (omega (arith, w .many))));
     }
@@ -101,14 +101,14 @@ read-is-legal s h n e =
 pub accepted-is-legal : (s : List ℕ) → reading s .0 ≡ accepted → (legal (reading s .1) ≡ true) × ZeroPast (reading s .1)
 accepted-is-legal s e = go (sheet s 0) refl e
   where
-    go : (x : Step Held) → sheet s 0 ≡ x → handed x .0 ≡ accepted → (legal (handed x .1) ≡ true) × ZeroPast (handed x .1)
-    go (ok h n) q f = (legal-says (sheetOf h) (read-is-legal s h n q), zero-past h)
+    go : (x : Step Held) → sheet s 0 ≡ x → readingOf x .0 ≡ accepted → (legal (readingOf x .1) ≡ true) × ZeroPast (readingOf x .1)
+    go (ok h n) q f = (legal-says (sheetHeld h) (read-is-legal s h n q), zero-past h)
     go (refuse k p) q f = let z : _≡_ {A = ℕ} 0 1 = cc in absurd (omega arith)
 
 -- beside a refusal stands no sheet
 pub refused-is-no-sheet : (s : List ℕ) (k p : ℕ) → reading s .0 ≡ refused k p → reading s .1 ≡ noSheet
 refused-is-no-sheet s k p e = go (sheet s 0) e
   where
-    go : (x : Step Held) → handed x .0 ≡ refused k p → handed x .1 ≡ noSheet
+    go : (x : Step Held) → readingOf x .0 ≡ refused k p → readingOf x .1 ≡ noSheet
     go (ok h n) f = let z : _≡_ {A = ℕ} 0 1 = cc in absurd (omega arith)
     go (refuse j q) f = refl

@@ -10,8 +10,8 @@ use borrow.Author.Tests.{le-leb, lt-leb}
 use mir.Syntax.{w64}
 use mir.Val.{Fits}
 use Rattle.basis.specs.Limits.{longestLabel}
-use Rattle.basis.specs.Readers.{ok, refuse, told}
-use Rattle.basis.proofs.Steps.{got, told-ok, told-no}
+use Rattle.basis.specs.Readers.{ok, refuse, mapStep}
+use Rattle.basis.proofs.Steps.{got, map-step-ok, map-step-no}
 use Rattle.numbers.specs.Numbers.{step, upTo}
 use Rattle.numbers.specs.declared.number.Number.{Number}
 use Rattle.numbers.specs.declared.number.Number.the-variants.{Is, Refused}
@@ -24,8 +24,8 @@ use Rattle.reader.specs.declared.row.Passed.the-variants as passed-varia
 use Rattle.reader.proofs.Plain.{plain-ok}
 
 module _ (s : List ℕ) (at : ℕ) (x : Number) (e : step x ≡ upTo longestLabel 6 6 s at) where
-  pub label-no-length : (k p : ℕ) → x ≡ Refused k p → refuse k p ≡ told length (label s at)
-  unfolding labelBy told
+  pub label-no-length : (k p : ℕ) → x ≡ Refused k p → refuse k p ≡ mapStep length (label s at)
+  unfolding labelBy mapStep
   label-no-length k p g = simp (got step e g)
 
   module _ (k st : ℕ) (g : x ≡ Is k st) where
@@ -37,20 +37,20 @@ module _ (s : List ℕ) (at : ℕ) (x : Number) (e : step x ≡ upTo longestLabe
     pub label-lies-at : record { start = st; long = k } ≡ partAfter (upTo longestLabel 6 6 s at)
     label-lies-at = ap partAfter (sym (got step e g))
 
-    pub label-too-long : length s < st + k → refuse 2 (length s) ≡ told length (label s at)
-    unfolding labelBy told
+    pub label-too-long : length s < st + k → refuse 2 (length s) ≡ mapStep length (label s at)
+    unfolding labelBy mapStep
     label-too-long l = simp (got step e g, lt-leb (st + k) (length s) l)
 
-    module _ (l : st + k ≤ length s) (y : Passed) (f : passedStep y ≡ told nothing (plain (st + k - st) s st)) where
-      bytes-of : passedStep y ≡ told nothing (plain k s st)
+    module _ (l : st + k ≤ length s) (y : Passed) (f : passedStep y ≡ mapStep nothing (plain (st + k - st) s st)) where
+      bytes-of : passedStep y ≡ mapStep nothing (plain k s st)
       bytes-of = simp add-sub-cancel-left at f
 
-      pub label-bad-byte : (j p : ℕ) → y ≡ passed-variants.Refused j p → refuse j p ≡ told length (label s at)
-      unfolding labelBy told
-      label-bad-byte j p h = simp (got step e g, le-leb (st + k) (length s) l, told-no nothing (plain k s st) (got passedStep bytes-of h))
+      pub label-bad-byte : (j p : ℕ) → y ≡ passed-variants.Refused j p → refuse j p ≡ mapStep length (label s at)
+      unfolding labelBy mapStep
+      label-bad-byte j p h = simp (got step e g, le-leb (st + k) (length s) l, map-step-no nothing (plain k s st) (got passedStep bytes-of h))
 
-      pub label-whole : (n : ℕ) → y ≡ passed-variants.To n → ok k n ≡ told length (label s at)
-      unfolding labelBy told
+      pub label-whole : (n : ℕ) → y ≡ passed-variants.To n → ok k n ≡ mapStep length (label s at)
+      unfolding labelBy mapStep
       label-whole n h =
-          let (bs, eb, _) = told-ok nothing (plain k s st) (got passedStep bytes-of h) in
+          let (bs, eb, _) = map-step-ok nothing (plain k s st) (got passedStep bytes-of h) in
           simp (got step e g, le-leb (st + k) (length s) l, eb, plain-ok k s st bs n eb .long)

@@ -16,16 +16,16 @@ use Rattle.sheet.specs.Legal.{noRow}
 use Rattle.sheet.specs.Values.{noSheet}
 use Rattle.sheet.specs.Lists.{numberAt, filled, sheetIn, sheetCell, sheetLong}
 use Rattle.sheet.specs.declared.row.Sheet.{Sheet}
-use Rattle.sheet.proofs.Back.{whole-sheet-comes-back}
+use Rattle.sheet.proofs.RoundTrip.{whole-sheet-comes-back}
 use Rattle.sheet.proofs.Cells.{cell-past, no-sheet-cell}
-use Rattle.sheet.proofs.Filling.{zeros, zeros-long, filled-read, zeros-filled}
-use Rattle.reader.specs.Form.{Held, rowOf, sheet}
-use Rattle.reader.specs.Answers.{sheetOf, handed, reading, nowhere, rowsRead, labelIn, noParts, labelsIn}
+use Rattle.sheet.proofs.FilledLists.{zeros, zeros-long, filled-read, zeros-filled}
+use Rattle.reader.specs.Form.{Held, entryRow, sheet}
+use Rattle.reader.specs.Answers.{sheetHeld, readingOf, reading, nowhere, rowsRead, labelIn, noParts, labelsIn}
 use Rattle.reader.specs.Lists.{labelsLong, labelCell, intoLists, readInto}
 use Rattle.reader.specs.Steps.{partIn}
 use Rattle.reader.specs.declared.row.Part.{Part}
-use Rattle.reader.proofs.Accepted.{zero-past, read-is-legal}
-use Rattle.reader.proofs.Naming.{no-label}
+use Rattle.reader.proofs.LegalSheets.{zero-past, read-is-legal}
+use Rattle.reader.proofs.RowLabels.{no-label}
 
 -- past the rows that were read there is no label
 label-cell-past : (s : List ℕ) (n : ℕ) → rowsRead (sheet s 0) ≤ n → (i : ℕ) → labelsLong n ≤ i → labelCell s i ≡ 0
@@ -46,7 +46,7 @@ module _ (a b : ℕ) (ra : sheetLong mostRows ≤ a) (rb : labelsLong mostRows �
   unfolding readInto intoLists upto
   own-lists = go (sheet s 0) refl
     where
-      go : (x : Step Held) → sheet s 0 ≡ x → intoLists (handed x) s (zeros a) (zeros b) ≡ lists (handed x .0) (filled (sheetCell (handed x .1)) (zeros a)) (filled (labelCell s) (zeros b))
+      go : (x : Step Held) → sheet s 0 ≡ x → intoLists (readingOf x) s (zeros a) (zeros b) ≡ lists (readingOf x .0) (filled (sheetCell (readingOf x .1)) (zeros a)) (filled (labelCell s) (zeros b))
       go (refuse k p) e =
           ap₂ (lists (refused k p)) (zeros-filled (sheetCell noSheet) a 0 (λ i h. no-sheet-cell i) (omega arith))
           (zeros-filled (labelCell s) b 0 (λ i h. label-cell-past s 0 (rw e (omega arith)) i (omega arith)) (omega arith))
@@ -54,25 +54,25 @@ module _ (a b : ℕ) (ra : sheetLong mostRows ≤ a) (rb : labelsLong mostRows �
           let few = read-is-legal s h n e .most-rows in
           simp (le-leb (sheetLong (length (h .entries))) (length (zeros a)) (omega (arith, zeros-long a)), le-leb (labelsLong (length (h .entries))) (length (zeros b)) (omega (arith, zeros-long b)))
           (ap₂ (lists accepted)
-          (zeros-filled (sheetCell (sheetOf h)) a (sheetLong (length (h .entries))) (cell-past (sheetOf h) (length (h .entries)) (zero-past h)) (omega arith))
+          (zeros-filled (sheetCell (sheetHeld h)) a (sheetLong (length (h .entries))) (cell-past (sheetHeld h) (length (h .entries)) (zero-past h)) (omega arith))
           (zeros-filled (labelCell s) b (labelsLong (length (h .entries))) (label-cell-past s (length (h .entries)) (rw e (omega arith))) (omega arith)))
 
 -- the rows of what the reader hands over
 pub rows-long : (s : List ℕ) → length (reading s .1 .rows) ≡ mostRows
 rows-long s = go (sheet s 0) refl
   where
-    go : (x : Step Held) → sheet s 0 ≡ x → length (handed x .1 .rows) ≡ mostRows
+    go : (x : Step Held) → sheet s 0 ≡ x → length (readingOf x .1 .rows) ≡ mostRows
     go (refuse k p) e = length-replicate mostRows noRow
     go (ok h n) e =
         let few = read-is-legal s h n e .most-rows in
-        length-append (map rowOf (h .entries)) _ ∙ ap₂ _+_ (length-map (h .entries) rowOf) (length-replicate (mostRows - length (map rowOf (h .entries))) noRow)
-        ∙ omega (arith, length-map (h .entries) rowOf)
+        length-append (map entryRow (h .entries)) _ ∙ ap₂ _+_ (length-map (h .entries) entryRow) (length-replicate (mostRows - length (map entryRow (h .entries))) noRow)
+        ∙ omega (arith, length-map (h .entries) entryRow)
 
 -- and how many they are
 pub rows-few : (s : List ℕ) → reading s .1 .count ≤ mostRows
 rows-few s = go (sheet s 0) refl
   where
-    go : (x : Step Held) → sheet s 0 ≡ x → handed x .1 .count ≤ mostRows
+    go : (x : Step Held) → sheet s 0 ≡ x → readingOf x .1 .count ≤ mostRows
     go (refuse k p) e = omega arith
     go (ok h n) e = read-is-legal s h n e .most-rows
 

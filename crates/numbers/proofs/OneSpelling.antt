@@ -16,7 +16,7 @@ use Rattle.basis.specs.Limits.{mostGroups}
 use Rattle.numbers.specs.Numbers.{groups, spelt, number, spell}
 use Rattle.basis.proofs.Steps.{never-ok}
 use Rattle.basis.proofs.Words.{lt-or-le}
-use Rattle.numbers.proofs.Laws.{one-less, ends, over, low, last, more}
+use Rattle.numbers.proofs.Groups.{one-less, ends, over, low, last, more}
 
 pub spelt-one : (g v : ℕ) → v < 128 → spelt (suc g) v ≡ v ∷ []
 unfolding spelt

@@ -7,7 +7,8 @@ use denote.Ref.{RefT}
 use Rattle.basis.specs.Refusals.{Outcome, outcome}
 use Rattle.basis.specs.declared.refusal.Refusal.{Refusal}
 use Rattle.basis.proofs.Refusals.{outcome-one-to-one}
-use Rattle.reader.specs.Answers.{answer, reading, shown, part, labelIn, labelsIn}
+use Rattle.basis.proofs.Same.{same, same-by, pair-same, outcome-same}
+use Rattle.reader.specs.Answers.{outcomeAndSheet, reading, shown, part, labelIn, labelsIn}
 use Rattle.reader.specs.Lists.{readInto}
 use Rattle.reader.specs.declared.row.Part.{Part}
 use Rattle.reader.specs.declared.labels.Parts.{Parts}
@@ -15,25 +16,23 @@ use Rattle.sheet.specs.declared.row.Sheet.{Sheet}
 use Rattle.reader.specs.declared.whole.Reading.{Reading}
 
 -- an answer stands for one value of the code
-pub answer-one-to-one : (a b : Reading) → answer a ≡ answer b → a ≡ b
-answer-one-to-one a b e =
+pub reading-one-to-one : (a b : Reading) → outcomeAndSheet a ≡ outcomeAndSheet b → a ≡ b
+reading-one-to-one a b e =
     ap₂ (λ (r : Refusal) (h : Sheet). record { refusal = r; sheet = h })
     (outcome-one-to-one (a .refusal) (b .refusal) (ap (λ (x : Outcome × Sheet). x .0) e))
     (ap (λ (x : Outcome × Sheet). x .1) e)
 
 -- `read`
-pub read-same : (s : List ℕ) (a b : Reading) → answer a ≡ reading s → answer b ≡ reading s → a ≡ b
-read-same s a b e f = answer-one-to-one a b (e ∙ sym f)
+pub read-same : (s : List ℕ) (a b : Reading) → outcomeAndSheet a ≡ reading s → outcomeAndSheet b ≡ reading s → a ≡ b
+read-same s = same-by outcomeAndSheet reading-one-to-one (reading s)
 
 -- `label`: the same place in memory, and the same bytes
 pub label-same : (s : RefT (List ℕ)) (i : ℕ) (a b : RefT (List ℕ)) → shown a ≡ part s (labelIn (s .now) i) → shown b ≡ part s (labelIn (s .now) i) → (a .ptr ≡ b .ptr) × (a .now ≡ b .now)
-label-same s i a b e f =
-    let g = e ∙ sym f in
-    (ap (λ (x : (ℕ × ℕ) × List ℕ). x .0) g, ap (λ (x : (ℕ × ℕ) × List ℕ). x .1) g)
+label-same s i a b = pair-same (part s (labelIn (s .now) i)) (a .ptr) (b .ptr) (a .now) (b .now)
 
 -- of the part that is a label
 pub label-part-same : (s : List ℕ) (i : ℕ) (a b : Part) → a ≡ labelIn s i → b ≡ labelIn s i → a ≡ b
-label-part-same s i a b e f = e ∙ sym f
+label-part-same s i = same (labelIn s i)
 
 -- `label_parts`
 pub label-parts-same : (s : List ℕ) (a b : Parts) → a .parts ≡ labelsIn s → b .parts ≡ labelsIn s → a ≡ b
@@ -43,5 +42,5 @@ label-parts-same s a b e f = ap (λ (l : List Part). record { parts = l }) (e �
 pub read-into-same : (s list labels : List ℕ) (a b : Refusal) (l b₁ l′ b₂ : List ℕ) → _≡_ {A = Outcome × (List ℕ × List ℕ)} (outcome a, (l, b₁)) (readInto s list labels) → _≡_ {A = Outcome × (List ℕ × List ℕ)} (outcome b, (l′, b₂)) (readInto s list labels)
     → (a ≡ b) × (l ≡ l′) × (b₁ ≡ b₂)
 read-into-same s list labels a b l b₁ l′ b₂ e f =
-    let g = e ∙ sym f in
-    (outcome-one-to-one a b (ap (λ (x : Outcome × (List ℕ × List ℕ)). x .0) g), ap (λ (x : Outcome × (List ℕ × List ℕ)). x .1 .0) g, ap (λ (x : Outcome × (List ℕ × List ℕ)). x .1 .1) g)
+    let (o, g) = outcome-same (readInto s list labels) a b (l, b₁) (l′, b₂) e f in
+    (o, ap (λ (x : List ℕ × List ℕ). x .0) g, ap (λ (x : List ℕ × List ℕ). x .1) g)

@@ -9,14 +9,14 @@ use Rattle.basis.specs.Refusals.{accepted, refused}
 use Rattle.sheet.specs.Legal.{rowAt}
 use Rattle.reader.specs.Answers.{reading}
 use Rattle.sheet.specs.declared.row.Sheet.{Sheet}
-use Rattle.reader.proofs.Accepted.{accepted-is-legal}
+use Rattle.reader.proofs.LegalSheets.{accepted-is-legal}
 use Rattle.sheet.proofs.Legality.{legal-is}
 use Rattle.reader.proofs.Reach.{refusal-is-listed}
 use Rattle.bound.specs.Test.{passes}
 use Rattle.bound.specs.Bound.{Word, resultOf, holds, Answer, judged, boundsOf}
 use Rattle.bound.proofs.Answers.{legal-is-judged}
 use Rattle.page.specs.Decimals.{digits, decimal}
-use Rattle.dashboard.specs.Words.{space, newline, head, line, ending, noVerdictWord, refusedBy, noVerdict}
+use Rattle.dashboard.specs.Words.{space, newline, lineStart, line, ending, noVerdictWord, refusedBy, noVerdict}
 use Rattle.dashboard.specs.Labels.{ownLabel}
 use Rattle.dashboard.specs.Texts.{lines, board, verdictText}
 use Rattle.dashboard.specs.Meaning.{Reported, NoVerdict}
@@ -24,7 +24,7 @@ use Rattle.dashboard.proofs.Outcomes.{accepted-prints-its-rows, refused
 
 -- the text of a sheet with a row begins with the digit of row 0
 lines-begin : (label : ℕ → List ℕ) (result : ℕ → Word) (n : ℕ) → (rest : List ℕ) × (lines label result (suc n) ≡ 0x30 ∷ rest)
-unfolding lines line head decimal digits
+unfolding lines line lineStart decimal digits
 lines-begin label result zero = (_, refl)
 lines-begin label result (suc n) =
     let (rest, e) = lines-begin label result n in

@@ -9,18 +9,18 @@ use lib.ListN.{length, take}
 use borrow.Author.Tests.{le-leb}
 use Rattle.basis.specs.Upto.{upto}
 use Rattle.basis.specs.Refusals.{Outcome, accepted, refused, orElse, roomFor, handed}
-use Rattle.basis.proofs.First.{both-accepted}
+use Rattle.basis.proofs.FirstRefusal.{both-accepted}
 use Rattle.basis.proofs.Refusals.{room-holds, handed-found, handed-done, handed-outcome, or-nothing}
 use Rattle.basis.proofs.Upto.{upto-below, length-upto}
 use Rattle.sheet.specs.Legal.{legal}
 use Rattle.sheet.specs.Lists.{numberAt, listCell, sheetIn, sheetCell, sheetLong}
-use Rattle.sheet.proofs.Back.{sheet-in-front}
+use Rattle.sheet.proofs.RoundTrip.{sheet-in-front}
 use Rattle.reader.specs.Answers.{reading, labelIn}
 use Rattle.reader.specs.Lists.{labelsLong, labelCell, intoLists, readInto}
-use Rattle.reader.proofs.Accepted.{accepted-is-legal}
+use Rattle.reader.proofs.LegalSheets.{accepted-is-legal}
 use Rattle.reader.specs.Steps.{partIn}
-use Rattle.reader.proofs.Lying.{part-there}
-use Rattle.reader.proofs.Owned.{Lists, lists, rows-long}
+use Rattle.reader.proofs.PartLists.{part-there}
+use Rattle.reader.proofs.ZeroLists.{Lists, lists, rows-long}
 
 -- where there is room the outcome is the reader's
 pub outcome-is-the-readers : (s list labels : List ℕ) → sheetLong (reading s .1 .count) ≤ length list → labelsLong (reading s .1 .count) ≤ length labels → readInto s list labels .0 ≡ reading s .0

@@ -8,15 +8,15 @@ use native.Mathlib.Nat.{le-antisymm}
 use lib.ListN.{length, set, length-set}
 use Rattle.basis.specs.Limits.{longestLabel, mostRows}
 use Rattle.basis.specs.Upto.{upto}
-use Rattle.basis.specs.Readers.{Step, ok, refuse, told}
+use Rattle.basis.specs.Readers.{Step, ok, refuse, mapStep}
 use Rattle.basis.proofs.Pairs.{pair-stored}
-use Rattle.basis.proofs.Steps.{got, ok-same, after-ok, told-ok, told-no, told-after}
+use Rattle.basis.proofs.Steps.{got, ok-same, after-ok, map-step-ok, map-step-no, map-step-after}
 use Rattle.basis.proofs.Upto.{length-upto, upto-over}
 use Rattle.numbers.specs.Numbers.{upTo}
 use Rattle.sheet.specs.Lists.{listCell, sheetLong}
 use Rattle.sheet.specs.declared.row.Row.{Row}
 use Rattle.sheet.proofs.Stores.{head-stored, row-stored}
-use Rattle.reader.specs.Form.{Entry, rowOf, entry, entriesBy, entries}
+use Rattle.reader.specs.Form.{Entry, entryRow, entry, entriesBy, entries}
 use Rattle.reader.specs.Answers.{partAfter}
 use Rattle.reader.specs.Lists.{labelsLong}
 use Rattle.reader.specs.Steps.{entryStep, EntryAt, nothing, rowFrom, rowGot, rowAfter, labelFrom, labelAfter, putRow, putPart, rowsIn, partsIn}
@@ -25,22 +25,22 @@ use Rattle.reader.specs.declared.row.EntryRead.{EntryRead}
 use Rattle.reader.specs.declared.row.EntryRead.the-variants as entry-variants
 
 -- what follows the first i rows is read as if it began there
-split : (m i k : ℕ) (s : List ℕ) (at : ℕ) (es : List Entry) (next : ℕ) → entries m i s at ≡ ok es next → told nothing (entries m (i + k) s at) ≡ told nothing (entries m k s next)
+split : (m i k : ℕ) (s : List ℕ) (at : ℕ) (es : List Entry) (next : ℕ) → entries m i s at ≡ ok es next → mapStep nothing (entries m (i + k) s at) ≡ mapStep nothing (entries m k s next)
 unfolding entriesBy
 split m zero k s at es next e =
     let z : 0 + k ≡ k = omega arith in
-    ap (λ (j : ℕ). told nothing (entries m j s at)) z ∙ ap (λ (j : ℕ). told nothing (entries m k s j)) (ok-same e .1)
+    ap (λ (j : ℕ). mapStep nothing (entries m j s at)) z ∙ ap (λ (j : ℕ). mapStep nothing (entries m k s j)) (ok-same e .1)
 split m (suc i) k s at es next e =
     after-ok (entry m s at) _ e λ x q e₁ e₂.
     after-ok (entries m i s q) _ e₂ λ gs l e₃ e₄.
     let z : suc i + k ≡ suc (i + k) = omega arith in
-    ap (λ (j : ℕ). told nothing (entries m j s at)) z
-    ∙ simp e₁ (told-after nothing (λ (zs : List Entry). x ∷ zs) (entries m (i + k) s q))
-    ∙ split m i k s q gs l e₃ ∙ ap (λ (j : ℕ). told nothing (entries m k s j)) (ok-same e₄ .1)
+    ap (λ (j : ℕ). mapStep nothing (entries m j s at)) z
+    ∙ simp e₁ (map-step-after nothing (λ (zs : List Entry). x ∷ zs) (entries m (i + k) s q))
+    ∙ split m i k s q gs l e₃ ∙ ap (λ (j : ℕ). mapStep nothing (entries m k s j)) (ok-same e₄ .1)
 
 -- before the first row
-pub none-passed : (m : ℕ) (s : List ℕ) (at : ℕ) → told nothing (entries m 0 s at) ≡ ok tt at
-unfolding entriesBy told
+pub none-passed : (m : ℕ) (s : List ℕ) (at : ℕ) → mapStep nothing (entries m 0 s at) ≡ ok tt at
+unfolding entriesBy mapStep
 none-passed m s at = refl
 
 -- a list after its first two numbers were stored
@@ -63,42 +63,42 @@ unfolding partsIn upto
 no-part-put m s at b = refl
 
 -- the loop over n rows, which has passed i of them
-module _ (m n : ℕ) (s : List ℕ) (at i next : ℕ) (so-far : told nothing (entries m i s at) ≡ ok tt next) where
-  left : (k j : ℕ) → i + k ≡ j → told nothing (entries m j s at) ≡ told nothing (entries m k s next)
-  left k j e = let (es, q, _) = told-ok nothing (entries m i s at) so-far in ap (λ (z : ℕ). told nothing (entries m z s at)) (sym e) ∙ split m i k s at es next q
+module _ (m n : ℕ) (s : List ℕ) (at i next : ℕ) (so-far : mapStep nothing (entries m i s at) ≡ ok tt next) where
+  left : (k j : ℕ) → i + k ≡ j → mapStep nothing (entries m j s at) ≡ mapStep nothing (entries m k s next)
+  left k j e = let (es, q, _) = map-step-ok nothing (entries m i s at) so-far in ap (λ (z : ℕ). mapStep nothing (entries m z s at)) (sym e) ∙ split m i k s at es next q
 
-  module _ (x : EntryRead) (q : entryStep x ≡ told rowOf (entry m s next)) where
+  module _ (x : EntryRead) (q : entryStep x ≡ mapStep entryRow (entry m s next)) where
     -- a row is refused
-    pub row-refused : i < n → (k p : ℕ) → x ≡ entry-variants.Refused k p → refuse k p ≡ told nothing (entries m n s at)
-    unfolding entriesBy told
-    row-refused h k p g = sym (left (suc (n - (i + 1))) n (omega arith) ∙ simp (told-no rowOf (entry m s next) (got entryStep q g)))
+    pub row-refused : i < n → (k p : ℕ) → x ≡ entry-variants.Refused k p → refuse k p ≡ mapStep nothing (entries m n s at)
+    unfolding entriesBy mapStep
+    row-refused h k p g = sym (left (suc (n - (i + 1))) n (omega arith) ∙ simp (map-step-no entryRow (entry m s next) (got entryStep q g)))
 
     module _ (r : Row) (p : Part) (e : ℕ) (g : x ≡ entry-variants.Is r p e) where
       -- a row more is passed
-      pub one-passed : told nothing (entries m (i + 1) s at) ≡ ok tt e
-      unfolding entriesBy told
-      one-passed = left 1 (i + 1) refl ∙ simp (told-ok rowOf (entry m s next) (got entryStep q g) .1)
+      pub one-passed : mapStep nothing (entries m (i + 1) s at) ≡ ok tt e
+      unfolding entriesBy mapStep
+      one-passed = left 1 (i + 1) refl ∙ simp (map-step-ok entryRow (entry m s next) (got entryStep q g) .1)
 
       -- and stands in the list
       pub row-put : (l l₀ : List ℕ) → l ≡ rowsIn m n s at i l₀ → (l′ : List ℕ) → l′ ≡ putRow l i r → l′ ≡ rowsIn m n s at (i + 1) l₀
       unfolding rowsIn putRow rowAfter rowFrom
       row-put l l₀ el l′ e′ =
-          let (es, q₀, _) = told-ok nothing (entries m i s at) so-far in
-          let (en, q₁, er) = told-ok rowOf (entry m s next) (got entryStep q g) in
+          let (es, q₀, _) = map-step-ok nothing (entries m i s at) so-far in
+          let (en, q₁, er) = map-step-ok entryRow (entry m s next) (got entryStep q g) in
           e′ ∙ row-stored m n (rowAfter m s at) i l l₀ el r (sym (simp (q₀, q₁) er))
 
       -- and where its label lies
       pub part-put : EntryAt s next x → (b b₀ : List ℕ) → b ≡ partsIn m s at i b₀ → (b′ : List ℕ) → b′ ≡ putPart b i p → b′ ≡ partsIn m s at (i + 1) b₀
       unfolding partsIn putPart labelAfter labelFrom
       part-put lies b b₀ eb b′ e′ =
-          let (es, q₀, _) = told-ok nothing (entries m i s at) so-far in
+          let (es, q₀, _) = map-step-ok nothing (entries m i s at) so-far in
           let this : p ≡ labelAfter m s at i = subst (EntryAt s next) g lies ∙ sym (simp q₀) in
           e′ ∙ pair-stored (λ k. labelAfter m s at k .start) (λ k. labelAfter m s at k .long) i b b₀ eb (p .start) (p .long) (ap (λ (z : Part). z .start) this) (ap (λ (z : Part). z .long) this)
 
   -- the last row is passed
   module _ (h : i ≤ n) (g : n ≤ i) where
-    pub all-passed : ok tt next ≡ told nothing (entries m n s at)
-    all-passed = sym (ap (λ (j : ℕ). told nothing (entries m j s at)) (le-antisymm g h) ∙ so-far)
+    pub all-passed : ok tt next ≡ mapStep nothing (entries m n s at)
+    all-passed = sym (ap (λ (j : ℕ). mapStep nothing (entries m j s at)) (le-antisymm g h) ∙ so-far)
 
     pub rows-put : (l l₀ : List ℕ) → sheetLong n ≤ length l₀ → l ≡ rowsIn m n s at i (begunList m n l₀) → l ≡ rowsIn m n s at n l₀
     rows-put l l₀ r e = e ∙ ap (λ (j : ℕ). rowsIn m n s at j (begunList m n l₀)) (le-antisymm h g) ∙ rows-over m n s at n l₀ r

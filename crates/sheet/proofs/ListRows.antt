@@ -42,7 +42,5 @@ pub row-in-sheet : (l : List ℕ) (k : ℕ) → k < mostRows → rowAt (sheetIn 
 unfolding sheetIn
 row-in-sheet l k h = upto-below mostRows (rowIn l) (noRows mostRows) noRow k h (le-refl mostRows)
 
--- row k of the sheet that a list hands over
 pub row-handed : (l : List ℕ) (k : ℕ) → k < mostRows → rowIn l k ≡ rowAt (sheetIn l) k
-unfolding sheetIn
-row-handed l k b = sym (upto-below mostRows (rowIn l) (noRows mostRows) noRow k b (le-refl mostRows))
+row-handed l k b = sym (row-in-sheet l k b)

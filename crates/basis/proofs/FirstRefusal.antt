@@ -1,16 +1,12 @@
 -- Laws of the first refusal: what a loop that leaves at the first one shows.
 -- Assumes nothing.
-use Prim.Native.Nat.{ℕ, zero, suc, _+_, _≤_, _<_}
-use mathlib.Core.Path.{_≡_, refl, sym, ap, ap₂, _∙_}
+use Prim.Native.Nat.{ℕ, zero, suc, _+_, _<_}
+use mathlib.Core.Path.{_≡_, refl, ap₂}
 use mathlib.Core.Logic.{⊎-elim}
 use native.Mathlib.Nat.{eq-or-lt-of-le}
 use native.Mathlib.Numerals.{add-one}
 use native.Mathlib.Omega.{arith}
 use Rattle.basis.specs.Refusals.{Outcome, accepted, refused, orElse, firstOf}
-
-pub first-none : (f : ℕ → Outcome) → firstOf 0 f ≡ accepted
-unfolding firstOf
-first-none f = refl
 
 pub first-more : (i : ℕ) (f : ℕ → Outcome) → firstOf i f ≡ accepted → f i ≡ accepted → firstOf (i + 1) f ≡ accepted
 unfolding firstOf

@@ -18,10 +18,10 @@ use Rattle.basis.specs.Readers.{Step, ok, refuse, byte}
 use Rattle.basis.proofs.Steps.{after-ok, ok-same, passed, byte-ok}
 use Rattle.basis.proofs.Words.{lt-or-le}
 use Rattle.numbers.proofs.Bounds.{bounded}
-use Rattle.reader.specs.Form.{Held, isPlain, plain, sheet, labelHead}
-use Rattle.reader.specs.Answers.{handed, reading, nowhere, rowsRead, partAfter, labelIn}
+use Rattle.reader.specs.Form.{Held, entryLabel, isPlain, plain, sheet, labelHead}
+use Rattle.reader.specs.Answers.{readingOf, reading, nowhere, rowsRead, partAfter, labelIn}
 use Rattle.reader.specs.declared.row.Part.{Part}
-use Rattle.reader.proofs.Found.{labelOf, found}
+use Rattle.reader.proofs.LabelPlaces.{found}
 
 -- each byte that was read as a label's is one that it may have
 plain-bytes : (k : ℕ) (s : List ℕ) (at : ℕ) (bs : List ℕ) (n : ℕ) → plain k s at ≡ ok bs n → (j : ℕ) → j < k → isPlain (getD s (at + j) 0) ≡ true
@@ -48,7 +48,7 @@ pub record Labels (s : List ℕ) (i : ℕ) (p : Part) : Type 0 where
   pub short : p .long ≤ longestLabel
   pub inside : p .start + p .long ≤ length s
   pub plainly : (j : ℕ) → j < p .long → isPlain (getD s (p .start + j) 0) ≡ true
-  pub is-read : (h : Held) (n : ℕ) → sheet s 0 ≡ ok h n → take (p .long) (drop (p .start) s) ≡ getD (map labelOf (h .entries)) i []
+  pub is-read : (h : Held) (n : ℕ) → sheet s 0 ≡ ok h n → take (p .long) (drop (p .start) s) ≡ getD (map entryLabel (h .entries)) i []
 
 -- a row that was read has its label
 pub label-of-row : (s : List ℕ) (i : ℕ) → i < rowsRead (sheet s 0) → Labels s i (labelIn s i)
@@ -65,7 +65,7 @@ label-of-row s i l = go (sheet s 0) refl l
           short = b .not-over;
           inside = f .lies .inside;
           plainly = plain-bytes (length (f .label)) s (f .lies .start) (f .label) _ (f .lies .read);
-          is-read = λ k m q. sym (f .lies .bytes) ∙ sym (f .is) ∙ ap (λ (x : Held). getD (map labelOf (x .entries)) i []) (ok-same (sym e ∙ q) .0);
+          is-read = λ k m q. sym (f .lies .bytes) ∙ sym (f .is) ∙ ap (λ (x : Held). getD (map entryLabel (x .entries)) i []) (ok-same (sym e ∙ q) .0);
         })
     go (refuse k p) e g = absurd (not-suc-le-zero g)
 
@@ -84,7 +84,7 @@ label-empty s i = (
 pub no-such-row : (s : List ℕ) (i : ℕ) → (rowsRead (sheet s 0) ≤ i) ↔ (((k : ℕ) × (p : ℕ) × (reading s .0 ≡ refused k p)) ⊎ ((reading s .0 ≡ accepted) × (reading s .1 .count ≤ i)))
 no-such-row s i = go (sheet s 0) refl
   where
-    go : (x : Step Held) → sheet s 0 ≡ x → (rowsRead x ≤ i) ↔ (((k : ℕ) × (p : ℕ) × (handed x .0 ≡ refused k p)) ⊎ ((handed x .0 ≡ accepted) × (handed x .1 .count ≤ i)))
+    go : (x : Step Held) → sheet s 0 ≡ x → (rowsRead x ≤ i) ↔ (((k : ℕ) × (p : ℕ) × (readingOf x .0 ≡ refused k p)) ⊎ ((readingOf x .0 ≡ accepted) × (readingOf x .1 .count ≤ i)))
     go (ok h n) e = (λ l. inr (refl, l), ⊎-elim (λ r. absurd (differ (r .2))) (λ r. r .1))
       where
         differ : {k p : ℕ} → accepted ≡ refused k p → ⊥

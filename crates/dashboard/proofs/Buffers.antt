@@ -9,7 +9,7 @@ use lib.Seq.{length-take-le, take-at}
 use Rattle.dashboard.specs.Texts.{verdictText, referenceText}
 use Rattle.page.specs.Pages.{Page, written}
 use Rattle.dashboard.specs.Longest.{textSize, textBuffer}
-use Rattle.dashboard.proofs.Fits.{verdict-is-whole, reference-is-whole}
+use Rattle.dashboard.proofs.TextLengths.{verdict-is-whole, reference-is-whole}
 
 module _ (text buffer after : List ℕ) (n : ℕ) (e : (after, n) ≡ written text buffer) where
   pub written-in-room : n ≤ length after

@@ -7,17 +7,13 @@ use native.Mathlib.Omega.{arith}
 use native.Mathlib.Nat.{not-suc-le-zero, le-of-suc-le-suc}
 use lib.ListN.{length, getD, take, drop, List·getD-map}
 use Rattle.basis.specs.Limits.{longestLabel, mostSeparation}
-use Rattle.basis.specs.Readers.{Step, ok, refuse, enough, end}
+use Rattle.basis.specs.Readers.{ok, enough, end}
 use Rattle.basis.proofs.Steps.{after-ok, ok-same, enough-ok, end-ok, end-stays}
 use Rattle.numbers.specs.Numbers.{upTo}
 use Rattle.sheet.specs.Legal.{noRow}
-use Rattle.reader.specs.Form.{Entry, Held, rowOf, plain, labelBy, label, entryBy, entry, entriesBy, entries, bodyBy, Head, head, sheetBy, sheet, labelHead}
+use Rattle.reader.specs.Form.{Entry, Held, entryRow, entryLabel, plain, labelBy, label, entryBy, entry, entriesBy, entries, bodyBy, Head, head, sheetBy, sheet, labelHead}
 use Rattle.reader.specs.Steps.{rowFrom, rowAfter}
 use Rattle.reader.proofs.Plain.{plain-ok}
-
--- the label of an entry
-abbrev pub labelOf : Entry → List ℕ
-labelOf e = e .label
 
 -- a label's length was read first, and its bytes are a part of the sheet's
 pub record Lies (s : List ℕ) (at : ℕ) (bs : List ℕ) : Type 0 where
@@ -42,7 +38,7 @@ label-lies s at bs n e =
       bytes = r .bytes ∙ ap₂ (λ (i : ℕ) (j : ℕ). take i (drop j s)) (sym (r .long)) (sym em);
     }
 
-entry-label : (m : ℕ) (s : List ℕ) (at : ℕ) (x : Entry) (n : ℕ) → entry m s at ≡ ok x n → (a : ℕ) × (label s at ≡ ok (labelOf x) a)
+entry-label : (m : ℕ) (s : List ℕ) (at : ℕ) (x : Entry) (n : ℕ) → entry m s at ≡ ok x n → (a : ℕ) × (label s at ≡ ok (entryLabel x) a)
 unfolding entryBy
 entry-label m s at x n e =
     after-ok (label s at) _ e λ l a e₁ e₂.
@@ -51,7 +47,7 @@ entry-label m s at x n e =
     after-ok (upTo T 7 8 s c) _ e₆ λ D d e₇ e₈.
     after-ok (upTo D 7 8 s d) _ e₈ λ C f e₉ e₀.
     let (same, _) = ok-same e₀ in
-    (a, e₁ ∙ ap (λ (y : Entry). ok (labelOf y) a) same)
+    (a, e₁ ∙ ap (λ (y : Entry). ok (entryLabel y) a) same)
 
 -- an entry that is not there
 abbrev noEntry : Entry
@@ -127,7 +123,7 @@ whole-length s h n e =
 pub record Found (s : List ℕ) (i : ℕ) (h : Held) : Type 0 where
   pub at : ℕ
   pub label : List ℕ
-  pub is : getD (map labelOf (h .entries)) i [] ≡ label
+  pub is : getD (map entryLabel (h .entries)) i [] ≡ label
   pub lies : Lies s at label
   pub head : labelHead i s 0 ≡ ok (length label) (lies .start)
 
@@ -137,12 +133,12 @@ found s i h n e l =
     let w = whole s h n e in
     let (fs, p, x, q, f₁, f₂, f₃) = entries-at (w .top .processors) (w .top .count) i s (w .from) (h .entries) (w .to) (w .all) (omega (arith, w .many)) in
     let (c, lab) = entry-label (w .top .processors) s p x q f₂ in
-    let r = label-lies s p (labelOf x) c lab in
-    record { at = p; label = labelOf x; is = List·getD-map labelOf (h .entries) i noEntry ∙ ap labelOf f₃; lies = r; head = simp (w .before, f₁) (r .head) }
+    let r = label-lies s p (entryLabel x) c lab in
+    record { at = p; label = entryLabel x; is = List·getD-map entryLabel (h .entries) i noEntry ∙ ap entryLabel f₃; lies = r; head = simp (w .before, f₁) (r .head) }
 
 -- row i of n rows from a place on is the one that was read
-pub row-was-read : (m n i : ℕ) (s : List ℕ) (at : ℕ) (es : List Entry) (f : ℕ) → entries m n s at ≡ ok es f → i < n → rowAfter m s at i ≡ getD (map rowOf es) i noRow
+pub row-was-read : (m n i : ℕ) (s : List ℕ) (at : ℕ) (es : List Entry) (f : ℕ) → entries m n s at ≡ ok es f → i < n → rowAfter m s at i ≡ getD (map entryRow es) i noRow
 unfolding rowAfter rowFrom
 row-was-read m n i s at es f e l =
     let (fs, p, x, q, f₁, f₂, f₃) = entries-at m n i s at es f e l in
-    simp (f₁, f₂) (sym (List·getD-map rowOf es i noEntry ∙ ap rowOf f₃))
+    simp (f₁, f₂) (sym (List·getD-map entryRow es i noEntry ∙ ap entryRow f₃))

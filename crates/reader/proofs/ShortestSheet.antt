@@ -12,8 +12,8 @@ use Rattle.basis.proofs.Steps.{after-ok, ok-same, enough-ok}
 use Rattle.numbers.specs.Numbers.{upTo}
 use Rattle.numbers.proofs.Bounds.{bounded}
 use Rattle.reader.specs.Form.{Entry, Held, labelBy, label, entryBy, entry, entriesBy, entries, sheet}
-use Rattle.reader.specs.Answers.{handed, reading}
-use Rattle.reader.proofs.Found.{whole}
+use Rattle.reader.specs.Answers.{readingOf, reading}
+use Rattle.reader.proofs.LabelPlaces.{whole}
 use Rattle.reader.proofs.Heads.{headed}
 use Rattle.reader.proofs.Plain.{plain-ok}
 
@@ -53,7 +53,7 @@ entries-bytes m (suc k) s at es n e h =
 pub accepted-is-not-shorter : (s : List ℕ) → reading s .0 ≡ accepted → 6 + reading s .1 .count * 6 ≤ length s
 accepted-is-not-shorter s e = go (sheet s 0) refl e
   where
-    go : (x : Step Held) → sheet s 0 ≡ x → handed x .0 ≡ accepted → 6 + handed x .1 .count * 6 ≤ length s
+    go : (x : Step Held) → sheet s 0 ≡ x → readingOf x .0 ≡ accepted → 6 + readingOf x .1 .count * 6 ≤ length s
     go (refuse k p) q f = let z : _≡_ {A = ℕ} 0 1 = cc in absurd (omega arith)
     go (ok h n) q f =
         let w = whole s h n q in
