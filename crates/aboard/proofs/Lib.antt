@@ -1,5 +1,5 @@
-pub mod Boxed
+pub mod BoxLoop
 pub mod Lending
-pub mod Found
+pub mod RefusedSlots
 pub mod Same
 pub mod Wrong

@@ -17,8 +17,8 @@ abbrev pub slottedIn : Refusal → State → List ℕ → SlotAnswer states.Stat
 slottedIn r t codes = slotAnswer (outcome r) (held t) codes
 
 -- What the box's loop begins with: the outcome of its checks, the slots to do, and the state.
-abbrev pub begun : Begun → (Outcome × ℕ) × states.State
-begun b = ((outcome (b .refusal), b .slots), held (b .state))
+abbrev pub beginningOf : Begun → (Outcome × ℕ) × states.State
+beginningOf b = ((outcome (b .refusal), b .slots), held (b .state))
 
 -- A run's checks on the fresh state: all slots of the list are to be done, or none beside a refusal.
 unfoldable pub beginning : Sheet → List ℕ → ℕ → (Outcome × ℕ) × states.State

@@ -4,7 +4,7 @@ ghost use Prim.Native.Nat.{_+_, _≤_};
 ghost use lib.ListN.{length, take, drop};
 ghost use Rattle.machine.specs.Answers.{slot, fresh, run};
 ghost use Rattle.states.specs.Values.{held, ran};
-ghost use Rattle.aboard.specs.Lent.{slottedIn, begun, beginning};
+ghost use Rattle.aboard.specs.Lent.{slottedIn, beginningOf, beginning};
 use basis::Refusal;
 use sheet::Sheet;
 use states::Ran;
@@ -29,7 +29,7 @@ struct Begun {
 
 // The checks of a run from the fresh state; where they refuse there is no slot to do.
 fn begin(sheet: Sheet, releases: &[u64], room: usize) -> Begun
-    ensures { λ r. ⌜ begun r ≡ beginning sheet (now (releases .entry)) room ⌝ }
+    ensures { λ r. ⌜ beginningOf r ≡ beginning sheet (now (releases .entry)) room ⌝ }
 {
     let started = fresh(sheet);
     let state = started.state;

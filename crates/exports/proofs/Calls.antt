@@ -12,8 +12,7 @@ use Rattle.basis.specs.declared.refusal.Refusal.{Refusal}
 use Rattle.machine.specs.declared.places.Done.{Done}
 use Rattle.machine.specs.declared.margins.Margin.{Margin}
 use Rattle.machine.specs.declared.margins.Margin.the-variants as margin-variants
-use Rattle.machine.specs.Answers.{freshAnswer, slotAnswer, Told, margin}
-use Rattle.machine.specs.Answers as machine-answers
+use Rattle.machine.specs.Answers.{freshAnswer, slotAnswer, MarginAnswer, marginAnswer, margin}
 use Rattle.sheet.specs.Lists.{sheetIn}
 use Rattle.machine.specs.Lists.{stateIn, freshOn, slotIn, ranIn, runIn}
 use Rattle.exports.specs.Answers.{told, freshTold, freshIn, slotTold, slotOn, runTold, runOn, marginGiven, marginIn}
@@ -36,10 +35,10 @@ unfolding runOn
 run-answered s list rel cs r after ds er v p e = ap (λ (x : ℕ × ℕ). (x, (r .done, (after, ds)))) e ∙ ap runTold er
 
 -- `giachimu_margin`
-module _ (s list : List ℕ) (row : ℕ) (r : Margin) (er : machine-answers.told r ≡ margin (sheetIn s) (stateIn list) row) (v p job : ℕ) (z : ℤ) where
-  margin-given : marginGiven (machine-answers.told r) (job, z) ≡ marginIn s list row (job, z)
+module _ (s list : List ℕ) (row : ℕ) (r : Margin) (er : marginAnswer r ≡ margin (sheetIn s) (stateIn list) row) (v p job : ℕ) (z : ℤ) where
+  margin-given : marginGiven (marginAnswer r) (job, z) ≡ marginIn s list row (job, z)
   unfolding marginIn
-  margin-given = ap (λ (x : Told). marginGiven x (job, z)) er
+  margin-given = ap (λ (x : MarginAnswer). marginGiven x (job, z)) er
 
   pub margin-refused : (a b : ℕ) → r ≡ margin-variants.Refused a b → (v, p) ≡ told (refused a b) → ((v, p), (job, z)) ≡ marginIn s list row (job, z)
   unfolding marginGiven

@@ -17,14 +17,14 @@ use Rattle.sheet.specs.declared.row.Sheet.{Sheet}
 use Rattle.machine.specs.States.{State}
 use Rattle.machine.specs.Answers.{fresh, slot}
 use Rattle.machine.specs.Lists.{stateLong, stateIn, freshOn, slotIn, runIn}
-use Rattle.machine.proofs.Listed.{InTable, sheet-not-legal, list-not-whole, over-budget, too-soon, no-such-row, short-buffer, state-not-legal, Listed, slot-refusals}
-use Rattle.machine.proofs.Handed.{fresh-on-state, slot-in-state, run-in-state}
+use Rattle.machine.proofs.RefusalTable.{InTable, sheet-not-legal, list-not-whole, over-budget, too-soon, no-such-row, short-buffer, state-not-legal, Listed, slot-refusals}
+use Rattle.machine.proofs.StatesAfter.{fresh-on-state, slot-in-state, run-in-state}
 use Rattle.green.specs.Calls.{Call, Done, slotsOf, stateAfter, history, stateAfterAll, freshOf}
 use Rattle.green.specs.Calls as by-value
 use Rattle.green.specs.Demand.{InTime, NoJobIsLate}
 use Rattle.exports.specs.Answers.{told, readIn, freshIn, slotOn, runOn}
 use Rattle.exports.specs.Following.{ListCall, make-fresh, one-slot, a-run, listAfter, slotsAfter, sinceFresh, NoListedJobIsLate}
-use Rattle.exports.proofs.Kept.{refused-fresh-changes-nothing}
+use Rattle.exports.proofs.Refusals.{refused-fresh-changes-nothing}
 use Rattle.exports.proofs.Back.{read-comes-back}
 
 -- no refusal of the machine is told as 0

@@ -1,13 +1,13 @@
 pub mod Back
 pub mod Bounds
-pub mod Boxed
+pub mod BoxAnswers
 pub mod Calls
-pub mod Copied
+pub mod Copies
 pub mod Fields
 pub mod Following
-pub mod Kept
+pub mod Refusals
 pub mod Meaning
-pub mod Numbered
+pub mod NumberAnswers
 pub mod Same
 pub mod Texts
 pub mod Wrong

@@ -11,7 +11,7 @@ use Rattle.reader.specs.Answers.{reading, labelIn}
 use Rattle.sheet.specs.declared.row.Sheet.{Sheet}
 use Rattle.bound.specs.Bound.{Answer, boundsOf}
 use Rattle.bound.specs.Lists.{resultsLong, resultCell}
-use Rattle.machine.specs.Answers.{FreshAnswer, SlotAnswer, RunAnswer, Told, no-job, margin-is, refused-by, margin}
+use Rattle.machine.specs.Answers.{FreshAnswer, SlotAnswer, RunAnswer, MarginAnswer, no-job, margin-is, refused-by, margin}
 use Rattle.page.specs.Pages.{Page, written}
 use Rattle.dashboard.specs.Texts.{verdictText}
 use Rattle.sheet.specs.Lists.{filled, sheetIn, sheetCell, sheetLong}
@@ -82,7 +82,7 @@ unfoldable pub runOn : List ℕ → List ℕ → List ℕ → List ℕ → (ℕ 
 runOn sheet list releases codes = runTold (runIn (sheetIn sheet) list releases codes)
 
 -- The margin of a row: 1 and the margin where it has a job, 0 and no margin where it has none.
-unfoldable pub marginGiven : Told → ℕ × ℤ → (ℕ × ℕ) × (ℕ × ℤ)
+unfoldable pub marginGiven : MarginAnswer → ℕ × ℤ → (ℕ × ℕ) × (ℕ × ℤ)
 marginGiven no-job (found, z) = ((0, 0), (0, z))
 marginGiven (margin-is d) (found, z) = ((0, 0), (1, d))
 marginGiven (refused-by number place) (found, z) = ((number, place), (found, z))

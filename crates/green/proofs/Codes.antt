@@ -10,13 +10,12 @@ use Rattle.basis.specs.Words.{pick}
 use Rattle.sheet.specs.declared.row.Row.{Row}
 use Rattle.records.specs.declared.record.RowState.{RowState}
 use Rattle.records.specs.Steps.{codeOf}
-use Rattle.records.proofs.Codes.{goes-on}
+use Rattle.records.proofs.Codes.{code-is, goes-on}
 
 module _ (row : Row) (ran : Bool) (before after : RowState) where
   -- nothing is left: 3
   pub finished-code : 1 ≤ before .remaining → after .remaining ≡ 0 → codeOf row ran before after ≡ 3
-  unfolding codeOf
-  finished-code h e = simp (lt-ltb 0 (before .remaining) h, le-ltb 0 (after .remaining) (omega arith))
+  finished-code h e = code-is row ran before after ∙ simp (lt-ltb 0 (before .remaining) h, le-ltb 0 (after .remaining) (omega arith))
 
   -- something is left, and it is not the deadline: 1 or 2
   pub going-code : 1 ≤ before .remaining → 1 ≤ after .remaining → (after .since ≡ row .deadline → ⊥) → (codeOf row ran before after ≡ 1) ⊎ (codeOf row ran before after ≡ 2)

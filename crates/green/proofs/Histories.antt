@@ -16,7 +16,7 @@ use Rattle.machine.specs.States.{State}
 use Rattle.machine.specs.Slot.{code}
 use Rattle.machine.specs.Checks.{checkSlot, checkRun}
 use Rattle.machine.specs.Answers.{SlotAnswer, RunAnswer, slotAnswer, runAnswer, given, nextState, nextCodes, slotBy, slot, entriesOf, slotAt, onward, course, run}
-use Rattle.machine.proofs.Answered.{Accepted-slot, slot-shows}
+use Rattle.machine.proofs.Answers.{Accepted-slot, slot-shows}
 use Rattle.machine.proofs.Courses.{followed}
 use Rattle.machine.proofs.Legals.{legal-state-is}
 use Rattle.green.specs.Calls.{Call, one-slot, a-run, Done, slotDone, runSlot, runDone, slotsOf, stateAfter, history, stateAfterAll}

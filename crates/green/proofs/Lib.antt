@@ -5,10 +5,10 @@ pub mod Theorem
 pub mod Histories
 pub mod Instances
 pub mod Invariant
-pub mod Judged
+pub mod GreenAnswers
 pub mod Lent
 pub mod Potential
-pub mod Refuted
+pub mod Refutation
 pub mod Sheets
 pub mod Slots
 pub mod Soundness

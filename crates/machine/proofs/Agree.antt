@@ -14,7 +14,7 @@ use Rattle.records.specs.Steps.{released, ended}
 use Rattle.machine.specs.Slot.{freeAt, Given, begun, free, runs, reached, next, code}
 use Rattle.machine.specs.Checks.{checkSlot}
 use Rattle.machine.specs.Answers.{SlotAnswer, slotAnswer, given, nextState, nextCodes, slot}
-use Rattle.machine.proofs.Answered.{slot-shows}
+use Rattle.machine.proofs.Answers.{slot-shows}
 use Rattle.machine.proofs.Legals.{legal-state-is, legal-state-long}
 use Rattle.machine.proofs.Placement.{free-agrees}
 

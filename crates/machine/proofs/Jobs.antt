@@ -21,8 +21,9 @@ use Rattle.records.specs.Checks.{checkRow}
 use Rattle.machine.specs.Checks.{checkAt, checkReleases}
 use Rattle.machine.specs.Answers.{SlotAnswer, slotAnswer, given, slot}
 use Rattle.machine.proofs.Agree.{slot-passed, record-after, code-after}
-use Rattle.machine.proofs.Answered.{slot-shows}
+use Rattle.machine.proofs.Answers.{slot-shows}
 use Rattle.machine.proofs.Legals.{legal-state-is}
+use Rattle.records.proofs.Codes.{code-is}
 use Rattle.records.proofs.Records.{released-none, release-allowed, older-below, ended-else, ended-since}
 
 -- one slot of a row, by whether it ran: its code, and its record
@@ -32,13 +33,13 @@ module _ (row : Row) (ran : Bool) (s : RowState) (young : s .since < row .separa
   after-since = older-below (row .separation) (s .since) young
 
   pub job-finished : worked ran s .remaining ≡ 0 → codeOf row ran s (aged row (worked ran s)) ≡ 3
-  unfolding codeOf aged
-  job-finished e = rw (lt-ltb 0 (s .remaining) job, e)
+  unfolding aged
+  job-finished e = code-is row ran s (aged row (worked ran s)) ∙ rw (lt-ltb 0 (s .remaining) job, e)
 
   module _ (left : 1 ≤ worked ran s .remaining) where
     pub job-missed : s .since + 1 ≡ row .deadline → codeOf row ran s (aged row (worked ran s)) ≡ 4
-    unfolding codeOf missed aged
-    job-missed e = rw (lt-ltb 0 (s .remaining) job, lt-ltb 0 (worked ran s .remaining) left, eq-eqb (aged row (worked ran s) .since) (row .deadline) (after-since ∙ e))
+    unfolding aged
+    job-missed e = code-is row ran s (aged row (worked ran s)) ∙ rw (lt-ltb 0 (s .remaining) job, lt-ltb 0 (worked ran s .remaining) left, eq-eqb (aged row (worked ran s) .since) (row .deadline) (after-since ∙ e))
 
     pub job-left : (s .since + 1 ≡ row .deadline → ⊥) → ended row (aged row (worked ran s)) .remaining ≡ worked ran s .remaining
     unfolding aged

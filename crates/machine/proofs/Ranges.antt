@@ -15,7 +15,7 @@ use Rattle.sheet.specs.declared.row.Sheet.{Sheet}
 use Rattle.records.specs.declared.record.RowState.{RowState}
 use Rattle.machine.specs.States.{State, recordAt}
 use Rattle.machine.specs.Checks.{checkMargin}
-use Rattle.machine.specs.Answers.{no-job, margin-is, marginOf, marginAt, margin}
+use Rattle.machine.specs.Answers.{margin-is, marginOf, marginAt, margin}
 use Rattle.machine.proofs.Differences.{less, less-twice}
 use Rattle.machine.proofs.Legals.{LegalRecord}
 
@@ -24,10 +24,6 @@ pub margin-of-a-job : (h : Sheet) (t : State) (k : ℕ) → checkMargin h t k �
     → margin h t k ≡ margin-is ((pos (rowAt h k .deadline) -ℤ pos (recordAt t k .since)) -ℤ pos (recordAt t k .remaining))
 unfolding margin marginAt marginOf
 margin-of-a-job h t k e j = rw (e, lt-ltb 0 (recordAt t k .remaining) j)
-
-pub margin-of-no-job : (h : Sheet) (t : State) (k : ℕ) → checkMargin h t k ≡ accepted → recordAt t k .remaining ≡ 0 → margin h t k ≡ no-job
-unfolding margin marginAt
-margin-of-no-job h t k e j = rw (e, j)
 
 -- differences in order
 difference-le : (a b c d : ℕ) → a + d ≤ c + b → subℕ a b ≤ℤ subℕ c d

@@ -14,7 +14,7 @@ use Rattle.machine.specs.declared.margins.Margin.{Margin}
 use Rattle.machine.specs.declared.margins.Margin.the-variants.{NoJob, Is, Refused}
 use Rattle.machine.specs.Lists.{stateIn, freshOn, slotIn, runIn, ranIn}
 use Rattle.machine.specs.Checks.{checkSlot, checkRun}
-use Rattle.machine.specs.Answers.{FreshAnswer, SlotAnswer, RunAnswer, freshAnswer, slotAnswer, told, margin}
+use Rattle.machine.specs.Answers.{FreshAnswer, SlotAnswer, RunAnswer, freshAnswer, slotAnswer, marginAnswer, margin}
 
 -- `fresh_on`: the refusal, and the list after it
 pub fresh-on-same : (sheet list : List ℕ) (a b : Refusal) (l m : List ℕ) → freshAnswer (outcome a) l ≡ freshOn (sheetIn sheet) list → freshAnswer (outcome b) m ≡ freshOn (sheetIn sheet) list → (a ≡ b) × (l ≡ m)
@@ -48,23 +48,23 @@ pub run-on-same : (sheet list rel before : List ℕ) (a b : Done) (l m cs ds : L
 run-on-same sheet list rel before a b l m cs ds e f = done-one-to-one a b l m cs ds (e ∙ sym f)
 
 -- what is told of a margin
-pub told-one-to-one : (a b : Margin) → told a ≡ told b → a ≡ b
-told-one-to-one NoJob NoJob e = refl
-told-one-to-one NoJob (Is z) e = let z : _≡_ {A = ℕ} 0 1 = cc in absurd (omega arith)
-told-one-to-one NoJob (Refused k p) e = let z : _≡_ {A = ℕ} 0 1 = cc in absurd (omega arith)
-told-one-to-one (Is y) NoJob e = let z : _≡_ {A = ℕ} 0 1 = cc in absurd (omega arith)
-told-one-to-one (Is y) (Is z) e = let g : y ≡ z = cc in cc
-told-one-to-one (Is y) (Refused k p) e = let z : _≡_ {A = ℕ} 0 1 = cc in absurd (omega arith)
-told-one-to-one (Refused k p) NoJob e = let z : _≡_ {A = ℕ} 0 1 = cc in absurd (omega arith)
-told-one-to-one (Refused k p) (Is z) e = let z : _≡_ {A = ℕ} 0 1 = cc in absurd (omega arith)
-told-one-to-one (Refused k p) (Refused j q) e =
+pub margin-one-to-one : (a b : Margin) → marginAnswer a ≡ marginAnswer b → a ≡ b
+margin-one-to-one NoJob NoJob e = refl
+margin-one-to-one NoJob (Is z) e = let z : _≡_ {A = ℕ} 0 1 = cc in absurd (omega arith)
+margin-one-to-one NoJob (Refused k p) e = let z : _≡_ {A = ℕ} 0 1 = cc in absurd (omega arith)
+margin-one-to-one (Is y) NoJob e = let z : _≡_ {A = ℕ} 0 1 = cc in absurd (omega arith)
+margin-one-to-one (Is y) (Is z) e = let g : y ≡ z = cc in cc
+margin-one-to-one (Is y) (Refused k p) e = let z : _≡_ {A = ℕ} 0 1 = cc in absurd (omega arith)
+margin-one-to-one (Refused k p) NoJob e = let z : _≡_ {A = ℕ} 0 1 = cc in absurd (omega arith)
+margin-one-to-one (Refused k p) (Is z) e = let z : _≡_ {A = ℕ} 0 1 = cc in absurd (omega arith)
+margin-one-to-one (Refused k p) (Refused j q) e =
     let ek : k ≡ j = cc in
     let ep : p ≡ q = cc in
     cc
 
 -- `margin_on`
-pub margin-on-same : (sheet list : List ℕ) (k : ℕ) (a b : Margin) → told a ≡ margin (sheetIn sheet) (stateIn list) k → told b ≡ margin (sheetIn sheet) (stateIn list) k → a ≡ b
-margin-on-same sheet list k a b e f = told-one-to-one a b (e ∙ sym f)
+pub margin-on-same : (sheet list : List ℕ) (k : ℕ) (a b : Margin) → marginAnswer a ≡ margin (sheetIn sheet) (stateIn list) k → marginAnswer b ≡ margin (sheetIn sheet) (stateIn list) k → a ≡ b
+margin-on-same sheet list k a b e f = margin-one-to-one a b (e ∙ sym f)
 
 -- the checks of a slot and of a run
 pub check-slot-in-same : (sheet list rel : List ℕ) (room : ℕ) (a b : Refusal) → outcome a ≡ checkSlot (sheetIn sheet) (stateIn list) rel room → outcome b ≡ checkSlot (sheetIn sheet) (stateIn list) rel room → a ≡ b

@@ -23,7 +23,7 @@ use Rattle.machine.specs.States.{State, recordAt}
 use Rattle.machine.specs.States as states
 use Rattle.machine.specs.Slot.{freeAt}
 use Rattle.machine.specs.Checks.{checkReleases, checkState, checkRoom, checkSlot, checkRun, checkMargin}
-use Rattle.machine.specs.Answers.{FreshAnswer, SlotAnswer, RunAnswer, fresh, given, nextState, nextCodes, slot, slotAt, onward, course, run, Told, no-job, margin-is, refused-by, marginOf, marginAt, margin}
+use Rattle.machine.specs.Answers.{FreshAnswer, SlotAnswer, RunAnswer, fresh, given, nextState, nextCodes, slot, slotAt, onward, course, run, MarginAnswer, no-job, margin-is, refused-by, marginOf, marginAt, margin}
 use Rattle.machine.specs.Lists.{recordIn, zeroAt, zeroFrom, stateIn, putRecord, putTo, putState, freshOn, slotIn, runIn}
 use Rattle.machine.specs.Wrong.{freshWithJobs, freshTooYoung, freeToUnfit, slotToUnfit, slotOfAll, slotMissedFirst, slotUntouched, slotUnreleased, slotCodesAlways, checkThirteenFirst, anyReleases, slotThirteenFirst, runOfFirst, runMadeUp, runUntouched, roomFirst, anyState, zeroForNone, sinceLeftOut, marginOfFirst, freshKept, freshRoomless, slotListKept, slotCodesKept, runListKept, runListMadeUp, listC, freshListC, busyC}
 
@@ -131,7 +131,7 @@ any-state-is-shut-out = apart numberOf _ _ 0 16 refl refl (λ e. omega arith)
 -- ---- the margin
 
 -- 0 for no job, one more than a margin that is not negative, and 99 else
-abbrev marginRead : Told → ℕ
+abbrev marginRead : MarginAnswer → ℕ
 marginRead no-job = 0
 marginRead (margin-is (pos n)) = 1 + n
 marginRead (margin-is (negsuc n)) = 99

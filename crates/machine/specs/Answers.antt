@@ -97,30 +97,30 @@ unfoldable pub run : Sheet → State → List ℕ → List ℕ → RunAnswer Sta
 run h t releases codes = course h releases (runAnswer 0 (checkRun h t releases (length codes)) t codes) (length releases / h .count)
 
 -- What is told of a row's margin: that there is no job, the margin, or a refusal.
-pub data Told : Type 0 where
-  no-job : Told
-  margin-is : ℤ → Told
-  refused-by : ℕ → ℕ → Told
+pub data MarginAnswer : Type 0 where
+  no-job : MarginAnswer
+  margin-is : ℤ → MarginAnswer
+  refused-by : ℕ → ℕ → MarginAnswer
 
 -- What each answer of `margin` stands for.
-abbrev pub told : Margin → Told
-told margin-variants.NoJob = no-job
-told (margin-variants.Is z) = margin-is z
-told (margin-variants.Refused number place) = refused-by number place
+abbrev pub marginAnswer : Margin → MarginAnswer
+marginAnswer margin-variants.NoJob = no-job
+marginAnswer (margin-variants.Is z) = margin-is z
+marginAnswer (margin-variants.Refused number place) = refused-by number place
 
 -- D - since - remaining, signed.
 unfoldable pub marginOf : Row → RowState → ℤ
 marginOf row s = (pos (row .deadline) -ℤ pos (s .since)) -ℤ pos (s .remaining)
 
 -- A row without a job has no margin, which is not a margin of zero.
-unfoldable pub marginAt : Row → RowState → Told
+unfoldable pub marginAt : Row → RowState → MarginAnswer
 marginAt row s = pick (hasJob s) (margin-is (marginOf row s)) no-job
 
 -- The margin of a row whose checks gave this outcome.
-abbrev pub marginBy : Outcome → Told → Told
+abbrev pub marginBy : Outcome → MarginAnswer → MarginAnswer
 marginBy accepted a = a
 marginBy (refused number place) a = refused-by number place
 
 -- The margin of a row.
-unfoldable pub margin : Sheet → State → ℕ → Told
+unfoldable pub margin : Sheet → State → ℕ → MarginAnswer
 margin h t row = marginBy (checkMargin h t row) (marginAt (rowAt h row) (recordAt t row))

@@ -18,7 +18,7 @@ use Rattle.records.specs.Wrong.{rec, thirteenFirst, stopsAtUnfit}
 use Rattle.machine.specs.States.{State, noState, stateOf, recordAt, freshState}
 use Rattle.machine.specs.Slot.{Given, begun, runs, reached, next}
 use Rattle.machine.specs.Checks.{checkState, checkRoom, checkSlot, checkMargin}
-use Rattle.machine.specs.Answers.{FreshAnswer, SlotAnswer, RunAnswer, freshAnswer, slotAnswer, runAnswer, given, nextState, nextCodes, slotBy, slot, course, run, Told, no-job, margin-is, marginAt, marginBy, margin}
+use Rattle.machine.specs.Answers.{FreshAnswer, SlotAnswer, RunAnswer, freshAnswer, slotAnswer, runAnswer, given, nextState, nextCodes, slotBy, slot, course, run, MarginAnswer, no-job, margin-is, marginAt, marginBy, margin}
 use Rattle.machine.specs.Lists.{putState, cleared, freshOn, slotIn, runIn}
 
 -- ---- fresh
@@ -143,18 +143,18 @@ anyState h t releases room =
 -- ---- the margin
 
 -- A row without a job has a margin of zero.
-unfoldable pub zeroForNone : Sheet → State → ℕ → Told
+unfoldable pub zeroForNone : Sheet → State → ℕ → MarginAnswer
 zeroForNone h t row =
     marginBy (checkMargin h t row) (pick (hasJob (recordAt t row)) (marginAt (rowAt h row) (recordAt t row)) (margin-is (pos 0)))
 
 -- The slots since the release are not taken off.
-unfoldable pub sinceLeftOut : Sheet → State → ℕ → Told
+unfoldable pub sinceLeftOut : Sheet → State → ℕ → MarginAnswer
 sinceLeftOut h t row =
     marginBy (checkMargin h t row)
     (pick (hasJob (recordAt t row)) (margin-is (pos (rowAt h row .deadline) -ℤ pos (recordAt t row .remaining))) no-job)
 
 -- Whatever row is asked for, the margin is that of row 0.
-unfoldable pub marginOfFirst : Sheet → State → ℕ → Told
+unfoldable pub marginOfFirst : Sheet → State → ℕ → MarginAnswer
 marginOfFirst h t row = margin h t 0
 
 -- ---- on lists

@@ -6,7 +6,7 @@ ghost use Rattle.basis.specs.Refusals.{outcome};
 ghost use Rattle.sheet.specs.Lists.{sheetIn};
 ghost use Rattle.machine.specs.Checks.{checkMargin};
 ghost use Rattle.machine.specs.Lists.{stateIn};
-ghost use Rattle.machine.specs.Answers.{told, marginAt, margin};
+ghost use Rattle.machine.specs.Answers.{marginAnswer, marginAt, margin};
 use crate::inplace::check_state_in;
 use crate::places::record_in;
 use crate::sheets::row_inside;
@@ -28,7 +28,7 @@ pub enum Margin {
 // The margin of a row by its record.
 fn margin_of(row: Row, s: RowState) -> Margin
     requires { ⌜ (row .deadline ≤ mostSeparation) × (s .since ≤ mostSeparation) × (s .remaining ≤ mostSeparation) ⌝ }
-    ensures { λ r. ⌜ told r ≡ marginAt row s ⌝ }
+    ensures { λ r. ⌜ marginAnswer r ≡ marginAt row s ⌝ }
 {
     let remaining = s.remaining;
     let since = s.since;
@@ -58,7 +58,7 @@ fn check_margin_in(sheet: &[u64], list: &[u64], row: usize) -> Refusal
 
 // The margin of a row of the state in a list.
 pub fn margin_on(sheet: &[u64], list: &[u64], row: usize) -> Margin
-    ensures { λ r. ⌜ told r ≡ margin (sheetIn (now (sheet .entry))) (stateIn (now (list .entry))) row ⌝ }
+    ensures { λ r. ⌜ marginAnswer r ≡ margin (sheetIn (now (sheet .entry))) (stateIn (now (list .entry))) row ⌝ }
 {
     let refusal = check_margin_in(sheet, list, row);
     match refusal {

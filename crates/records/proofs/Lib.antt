@@ -1,5 +1,5 @@
 pub mod Records
 pub mod Codes
-pub mod Stepped
+pub mod RowSlots
 pub mod Same
 pub mod Wrong

@@ -14,9 +14,9 @@ use Rattle.sheet.specs.declared.row.Row.{Row}
 use Rattle.records.specs.declared.record.RowState.{RowState}
 use Rattle.records.specs.declared.steps.Aged.{Aged}
 use Rattle.records.specs.Records.{hasJob}
-use Rattle.records.specs.Steps.{released, worked, older, aged, missed, ended}
+use Rattle.records.specs.Steps.{released, worked, older, aged, missed, ended, codeAtEnd}
 use Rattle.records.specs.Checks.{checkRow}
-use Rattle.records.specs.Methods.{judged, agedRow}
+use Rattle.records.specs.Methods.{agedRow}
 
 pub same-or-not : (a b : ℕ) → (a ≡ b) ⊎ (a ≡ b → ⊥)
 same-or-not a b = go (eqb a b) refl
@@ -108,17 +108,17 @@ unfolding worked
 worked-none ran s e = rw e
 
 -- `age_row`: at the deadline, and elsewhere
-module _ (row : Row) (s : RowState) (code since c : ℕ) (es : since ≡ older (row .separation) (s .since)) (ec : c ≡ judged (s .remaining) since (row .deadline) code) where
+module _ (row : Row) (s : RowState) (code since c : ℕ) (es : since ≡ older (row .separation) (s .since)) (ec : c ≡ codeAtEnd (s .remaining) since (row .deadline) code) where
   pub age-at : since ≡ row .deadline → _≡_ {A = Aged} (record { after = record { remaining = 0; since = since }; code = c }) (agedRow row s code)
   unfolding agedRow aged ended
   age-at e =
       let none : 0 ≡ ended row (aged row s) .remaining = sym (ended-at row (aged row s) (sym es ∙ e)) in
-      let told = ec ∙ ap (λ (x : ℕ). judged (s .remaining) x (row .deadline) code) es in
-      λ i. record { after = record { remaining = none i; since = es i }; code = told i }
+      let code-so = ec ∙ ap (λ (x : ℕ). codeAtEnd (s .remaining) x (row .deadline) code) es in
+      λ i. record { after = record { remaining = none i; since = es i }; code = code-so i }
 
   pub age-else : (since ≡ row .deadline → ⊥) → _≡_ {A = Aged} (record { after = record { remaining = s .remaining; since = since }; code = c }) (agedRow row s code)
   unfolding agedRow aged ended
   age-else d =
       let all : s .remaining ≡ ended row (aged row s) .remaining = sym (ended-else row (aged row s) (λ e. d (es ∙ e))) in
-      let told = ec ∙ ap (λ (x : ℕ). judged (s .remaining) x (row .deadline) code) es in
-      λ i. record { after = record { remaining = all i; since = es i }; code = told i }
+      let code-so = ec ∙ ap (λ (x : ℕ). codeAtEnd (s .remaining) x (row .deadline) code) es in
+      λ i. record { after = record { remaining = all i; since = es i }; code = code-so i }

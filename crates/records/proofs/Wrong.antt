@@ -10,7 +10,7 @@ use Rattle.records.specs.declared.steps.Aged.{Aged}
 use Rattle.records.specs.Records.{legalRecord}
 use Rattle.records.specs.Steps.{released, fits, freeBelow, worked, older, aged, missed, ended, codeOf}
 use Rattle.records.specs.Checks.{checkRow}
-use Rattle.records.specs.Methods.{placedRow, judged, agedRow, begunRow, steppedRow}
+use Rattle.records.specs.Methods.{placedRow, agedRow, begunRow, steppedRow}
 use Rattle.records.specs.Wrong.{upperC, lowerC, early, rec, thirteenFirst, soonByDeadline, oneSoon, lateIsLegal, noSlotIsLegal, releaseLost, sinceKept, everyJobRuns, stopsAtUnfit, missedFirst, restKept, sinceGoesOn, steppedUnreleased, steppedIdle}
 
 -- ---- `check_row`
@@ -69,7 +69,7 @@ stops-at-unfit-is-shut-out = apart (λ (r : Placed). r .free) _ _ 0 1 refl refl 
 
 -- a job that ran to its end in the slot in which since reaches the deadline
 pub missed-first-is-shut-out : NoneMeets (missedFirst lowerC (rec 0 3) 2) (agedRow lowerC (rec 0 3) 2)
-unfolding missedFirst agedRow judged aged older
+unfolding missedFirst agedRow aged older
 missed-first-is-shut-out = apart (λ (r : Aged). r .code) _ _ 4 3 refl refl (λ e. omega arith)
 
 -- the same job with one slot left of it

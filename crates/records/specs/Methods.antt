@@ -1,13 +1,10 @@
 -- What the methods of a record answer: placement, ageing, and all steps of a row together.
 use Prim.Native.Nat.{ℕ}
-use lib.Dec.{ltb, eqb}
-use Rattle.basis.specs.Words.{pick}
 use Rattle.sheet.specs.declared.row.Row.{Row}
 use Rattle.records.specs.declared.record.RowState.{RowState}
 use Rattle.records.specs.declared.steps.Placed.{Placed}
 use Rattle.records.specs.declared.steps.Aged.{Aged}
-use Rattle.records.specs.Records.{hasJob}
-use Rattle.records.specs.Steps.{released, fits, freeBelow, worked, aged, ended, codeOf}
+use Rattle.records.specs.Steps.{released, fits, freeBelow, worked, aged, ended, codeSoFar, codeAtEnd, codeOf}
 
 -- Steps 2 and 3 of a row, with so many processors free: what it leaves free, its record, and its code so far.
 unfoldable pub placedRow : Row → RowState → ℕ → Placed
@@ -15,19 +12,15 @@ placedRow row s free =
     record {
       free = freeBelow free row s;
       after = worked (fits free row s) s;
-      code = pick (hasJob s) (pick (fits free row s) 2 1) 0;
+      code = codeSoFar (fits free row s) s;
     }
-
--- The code of a row after step 5, by its code so far and by what is left.
-unfoldable pub judged : ℕ → ℕ → ℕ → ℕ → ℕ
-judged left since deadline code = pick (eqb code 0) 0 (pick (ltb 0 left) (pick (eqb since deadline) 4 code) 3)
 
 -- Steps 4 and 5 of a row, with its code so far: its record, and its code.
 unfoldable pub agedRow : Row → RowState → ℕ → Aged
 agedRow row s code =
     record {
       after = ended row (aged row s);
-      code = judged (s .remaining) (aged row s .since) (row .deadline) code;
+      code = codeAtEnd (s .remaining) (aged row s .since) (row .deadline) code;
     }
 
 -- All steps of a row that has begun its slot with this record, with so many processors free.

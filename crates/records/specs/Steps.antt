@@ -39,8 +39,14 @@ missed row s = both (hasJob s) (eqb (s .since) (row .deadline))
 unfoldable pub ended : Row → RowState → RowState
 ended row s = record { remaining = pick (missed row s) 0 (s .remaining); since = s .since }
 
--- Codes: 0 no job, 1 waited, 2 ran, 3 finished in this slot, 4 missed (running or not).
--- Before is the record that the slot began with, and after is the one that it came to before anything was dropped.
+-- Codes: at its placement a row has 0 no job, 1 waited, 2 ran;
+abbrev pub codeSoFar : Bool → RowState → ℕ
+codeSoFar ran s = pick (hasJob s) (pick ran 2 1) 0
+
+-- and at the end of the slot 3 where nothing is left of its job, which is finished, or else 4 where since equals D, which is missed (running or not).
+abbrev pub codeAtEnd : ℕ → ℕ → ℕ → ℕ → ℕ
+codeAtEnd left since deadline code = pick (eqb code 0) 0 (pick (ltb 0 left) (pick (eqb since deadline) 4 code) 3)
+
+-- The code of a row: before is the record that the slot began with, and after is the one that it came to before anything was dropped.
 unfoldable pub codeOf : Row → Bool → RowState → RowState → ℕ
-codeOf row ran before after =
-    pick (hasJob before) (pick (hasJob after) (pick (missed row after) 4 (pick ran 2 1)) 3) 0
+codeOf row ran before after = codeAtEnd (after .remaining) (after .since) (row .deadline) (codeSoFar ran before)

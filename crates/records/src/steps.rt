@@ -1,7 +1,7 @@
 // The steps of a slot, of one row: release, placement and ageing, and all of them together.
 ghost use mathlib.Core.Path.{_≡_};
-ghost use Rattle.records.specs.Steps.{released, older};
-ghost use Rattle.records.specs.Methods.{placedRow, judged, agedRow, steppedRow};
+ghost use Rattle.records.specs.Steps.{released, older, codeAtEnd};
+ghost use Rattle.records.specs.Methods.{placedRow, agedRow, steppedRow};
 use crate::record::RowState;
 use sheet::Row;
 
@@ -31,7 +31,7 @@ fn older(since: u64, separation: u64) -> u64
 
 // A row's code at the end of a slot, by its code so far: finished, then missed.
 fn judge(left: u64, since: u64, deadline: u64, code: u8) -> u8
-    ensures { λ r. ⌜ r ≡ judged left since deadline code ⌝ }
+    ensures { λ r. ⌜ r ≡ codeAtEnd left since deadline code ⌝ }
 {
     if code == 0 {
         return 0;

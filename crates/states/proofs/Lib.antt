@@ -1,4 +1,4 @@
-pub mod Turns
-pub mod Whole
-pub mod Listing
+pub mod StepLoops
+pub mod StepsTogether
+pub mod ValueLists
 pub mod Same

@@ -10,8 +10,8 @@ use Rattle.sheet.specs.declared.row.Sheet.{Sheet}
 use Rattle.machine.specs.declared.margins.Margin.{Margin}
 use Rattle.machine.specs.States.{State}
 use Rattle.machine.specs.Checks.{checkRun}
-use Rattle.machine.specs.Answers.{FreshAnswer, SlotAnswer, RunAnswer, fresh, slot, run, told, margin}
-use Rattle.machine.proofs.Same.{told-one-to-one}
+use Rattle.machine.specs.Answers.{FreshAnswer, SlotAnswer, RunAnswer, fresh, slot, run, marginAnswer, margin}
+use Rattle.machine.proofs.Same.{margin-one-to-one}
 use Rattle.states.specs.declared.state.State.{State as Value}
 use Rattle.states.specs.declared.start.Started.{Started}
 use Rattle.states.specs.declared.slots.Slotted.{Slotted}
@@ -66,5 +66,5 @@ pub check-run-same : (h : Sheet) (t : Value) (rel : List ℕ) (room : ℕ) (a b 
 check-run-same h t rel room a b e f = outcome-one-to-one a b (e ∙ sym f)
 
 -- `margin`
-pub margin-same : (h : Sheet) (t : Value) (k : ℕ) (a b : Margin) → told a ≡ margin h (held t) k → told b ≡ margin h (held t) k → a ≡ b
-margin-same h t k a b e f = told-one-to-one a b (e ∙ sym f)
+pub margin-same : (h : Sheet) (t : Value) (k : ℕ) (a b : Margin) → marginAnswer a ≡ margin h (held t) k → marginAnswer b ≡ margin h (held t) k → a ≡ b
+margin-same h t k a b e f = margin-one-to-one a b (e ∙ sym f)

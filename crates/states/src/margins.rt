@@ -1,6 +1,6 @@
 // The margin of a row.
 ghost use mathlib.Core.Path.{_≡_};
-ghost use Rattle.machine.specs.Answers.{told, margin};
+ghost use Rattle.machine.specs.Answers.{marginAnswer, margin};
 ghost use Rattle.states.specs.Values.{held};
 use crate::lists::listed;
 use crate::lists::state_list;
@@ -12,7 +12,7 @@ use sheet::Sheet;
 impl State {
     // The margin of a row: D - since - remaining.
     pub fn margin(self, sheet: Sheet, row: usize) -> Margin
-        ensures { λ r. ⌜ told r ≡ margin sheet (held self) row ⌝ }
+        ensures { λ r. ⌜ marginAnswer r ≡ margin sheet (held self) row ⌝ }
     {
         let rows = listed(sheet);
         let list = state_list(self);

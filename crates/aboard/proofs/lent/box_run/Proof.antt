@@ -45,7 +45,7 @@ use Rattle.basis.proofs.refusal.Refusal.is_accepted.Met as is-accepted-thm
 use Rattle.sheet.proofs.row.Sheet as Sh
 use Rattle.sheet.proofs.row.Sheet.Laws as Sh′
 use Rattle.aboard.specs.declared.lent.Begun.{Begun}
-use Rattle.aboard.specs.Lent.{begun, beginning}
+use Rattle.aboard.specs.Lent.{beginningOf, beginning}
 use Rattle.states.proofs.state.State as St
 use Rattle.states.proofs.state.State.Laws as St′
 use Rattle.aboard.proofs.lent.Begun as Be
@@ -64,7 +64,7 @@ use Rattle.aboard.proofs.lent.box_run.Key.{name as #box-run}
 use Rattle.aboard.proofs.lent.box_run.Statement as stated
 use Rattle.aboard.proofs.lent.box_run.Code as code
 use Rattle.aboard.proofs.lent.box_run.Code.Mir as mir-code
-use Rattle.aboard.proofs.Boxed.{Begins, begins, box-begins}
+use Rattle.aboard.proofs.BoxLoop.{Begins, begins, box-begins}
 use Rattle.aboard.proofs.Lending.{shv, IsSheet}
 use Rattle.aboard.proofs.lent.box_run.Proof.Calls.{Passed, lv, releasesOwn, Begin, Entries, IsAccepted, to-begin, goes-begin, gives-begin}
 use Rattle.aboard.proofs.lent.box_run.Proof.Lends.{SlotIn}
@@ -116,7 +116,7 @@ module _ {M : Type 1} (𝓤 : URA M) (H : Heap 𝓤) (A : Atoms 𝓤) (W : Given
         move ! (1 ∷ []) $ use1 W (‵ (releasesOwn κ₁ rel) ⊛ ‵ (releasesOwn κ₁ rel)) (shr-slice-copy 𝓤 H A W (named 0) κ₁ u64 .twice rel _) $ split ! $ nothing ! $ move ! (3 ∷ 0 ∷ []) $ join ! $
         use2 W (raw (Begin 𝓤 H A mem run .pre (to-begin 𝓤 H A W mem run p (length (cs .now))))) (goes-begin 𝓤 H A W mem run p (length (cs .now)) gh (room₂ .0)) $
         calls-at ! fm (Begin 𝓤 H A mem run) known-begin (to-begin 𝓤 H A W mem run p (length (cs .now))) (and-then ! (load ! (from ! (stop !)) (look ! 42 refl)) (and-then ! (load ! (from ! (stop !)) (look ! 40 refl)) (and-then ! (load ! (from ! (stop !)) (look ! 22 refl)) (no-more !)))) (λ w.
-        use1 W (later (some (λ (b : Begun). given (begun b ≡ beginning h (rel .now) (length (cs .now))) ((‵ (flft κ₁ q₁) ⊛ ‵ ftrue) ⊛ ‵ (Be.the-row .own b (w ∷ [])))))) (gives-begin 𝓤 H A W mem run p (length (cs .now)) w) $ await ! tt $ pick ! (λ b. learn ! (λ eb. split ! $ move ! (1 ∷ []) $
+        use1 W (later (some (λ (b : Begun). given (beginningOf b ≡ beginning h (rel .now) (length (cs .now))) ((‵ (flft κ₁ q₁) ⊛ ‵ ftrue) ⊛ ‵ (Be.the-row .own b (w ∷ [])))))) (gives-begin 𝓤 H A W mem run p (length (cs .now)) w) $ await ! tt $ pick ! (λ b. learn ! (λ eb. split ! $ move ! (1 ∷ []) $
         facts ! Be.the-row (Is Be.the-row) (shows 𝓤 H A Be.the-row) b (w ∷ []) (λ g.
         land ! (from ! (stop !)) (init ! 36 refl (LL.lawful Be.the-type Be′.the-laws 𝓤 H A W .typed b _ g .0)) $ rewrite ! 36 (λ (v : Val). ‵ (fat fullShare Be′.mir l₄ 0 v)) (ap only (LL.tells Be.the-type Be′.the-laws b _ g)) refl $
         split ! $ move ! (1 ∷ []) $ drop ! $

@@ -4,7 +4,7 @@ use Prim.Native.Nat.{_≤_, _-_}
 use mathlib.Core.Path.{_≡_}
 use mathlib.Core.List.{_++_}
 use lib.ListN.{length, take, drop}
-use Rattle.exports.proofs.Copied.{byte-copied, all-copied}
+use Rattle.exports.proofs.Copies.{byte-copied, all-copied}
 use Rattle.exports.proofs.verdicts.copy.Statement.{statement}
 use Rattle.exports.proofs.verdicts.copy.Tie as tie
 

@@ -2,7 +2,7 @@
 use borrow.Author.Needs.{needs}
 use Rattle.basis.proofs.Tests.{tests}
 use Rattle.records.specs.Checks.{checkRow}
-use Rattle.machine.proofs.Moves.{check-in-there}
+use Rattle.machine.proofs.ChecksInPlace.{check-in-there}
 use Rattle.machine.proofs.inplace.check_in.Statement.{statement}
 use Rattle.machine.proofs.inplace.check_in.Tie as tie
 

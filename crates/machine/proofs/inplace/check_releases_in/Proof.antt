@@ -12,9 +12,10 @@ use Rattle.sheet.proofs.Ranges.{legal-sheet-long}
 use Rattle.machine.specs.States.{legalState}
 use Rattle.machine.specs.Checks.{checkAt}
 use Rattle.machine.specs.Lists.{stateLong, stateIn}
-use Rattle.machine.proofs.Held.{legal-in-fits, kept-long}
-use Rattle.machine.proofs.Turns.{check-done}
-use Rattle.machine.proofs.Moves.{check-in-more, check-in-found}
+use Rattle.machine.proofs.LegalChecks.{legal-in-fits}
+use Rattle.machine.proofs.LegalLists.{kept-long}
+use Rattle.machine.proofs.ChecksInPlace.{check-done}
+use Rattle.machine.proofs.ChecksInPlace.{check-in-more, check-in-found}
 use Rattle.machine.proofs.inplace.check_releases_in.Statement.{statement}
 use Rattle.machine.proofs.inplace.check_releases_in.Tie as tie
 

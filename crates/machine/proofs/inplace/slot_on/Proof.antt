@@ -1,6 +1,6 @@
 -- `slot_on` meets its promise. Assumes nothing.
 use borrow.Author.Needs.{needs}
-use Rattle.machine.proofs.Moves.{slot-sheet, slot-state, slot-entries, slot-codes, slot-in-refused, slot-in-accepted}
+use Rattle.machine.proofs.SlotsInPlace.{slot-sheet, slot-state, slot-entries, slot-codes, slot-in-refused, slot-in-accepted}
 use Rattle.machine.proofs.inplace.slot_on.Statement.{statement}
 use Rattle.machine.proofs.inplace.slot_on.Tie as tie
 

@@ -13,9 +13,10 @@ use Rattle.machine.specs.States.{legalState}
 use Rattle.machine.specs.Slot.{free, next, code}
 use Rattle.machine.specs.Answers.{given}
 use Rattle.machine.specs.Lists.{stateLong, stateIn, putTo}
-use Rattle.machine.proofs.Held.{legal-in-fits, kept-long}
-use Rattle.machine.proofs.Stored.{put-none}
-use Rattle.machine.proofs.Moves.{all-free, free-moves, list-moves, codes-move, moves-done, codes-done}
+use Rattle.machine.proofs.LegalChecks.{legal-in-fits}
+use Rattle.machine.proofs.LegalLists.{kept-long}
+use Rattle.machine.proofs.RecordLists.{put-none}
+use Rattle.machine.proofs.SlotsInPlace.{all-free, free-moves, list-moves, codes-move, moves-done, codes-done}
 use Rattle.machine.proofs.inplace.step_rows.Statement.{statement}
 use Rattle.machine.proofs.inplace.step_rows.Tie as tie
 

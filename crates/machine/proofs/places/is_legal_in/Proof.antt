@@ -10,7 +10,7 @@ use Rattle.sheet.specs.Legal.{legal}
 use Rattle.sheet.specs.Lists.{sheetIn, sheetLong}
 use Rattle.sheet.proofs.Ranges.{legal-sheet-long}
 use Rattle.machine.specs.Lists.{stateLong}
-use Rattle.machine.proofs.Held.{legalIn, record-scaled, legal-in-short, legal-in-fits, legal-in-more, legal-in-fails, legal-in-done}
+use Rattle.machine.proofs.LegalChecks.{legalIn, record-scaled, legal-in-short, legal-in-fits, legal-in-more, legal-in-fails, legal-in-done}
 use Rattle.machine.proofs.places.is_legal_in.Statement.{statement}
 use Rattle.machine.proofs.places.is_legal_in.Tie as tie
 

@@ -6,7 +6,7 @@ use mathlib.Core.Bool.{true}
 use lib.ListN.{length}
 use Rattle.basis.specs.Words.{allOf}
 use Rattle.machine.specs.Lists.{zeroAt}
-use Rattle.machine.proofs.Held.{zero-none, zero-fails, zero-fails-here, zero-fails-next, zero-two, zero-last, zero-done}
+use Rattle.machine.proofs.Zeros.{zero-none, zero-fails, zero-fails-here, zero-fails-next, zero-two, zero-last, zero-done}
 use Rattle.machine.proofs.places.is_zero_from.Statement.{statement}
 use Rattle.machine.proofs.places.is_zero_from.Tie as tie
 

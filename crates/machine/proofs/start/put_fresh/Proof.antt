@@ -8,10 +8,10 @@ use Rattle.sheet.specs.Lists.{sheetIn, sheetLong}
 use Rattle.sheet.proofs.Ranges.{legal-sheet-long}
 use Rattle.machine.specs.States.{freshAt}
 use Rattle.machine.specs.Lists.{stateLong, putTo}
-use Rattle.machine.proofs.Held.{legal-in-fits}
-use Rattle.machine.proofs.Stored.{put-none}
-use Rattle.machine.proofs.Moves.{moves-done}
-use Rattle.machine.proofs.Begins.{fresh-more}
+use Rattle.machine.proofs.LegalChecks.{legal-in-fits}
+use Rattle.machine.proofs.RecordLists.{put-none}
+use Rattle.machine.proofs.SlotsInPlace.{moves-done}
+use Rattle.machine.proofs.FreshLists.{fresh-more}
 use Rattle.machine.proofs.start.put_fresh.Statement.{statement}
 use Rattle.machine.proofs.start.put_fresh.Tie as tie
 

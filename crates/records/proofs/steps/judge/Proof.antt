@@ -1,23 +1,18 @@
 -- `judge` meets its promise. Assumes nothing.
 use Rattle.basis.proofs.Tests.{tests}
-use Rattle.records.specs.Methods.{judged}
 use Rattle.records.proofs.steps.judge.Statement.{statement}
 use Rattle.records.proofs.steps.judge.Tie as tie
 
 returns : tie.Need-returns
-unfolding judged
 returns c = search tests
 
 returns-2 : tie.Need-returns-2
-unfolding judged
 returns-2 c = search tests
 
 returns-3 : tie.Need-returns-3
-unfolding judged
 returns-3 c = search tests
 
 returns-4 : tie.Need-returns-4
-unfolding judged
 returns-4 c = search tests
 
 pub judge-spec : {M : Type 1} → statement M

@@ -7,9 +7,9 @@ use Rattle.basis.specs.Limits.{mostRows}
 use Rattle.sheet.proofs.Cells.{unmapped}
 use Rattle.machine.specs.States.{recordAt}
 use Rattle.machine.specs.Lists.{stateLong, putTo}
-use Rattle.machine.proofs.Stored.{put-none}
+use Rattle.machine.proofs.RecordLists.{put-none}
 use Rattle.states.specs.Values.{held}
-use Rattle.states.proofs.Listing.{list-more, both-stored, state-in-list}
+use Rattle.states.proofs.ValueLists.{list-more, both-stored, state-in-list}
 use Rattle.states.proofs.lists.state_list.Statement.{statement}
 use Rattle.states.proofs.lists.state_list.Tie as tie
 

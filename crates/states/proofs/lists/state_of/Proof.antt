@@ -6,7 +6,7 @@ use lib.ListN.{length}
 use Rattle.basis.specs.Limits.{mostRows}
 use Rattle.basis.specs.Upto.{upto}
 use Rattle.machine.specs.Lists.{stateLong, recordIn}
-use Rattle.states.proofs.Listing.{records-more, records-done}
+use Rattle.states.proofs.ValueLists.{records-more, records-done}
 use Rattle.states.proofs.lists.state_of.Statement.{statement}
 use Rattle.states.proofs.lists.state_of.Tie as tie
 

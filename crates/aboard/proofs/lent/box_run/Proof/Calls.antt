@@ -37,7 +37,7 @@ use Rattle.sheet.specs.declared.row.Sheet.{Sheet}
 use Rattle.sheet.proofs.row.Sheet as Sh
 use Rattle.sheet.proofs.row.Sheet.Laws as Sh′
 use Rattle.aboard.specs.declared.lent.Begun.{Begun}
-use Rattle.aboard.specs.Lent.{begun, beginning}
+use Rattle.aboard.specs.Lent.{beginningOf, beginning}
 use Rattle.aboard.proofs.lent.Begun as Be
 use Rattle.aboard.proofs.lent.begin as begin
 use Rattle.aboard.proofs.lent.entries as entries
@@ -85,8 +85,8 @@ module _ {M : Type 1} (𝓤 : URA M) (H : Heap 𝓤) (A : Atoms 𝓤) (W : Given
       qed W ((‵ (flft κ₁ q₁) ⊛ ‵ ftrue) ∷ ‵ (releasesOwn κ₁ rel) ∷ []) ∵ nothing ! $ owned ! usize (Is usize) (uint-makes 𝓤 H A W w64) m _ (refl, fits) $ fjoin ! $ move ! (2 ∷ 0 ∷ []) $ fjoin ! $
       owned ! Sh.the-row (Is Sh.the-row) (LL.makes Sh.the-type Sh′.the-plain 𝓤 H A) h _ g $ fjoin ! $ move ! (1 ∷ 0 ∷ []) $ join ! $ frame ! $ done !
 
-  pub gives-begin : (m : ℕ) (w : Val) → ent 𝓤 (Begin 𝓤 H A mem run .post (to-begin m) w) (H .⇛ (ex 𝓤 (λ (r : Begun). guard 𝓤 (begun r ≡ beginning h (rel .now) m) (sep 𝓤 token (sem 𝓤 H A (Be.the-row .own r (w ∷ [])))))))
-  gives-begin m w = answers-only 𝓤 H A W token (λ r. sem 𝓤 H A (Be.the-row .own r (w ∷ []))) (lasts begin.ended (κ₁, tt) (h, (rel, (m, tt)))) (λ r. begun r ≡ beginning h (rel .now) m)
+  pub gives-begin : (m : ℕ) (w : Val) → ent 𝓤 (Begin 𝓤 H A mem run .post (to-begin m) w) (H .⇛ (ex 𝓤 (λ (r : Begun). guard 𝓤 (beginningOf r ≡ beginning h (rel .now) m) (sep 𝓤 token (sem 𝓤 H A (Be.the-row .own r (w ∷ [])))))))
+  gives-begin m w = answers-only 𝓤 H A W token (λ r. sem 𝓤 H A (Be.the-row .own r (w ∷ []))) (lasts begin.ended (κ₁, tt) (h, (rel, (m, tt)))) (λ r. beginningOf r ≡ beginning h (rel .now) m)
 
   -- `entries`
   abbrev pub to-entries : ℕ → ℕ → Entries 𝓤 H A mem run .Ghost

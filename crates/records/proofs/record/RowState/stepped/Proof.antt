@@ -1,6 +1,6 @@
 -- `stepped` meets its promise. Assumes nothing.
 use borrow.Author.Needs.{needs}
-use Rattle.records.proofs.Stepped.{stepped-is}
+use Rattle.records.proofs.RowSlots.{stepped-is}
 use Rattle.records.proofs.record.RowState.stepped.Statement.{statement}
 use Rattle.records.proofs.record.RowState.stepped.Tie as tie
 

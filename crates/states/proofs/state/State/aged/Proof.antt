@@ -7,7 +7,7 @@ use Rattle.basis.specs.Limits.{mostRows}
 use Rattle.basis.specs.Upto.{upto}
 use Rattle.states.specs.Values.{held}
 use Rattle.states.specs.Methods.{agedRecord, agedCode}
-use Rattle.states.proofs.Turns.{aged-rows, aged-codes, aged-done, aged-codes-done}
+use Rattle.states.proofs.StepLoops.{aged-rows, aged-codes, aged-done, aged-codes-done}
 use Rattle.states.proofs.state.State.aged.Statement.{statement}
 use Rattle.states.proofs.state.State.aged.Tie as tie
 

@@ -1,7 +1,7 @@
 -- `next` meets its promise: releases, placement and ageing one after another are the slot. Assumes nothing.
 use borrow.Author.Needs.{needs}
 use Rattle.sheet.proofs.Cells.{unmapped}
-use Rattle.states.proofs.Whole.{next-state, next-codes}
+use Rattle.states.proofs.StepsTogether.{next-state, next-codes}
 use Rattle.states.proofs.state.State.next.Statement.{statement}
 use Rattle.states.proofs.state.State.next.Tie as tie
 

@@ -10,7 +10,7 @@ use Rattle.machine.specs.States.{recordAt}
 use Rattle.machine.specs.Slot.{freeAt}
 use Rattle.states.specs.Values.{held}
 use Rattle.states.specs.Methods.{placedRecord, placedCode}
-use Rattle.states.proofs.Turns.{placed-free, placed-rows, placed-codes, placed-done, placed-codes-done}
+use Rattle.states.proofs.StepLoops.{placed-free, placed-rows, placed-codes, placed-done, placed-codes-done}
 use Rattle.states.proofs.state.State.placed.Statement.{statement}
 use Rattle.states.proofs.state.State.placed.Tie as tie
 

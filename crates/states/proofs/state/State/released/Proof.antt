@@ -7,7 +7,7 @@ use Rattle.basis.specs.Limits.{mostRows}
 use Rattle.basis.specs.Upto.{upto}
 use Rattle.states.specs.Values.{held}
 use Rattle.states.specs.Methods.{releasedAt}
-use Rattle.states.proofs.Turns.{released-more, released-done}
+use Rattle.states.proofs.StepLoops.{released-more, released-done}
 use Rattle.states.proofs.state.State.released.Statement.{statement}
 use Rattle.states.proofs.state.State.released.Tie as tie
 

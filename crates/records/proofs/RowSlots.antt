@@ -2,31 +2,17 @@
 -- Assumes nothing.
 use Prim.Native.Nat.{ℕ}
 use mathlib.Core.Path.{_≡_, refl, ap, _∙_}
-use mathlib.Core.Bool.{Bool, true, false}
-use lib.Dec.{eqb}
-use Rattle.basis.specs.Words.{pick, both}
 use Rattle.sheet.specs.declared.row.Row.{Row}
 use Rattle.records.specs.declared.record.RowState.{RowState}
 use Rattle.records.specs.declared.steps.Placed.{Placed}
 use Rattle.records.specs.declared.steps.Aged.{Aged}
-use Rattle.records.specs.Records.{hasJob}
-use Rattle.records.specs.Steps.{released, fits, worked, older, aged, missed, codeOf}
-use Rattle.records.specs.Methods.{placedRow, judged, agedRow, begunRow, steppedRow}
-
--- the code that placing and then ageing give, by the tests that they make: j a job, r it ran, w something is left, d at the deadline
-code-by-tests : (j r w d : Bool)
-    → _≡_ {A = ℕ} (pick (eqb (pick j (pick r 2 1) 0) 0) 0 (pick w (pick d 4 (pick j (pick r 2 1) 0)) 3)) (pick j (pick w (pick (both w d) 4 (pick r 2 1)) 3) 0)
-code-by-tests true true true d = refl
-code-by-tests true true false d = refl
-code-by-tests true false true d = refl
-code-by-tests true false false d = refl
-code-by-tests false r w d = refl
+use Rattle.records.specs.Steps.{released, fits, worked, aged, codeOf}
+use Rattle.records.specs.Methods.{placedRow, agedRow, begunRow, steppedRow}
 
 -- the code of a row that is placed and then aged
 pub row-code : (free : ℕ) (row : Row) (s : RowState) → agedRow row (worked (fits free row s) s) (placedRow row s free .code) .code ≡ codeOf row (fits free row s) s (aged row (worked (fits free row s) s))
-unfolding agedRow judged placedRow codeOf missed aged
-row-code free row s =
-    code-by-tests (hasJob s) (fits free row s) (hasJob (worked (fits free row s) s)) (eqb (older (row .separation) (worked (fits free row s) s .since)) (row .deadline))
+unfolding agedRow placedRow codeOf aged
+row-code free row s = refl
 
 -- `stepped`
 module _ (row : Row) (s b : RowState) (release f : ℕ) (eb : b ≡ released release s) (p : Placed) (ep : p ≡ placedRow row b f) (a : Aged) (ea : a ≡ agedRow row (p .after) (p .code)) where

@@ -22,10 +22,10 @@ use Rattle.states.specs.Values.{held}
 use Rattle.machine.specs.declared.places.Done.{Done}
 use Rattle.records.specs.Records.{noRecord}
 use Rattle.machine.specs.Lists.{recordWide, recordIn, stateLong, stateIn, putRecord, putTo, freshOn, runIn, ranIn}
-use Rattle.machine.proofs.Stored.{put-more, state-put, spare-of-full, state-rows-long}
+use Rattle.machine.proofs.RecordLists.{put-more, state-put, spare-of-full, state-rows-long}
 use Rattle.machine.specs.Checks.{checkSlot, checkRun}
-use Rattle.machine.specs.Answers.{FreshAnswer, freshAnswer, runAnswer, fresh, run, Told, margin}
-use Rattle.machine.proofs.Handed.{fresh-of-zeros, run-listed-back}
+use Rattle.machine.specs.Answers.{FreshAnswer, freshAnswer, runAnswer, fresh, run, MarginAnswer, margin}
+use Rattle.machine.proofs.StatesAfter.{fresh-of-zeros, run-listed-back}
 
 -- `listed`
 pub sheet-in-list : (h : Sheet) (l l₀ : List ℕ) → l ≡ filled (sheetCell h) l₀ → length (h .rows) ≡ mostRows → sheetLong mostRows ≤ length l₀ → sheetIn l ≡ h
@@ -47,7 +47,7 @@ module _ (h : Sheet) (s : List ℕ) (eh : sheetIn s ≡ h) where
     run-by-list rel cs r l′ ds f u eu =
         ap (λ (x : State). ranIn r x ds) eu ∙ run-listed-back (sheetIn s) l rel cs r l′ ds f ∙ ap₂ (λ (g : Sheet) (x : State). run g x rel cs) eh et
 
-    pub margin-by-list : (k : ℕ) (x : Told) → x ≡ margin (sheetIn s) (stateIn l) k → x ≡ margin h t k
+    pub margin-by-list : (k : ℕ) (x : MarginAnswer) → x ≡ margin (sheetIn s) (stateIn l) k → x ≡ margin h t k
     margin-by-list k x f = f ∙ ap₂ (λ (g : Sheet) (y : State). margin g y k) eh et
 
     pub slot-check-by-list : (rel : List ℕ) (room : ℕ) (x : Outcome) → x ≡ checkSlot (sheetIn s) (stateIn l) rel room → x ≡ checkSlot h t rel room

@@ -24,7 +24,7 @@ use Rattle.records.specs.Records.{noRecord}
 use Rattle.machine.specs.States.{noState, recordAt, freshAt, freshState}
 use Rattle.machine.specs.Answers.{freshAnswer, fresh}
 use Rattle.machine.specs.Lists.{recordWide, stateLong, putRecord, putTo, putState, cleared, freshOn}
-use Rattle.machine.proofs.Stored.{put-more, put-agree}
+use Rattle.machine.proofs.RecordLists.{put-more, put-agree}
 
 -- the fresh records are those of the fresh state
 pub fresh-put : (h : Sheet) (l : List ℕ) → legal h ≡ true → putTo (h .count) (freshAt h) l ≡ putState (h .count) (freshState h) l

@@ -15,9 +15,9 @@ use Rattle.sheet.specs.declared.row.Sheet.{Sheet}
 use Rattle.bound.specs.Bound.{boundsOf}
 use Rattle.bound.specs.Lists.{resultsLong}
 use Rattle.machine.specs.Checks.{checkSlot, checkRun}
-use Rattle.machine.specs.Answers.{RunAnswer, runAnswer, Told, no-job, margin-is, refused-by, fresh, nextState, nextCodes, slotBy, slot, course, run, margin}
+use Rattle.machine.specs.Answers.{RunAnswer, runAnswer, MarginAnswer, no-job, margin-is, refused-by, fresh, nextState, nextCodes, slotBy, slot, course, run, margin}
 use Rattle.machine.specs.States.{State}
-use Rattle.machine.proofs.Done.{Ends, all-done, stopped-at, run-ends, run-not-begun}
+use Rattle.machine.proofs.SlotsDone.{Ends, all-done, stopped-at, run-ends, run-not-begun}
 use Rattle.dashboard.specs.Texts.{verdictText}
 use Rattle.sheet.specs.Legal.{legal}
 use Rattle.sheet.specs.Lists.{sheetIn, sheetLong}
@@ -98,7 +98,7 @@ pub refused-margin-changes-nothing : (s list : List ℕ) (row : ℕ) (lent : ℕ
 unfolding marginIn marginGiven
 refused-margin-changes-nothing s list row lent n = go (margin (sheetIn s) (stateIn list) row) n
   where
-    go : (m : Told) → (marginGiven m lent .0 .0 ≡ 0 → ⊥) → marginGiven m lent .1 ≡ lent
+    go : (m : MarginAnswer) → (marginGiven m lent .0 .0 ≡ 0 → ⊥) → marginGiven m lent .1 ≡ lent
     go no-job f = absurd (f refl)
     go (margin-is d) f = absurd (f refl)
     go (refused-by number place) f = refl

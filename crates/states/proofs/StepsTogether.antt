@@ -19,7 +19,7 @@ use Rattle.machine.specs.Slot.{begun, free, runs, next, code}
 use Rattle.machine.specs.Answers.{given, nextState, nextCodes}
 use Rattle.states.specs.Methods.{releasedAt, releasedState, placedAt, placedRecord, placedCode, placedState, placedCodes, agedAt, agedRecord, agedCode, agedState, agedCodes}
 use Rattle.records.specs.Methods.{placedRow, agedRow}
-use Rattle.records.proofs.Stepped.{row-code}
+use Rattle.records.proofs.RowSlots.{row-code}
 use Rattle.machine.proofs.Placement.{free-agrees}
 
 -- after releases, after placement, and the codes so far
@@ -32,10 +32,10 @@ workedState h t rel = placedState h (begunState h t rel)
 abbrev codesSoFar : Sheet → State → List ℕ → List ℕ → List ℕ
 codesSoFar h t rel cs = placedCodes h (begunState h t rel) cs
 
-module _ (h : Sheet) (t : State) (rel cs : List ℕ) (held : h .count ≤ length (t .rows)) (room : h .count ≤ length cs) where
+module _ (h : Sheet) (t : State) (rel cs : List ℕ) (long : h .count ≤ length (t .rows)) (room : h .count ≤ length cs) where
   u-at : (k : ℕ) → k < h .count → recordAt (begunState h t rel) k ≡ begun (given h t rel) k
   unfolding releasedState given
-  u-at k l = upto-below (h .count) (releasedAt t rel) (t .rows) noRecord k l held
+  u-at k l = upto-below (h .count) (releasedAt t rel) (t .rows) noRecord k l long
 
   placed-at : (k : ℕ) → k < h .count → placedAt h (begunState h t rel) k ≡ placedRow (rowAt h k) (begun (given h t rel) k) (free (given h t rel) k)
   unfolding given
@@ -44,7 +44,7 @@ module _ (h : Sheet) (t : State) (rel cs : List ℕ) (held : h .count ≤ length
   v-at : (k : ℕ) → k < h .count → recordAt (workedState h t rel) k ≡ worked (runs (given h t rel) k) (begun (given h t rel) k)
   unfolding placedState releasedState given placedRow
   v-at k l =
-      upto-below (h .count) (placedRecord h (begunState h t rel)) (begunState h t rel .rows) noRecord k l (rw length-upto held)
+      upto-below (h .count) (placedRecord h (begunState h t rel)) (begunState h t rel .rows) noRecord k l (rw length-upto long)
       ∙ ap (λ (x : Placed). x .after) (placed-at k l)
 
   ds-at : (k : ℕ) → k < h .count → getD (codesSoFar h t rel cs) k 0 ≡ placedRow (rowAt h k) (begun (given h t rel) k) (free (given h t rel) k) .code
@@ -59,8 +59,8 @@ module _ (h : Sheet) (t : State) (rel cs : List ℕ) (held : h .count ≤ length
   state-is =
       ap stateOf
       (upto-agree (h .count) (agedRecord h (workedState h t rel) (codesSoFar h t rel cs)) (next (given h t rel)) (workedState h t rel .rows) (λ k l. ap (λ (x : Aged). x .after) (aged-at k l))
-      ∙ upto-over (h .count) (h .count) (next (given h t rel)) (placedRecord h (begunState h t rel)) (begunState h t rel .rows) noRecord (le-refl (h .count)) (rw length-upto held)
-      ∙ upto-over (h .count) (h .count) (next (given h t rel)) (releasedAt t rel) (t .rows) noRecord (le-refl (h .count)) held)
+      ∙ upto-over (h .count) (h .count) (next (given h t rel)) (placedRecord h (begunState h t rel)) (begunState h t rel .rows) noRecord (le-refl (h .count)) (rw length-upto long)
+      ∙ upto-over (h .count) (h .count) (next (given h t rel)) (releasedAt t rel) (t .rows) noRecord (le-refl (h .count)) long)
 
   codes-are : agedCodes h (workedState h t rel) (codesSoFar h t rel cs) ≡ nextCodes h t rel cs
   unfolding agedCodes placedCodes nextCodes given
@@ -70,7 +70,7 @@ module _ (h : Sheet) (t : State) (rel cs : List ℕ) (held : h .count ≤ length
       ∙ upto-over (h .count) (h .count) (code (given h t rel)) (placedCode h (begunState h t rel)) cs 0 (le-refl (h .count)) room
 
 -- what the three methods give, one after another
-module _ (h : Sheet) (t : State) (rel cs : List ℕ) (u v : State) (ds : List ℕ) (held : length (t .rows) ≡ mostRows) (some : h .count ≤ mostRows) (room : h .count ≤ length cs)
+module _ (h : Sheet) (t : State) (rel cs : List ℕ) (u v : State) (ds : List ℕ) (long : length (t .rows) ≡ mostRows) (some : h .count ≤ mostRows) (room : h .count ≤ length cs)
     (eu : u ≡ releasedState h t rel) (ev : v ≡ placedState h u) (ed : ds ≡ placedCodes h u cs) where
   pub next-state : (w : State) → w ≡ agedState h v ds → w ≡ nextState h t rel
   next-state w ew = let same : agedState h v ds ≡ agedState h (workedState h t rel) (codesSoFar h t rel cs) = cc in ew ∙ same ∙ state-is h t rel cs (omega arith) room

@@ -25,7 +25,7 @@ use Rattle.records.specs.Records.{noRecord, legalRecord}
 use Rattle.machine.specs.Slot.{next, code}
 use Rattle.records.specs.Checks.{checkRow}
 use Rattle.machine.specs.Checks.{checkAt, checkReleases, checkState, checkRoom, checkSlot, checkRun, checkMargin}
-use Rattle.machine.specs.Answers.{SlotAnswer, RunAnswer, freshAnswer, slotAnswer, runAnswer, fresh, given, nextState, nextCodes, slotBy, slot, entriesOf, slotAt, onward, course, run, Told, marginAt, marginBy, margin}
+use Rattle.machine.specs.Answers.{SlotAnswer, RunAnswer, freshAnswer, slotAnswer, runAnswer, fresh, given, nextState, nextCodes, slotBy, slot, entriesOf, slotAt, onward, course, run, MarginAnswer, marginAt, marginBy, margin}
 use Rattle.machine.proofs.Courses.{followed}
 use Rattle.machine.proofs.Agree.{AgreeTo, next-agrees, code-agrees}
 use Rattle.basis.proofs.Upto.{upto-agree}
@@ -37,7 +37,7 @@ pub record Alike (h h′ : Sheet) : Type 0 where
   pub rows : (i : ℕ) → i < h .count → rowAt h i ≡ rowAt h′ i
 
 -- the margin of a row that is not there
-past-told : (o : Outcome) (x y : Told) → marginBy (orElse o (refused 14 0)) x ≡ marginBy (orElse o (refused 14 0)) y
+past-told : (o : Outcome) (x y : MarginAnswer) → marginBy (orElse o (refused 14 0)) x ≡ marginBy (orElse o (refused 14 0)) y
 past-told accepted x y = refl
 past-told (refused a b) x y = refl
 

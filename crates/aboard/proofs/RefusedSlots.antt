@@ -9,7 +9,7 @@ use Rattle.states.specs.declared.state.State.{State}
 use Rattle.states.specs.Values.{held}
 use Rattle.states.proofs.Same.{held-one-to-one}
 use Rattle.machine.specs.Answers.{slot}
-use Rattle.machine.proofs.Answered.{refused-as-found}
+use Rattle.machine.proofs.Answers.{refused-as-found}
 use Rattle.aboard.specs.Lent.{slottedIn}
 
 pub refused-leaves-all-as-found : (h : Sheet) (t : State) (rel cs : List ℕ) (a b : ℕ) (u : State) (ds : List ℕ) → slottedIn (Refused a b) u ds ≡ slot h (held t) rel cs → (u ≡ t) × (ds ≡ cs)

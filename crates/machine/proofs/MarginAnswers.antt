@@ -24,12 +24,12 @@ use Rattle.sheet.proofs.Legality.{legal-is}
 use Rattle.records.specs.declared.record.RowState.{RowState}
 use Rattle.machine.specs.States.{State, recordAt, legalState}
 use Rattle.machine.specs.Checks.{checkState, checkMargin}
-use Rattle.machine.specs.Answers.{Told, no-job, margin-is, refused-by, marginOf, marginAt, margin}
+use Rattle.machine.specs.Answers.{MarginAnswer, no-job, margin-is, refused-by, marginOf, marginAt, margin}
 use Rattle.machine.specs.Lists.{recordIn, stateLong, stateIn}
 use Rattle.sheet.specs.Lists.{sheetIn, sheetLong}
 use Rattle.sheet.proofs.Ranges.{legal-sheet-long}
-use Rattle.machine.proofs.Held.{kept-long, kept-record}
-use Rattle.machine.proofs.Checked.{ready}
+use Rattle.machine.proofs.LegalLists.{kept-long, kept-record}
+use Rattle.machine.proofs.Checks.{ready}
 use Rattle.machine.proofs.Differences.{themselves, difference-fits, less-twice}
 use Rattle.machine.proofs.Legals.{LegalRecord, legal-state-is}
 
@@ -80,7 +80,7 @@ module _ (h : Sheet) (t : State) (k : ℕ) (c : Refusal) (e : outcome c ≡ chec
     pub small-remaining : recordAt t k .remaining ≤ mostSeparation
     small-remaining = omega (arith, row-is .most-budget, row-is .most-deadline, row-is .most-separation, record-is .most-remaining)
 
-    pub margin-is-told : (row : Row) → row ≡ rowAt h k → (a : Told) → a ≡ marginAt row (recordAt t k) → a ≡ margin h t k
+    pub margin-is-told : (row : Row) → row ≡ rowAt h k → (a : MarginAnswer) → a ≡ marginAt row (recordAt t k) → a ≡ margin h t k
     unfolding margin
     margin-is-told row er a g = rw (sym e ∙ ap outcome f) (g ∙ ap (λ (r : Row). marginAt r (recordAt t k)) er)
 
@@ -108,5 +108,5 @@ module _ (s l : List ℕ) (k : ℕ) (c : Refusal) (e : outcome c ≡ checkMargin
     pub listed-remaining : x .remaining ≤ mostSeparation
     listed-remaining = rw is-record (small-remaining (sheetIn s) (stateIn l) k c e f)
 
-    pub listed-margin : (row : Row) → row ≡ rowAt (sheetIn s) k → (a : Told) → a ≡ marginAt row x → a ≡ margin (sheetIn s) (stateIn l) k
+    pub listed-margin : (row : Row) → row ≡ rowAt (sheetIn s) k → (a : MarginAnswer) → a ≡ marginAt row x → a ≡ margin (sheetIn s) (stateIn l) k
     listed-margin row er a g = margin-is-told (sheetIn s) (stateIn l) k c e f row er a (g ∙ ap (marginAt row) is-record)

@@ -19,9 +19,9 @@ use Rattle.aboard.specs.declared.lent.Begun.{Begun}
 use Rattle.machine.specs.Checks.{checkRun}
 use Rattle.states.specs.Values.{held, started}
 use Rattle.machine.specs.Answers.{FreshAnswer, SlotAnswer, RunAnswer, slotAnswer, runAnswer, fresh, slot, entriesOf, slotAt, course, run}
-use Rattle.aboard.specs.Lent.{slottedIn, begun, beginning}
-use Rattle.machine.proofs.Answered.{run-list, run-buffer}
-use Rattle.machine.proofs.Done.{run-not-begun}
+use Rattle.aboard.specs.Lent.{slottedIn, beginningOf, beginning}
+use Rattle.machine.proofs.Answers.{run-list, run-buffer}
+use Rattle.machine.proofs.SlotsDone.{run-not-begun}
 use Rattle.machine.proofs.Courses.{room-for, goes-on, stops}
 
 -- n entries from a place on
@@ -48,11 +48,11 @@ pub record Begins (h : Sheet) (rel cs : List ℕ) (b : Begun) : Type 0 where
   pub going : 0 < b .slots → outcome (b .refusal) ≡ accepted
   pub whole : course h rel (runAnswer 0 (outcome (b .refusal)) (held (b .state)) cs) (b .slots) ≡ run h (fresh h .state) rel cs
 
-pub begins : (h : Sheet) (rel cs : List ℕ) (b : Begun) → begun b ≡ beginning h rel (length cs) → Begins h rel cs b
+pub begins : (h : Sheet) (rel cs : List ℕ) (b : Begun) → beginningOf b ≡ beginning h rel (length cs) → Begins h rel cs b
 unfolding beginning run course
 begins h rel cs b e = go (checkRun h (fresh h .state) rel (length cs)) refl e
   where
-    go : (o : Outcome) → o ≡ checkRun h (fresh h .state) rel (length cs) → begun b ≡ (handed o (length rel / h .count) 0, fresh h .state) → Begins h rel cs b
+    go : (o : Outcome) → o ≡ checkRun h (fresh h .state) rel (length cs) → beginningOf b ≡ (handed o (length rel / h .count) 0, fresh h .state) → Begins h rel cs b
     go accepted f g =
         let slots : length rel / h .count ≡ b .slots = sym (ap (λ x. x .0 .1) g) in
         record {

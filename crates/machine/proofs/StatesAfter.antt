@@ -27,14 +27,15 @@ use Rattle.machine.specs.declared.places.Done.{Done}
 use Rattle.machine.specs.Checks.{checkSlot, checkRun}
 use Rattle.machine.specs.Answers.{RunAnswer, freshAnswer, runAnswer, fresh, nextState, nextCodes, slotBy, slot, run}
 use Rattle.machine.specs.Lists.{stateLong, stateIn, putState, cleared, freshOn, slotListed, slotIn, runIn, ranIn}
-use Rattle.machine.proofs.Checked.{Ready}
-use Rattle.machine.proofs.Answered.{slot-shows, run-in-order-shows}
-use Rattle.machine.proofs.Done.{run-not-begun}
-use Rattle.machine.proofs.Laws.{run-keeps-legal, run-keeps-long}
-use Rattle.machine.proofs.Held.{kept-spare, past-is-zero, state-comes-back}
-use Rattle.machine.proofs.Stored.{put-past, state-rows-long, state-put, zeros-spare, zeros-state, cleared-none}
-use Rattle.machine.proofs.Begins.{fresh-put}
-use Rattle.machine.proofs.Moves.{moved-back, course-none}
+use Rattle.machine.proofs.Checks.{Ready}
+use Rattle.machine.proofs.Answers.{slot-shows, run-in-order-shows}
+use Rattle.machine.proofs.SlotsDone.{run-not-begun}
+use Rattle.machine.proofs.LegalRuns.{run-keeps-legal, run-keeps-long}
+use Rattle.machine.proofs.LegalLists.{kept-spare, past-is-zero, state-comes-back}
+use Rattle.machine.proofs.RecordLists.{put-past, state-rows-long, state-put, zeros-spare, zeros-state, cleared-none}
+use Rattle.machine.proofs.FreshLists.{fresh-put}
+use Rattle.machine.proofs.SlotsInPlace.{moved-back}
+use Rattle.machine.proofs.RunsInPlace.{course-none}
 
 -- the fresh state, written into a list with room for it
 written-fresh : (h : Sheet) (l : List ℕ) → legal h ≡ true → stateLong (h .count) ≤ length l → stateIn (putState (h .count) (freshState h) (cleared l)) ≡ freshState h

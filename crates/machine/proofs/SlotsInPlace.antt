@@ -1,18 +1,15 @@
 -- The slot in place: what each turn and each way out shows, in the words of its invariant and of what it calls.
 -- Assumes nothing.
-use Prim.Native.Nat.{ℕ, zero, suc, _+_, _*_, _-_, _/_, _≤_, _<_}
+use Prim.Native.Nat.{ℕ, _+_, _*_, _-_, _≤_, _<_}
 use mathlib.Core.Path.{_≡_, refl, sym, ap, ap₂, _∙_}
-use mathlib.Core.Bool.{Bool, true, false}
+use mathlib.Core.Bool.{true}
 use mathlib.Core.List.{List}
 use lib.ListN.{length, getD, set, take, drop}
-use lib.Dec.{eqb}
 use native.Mathlib.Omega.{arith}
 use native.Mathlib.Nat.{le-refl}
 use native.Mathlib.Numerals.{add-one}
-use borrow.Author.Tests.{eqb-true}
 use borrow.Rule.Slice.PartMut.{putMid}
-use Rattle.basis.specs.Words.{pick}
-use Rattle.basis.specs.Refusals.{Outcome, accepted, refused, outcome, isAccepted, firstOf}
+use Rattle.basis.specs.Refusals.{accepted, refused, outcome}
 use Rattle.basis.specs.declared.refusal.Refusal.{Refusal}
 use Rattle.basis.specs.declared.refusal.Refusal.the-variants.{Accepted, Refused}
 use Rattle.basis.specs.Upto.{upto}
@@ -24,38 +21,17 @@ use Rattle.sheet.proofs.Legality.{legal-is}
 use Rattle.records.specs.declared.record.RowState.{RowState}
 use Rattle.machine.specs.States.{State, stateOf, recordAt, legalState}
 use Rattle.records.specs.declared.steps.Placed.{Placed}
-use Rattle.machine.specs.declared.places.Done.{Done}
 use Rattle.machine.specs.Slot.{freeAt, free, next, code}
-use Rattle.records.specs.Checks.{checkRow}
-use Rattle.machine.specs.Checks.{checkAt, checkReleases, checkState, checkSlot, checkRun}
-use Rattle.machine.specs.Answers.{SlotAnswer, RunAnswer, slotAnswer, runAnswer, given, nextState, nextCodes, slot, entriesOf, slotAt, onward, course}
+use Rattle.machine.specs.Checks.{checkReleases, checkSlot}
+use Rattle.machine.specs.Answers.{SlotAnswer, slotAnswer, given, nextState, nextCodes, slotAt}
 use Rattle.records.specs.Methods.{begunRow, steppedRow}
-use Rattle.machine.specs.Lists.{recordIn, stateIn, putRecord, putTo, putState, slotListed, slotIn, runListed, runIn, ranIn}
-use Rattle.machine.proofs.Turns.{check-more, check-found}
-use Rattle.machine.proofs.Checked.{ready}
-use Rattle.machine.proofs.Answered.{Accepted-slot, slot-shows, slot-is-refused, slot-is-accepted, run-sheet, run-state, run-is-refused, run-is-done}
-use Rattle.machine.proofs.Courses.{followed, part-holds, rest-holds, slot-at-accepted}
-use Rattle.machine.proofs.Kept.{next-at, next-legal}
+use Rattle.machine.specs.Lists.{recordIn, stateIn, putRecord, putTo, putState, slotListed, slotIn}
+use Rattle.machine.proofs.Answers.{Accepted-slot, slot-shows, slot-is-refused, slot-is-accepted}
+use Rattle.machine.proofs.Courses.{part-holds, rest-holds, slot-at-accepted}
+use Rattle.machine.proofs.LegalSlots.{next-at, next-legal}
 use Rattle.machine.proofs.Legals.{legal-state-is, legal-state-says}
-use Rattle.machine.proofs.Held.{kept-spare, kept-long, kept-record, list-of-kept}
-use Rattle.machine.proofs.Stored.{put-record-past, put-more, put-agree, state-put}
-
--- `check_in`
-pub check-in-there : (h : Sheet) (l : List ℕ) (release k : ℕ) (row : Row) (s : RowState) → row ≡ rowAt h k → s ≡ recordIn l k → (o : Outcome) → o ≡ checkRow row s release k
-    → o ≡ checkRow (rowAt h k) (recordIn l k) release k
-check-in-there h l release k row s er es o e = e ∙ ap₂ (λ (r : Row) (x : RowState). checkRow r x release k) er es
-
--- `check_releases_in`
-module _ (h : Sheet) (l rel : List ℕ) (fine : legal h ≡ true) (kept : legalState h (stateIn l) ≡ true) (i : ℕ) (so-far : firstOf i (checkAt h (stateIn l) rel) ≡ accepted)
-    (n : ℕ) (en : n ≡ h .count) (below : i < n) (c : Refusal) (ec : outcome c ≡ checkRow (rowAt h i) (recordIn l i) (getD rel i 0) i) where
-  in-state : outcome c ≡ checkRow (rowAt h i) (recordAt (stateIn l) i) (getD rel i 0) i
-  in-state = ec ∙ ap (λ (s : RowState). checkRow (rowAt h i) s (getD rel i 0) i) (kept-record h l fine kept i (omega arith))
-
-  pub check-in-more : c ≡ Accepted → firstOf (i + 1) (checkAt h (stateIn l) rel) ≡ accepted
-  check-in-more e = check-more h (stateIn l) rel i so-far c in-state e
-
-  pub check-in-found : (a b : ℕ) → c ≡ Refused a b → refused a b ≡ checkReleases h (stateIn l) rel
-  check-in-found a b e = check-found h (stateIn l) rel i so-far n c a b en below in-state e
+use Rattle.machine.proofs.LegalLists.{kept-spare, kept-long, kept-record}
+use Rattle.machine.proofs.RecordLists.{put-record-past, put-more, put-agree, state-put}
 
 -- `step_row`
 pub row-stepped : (h : Sheet) (l : List ℕ) (k release f : ℕ) (row : Row) (s : RowState) (r : Placed) → row ≡ rowAt h k → s ≡ recordIn l k → r ≡ steppedRow row s release f
@@ -146,32 +122,6 @@ module _ (h : Sheet) (l rel cs : List ℕ) (j n : ℕ) (en : n ≡ h .count) (fi
     pub part-legal : legalState h (stateIn l′) ≡ true
     part-legal = moved-legal h l _ fine kept n en l′ moved (sym e ∙ ap outcome f)
 
--- `check_state_in`
-module _ (h : Sheet) (t : State) (fine : Bool) (e : fine ≡ legal h) where
-  pub in-10 : fine ≡ false → refused 10 0 ≡ checkState h t
-  unfolding checkState
-  in-10 f = rw (sym e ∙ f)
-
-  module _ (y : fine ≡ true) (also : Bool) (g : also ≡ legalState h t) where
-    pub in-16 : also ≡ false → refused 16 0 ≡ checkState h t
-    unfolding checkState
-    in-16 f = rw (sym e ∙ y, sym g ∙ f)
-
-    pub in-order : also ≡ true → accepted ≡ checkState h t
-    unfolding checkState
-    in-order f = rw (sym e ∙ y, sym g ∙ f)
-
-pub so-legal : (h : Sheet) (fine : Bool) → fine ≡ legal h → fine ≡ true → legal h ≡ true
-so-legal h fine e y = sym e ∙ y
-
--- what a check of the sheet and the state has shown
-module _ (h : Sheet) (t : State) (c : Refusal) (e : outcome c ≡ checkState h t) (f : c ≡ Accepted) where
-  pub checked-sheet : legal h ≡ true
-  checked-sheet = ready h t (sym e ∙ ap outcome f) .sheet-legal
-
-  pub checked-state : legalState h t ≡ true
-  checked-state = ready h t (sym e ∙ ap outcome f) .state-legal
-
 -- `slot_on`
 module _ (h : Sheet) (l rel cs : List ℕ) (c : Refusal) (e : outcome c ≡ checkSlot h (stateIn l) rel (length cs)) where
   pub slot-in-refused : (a b : ℕ) → c ≡ Refused a b → slotAnswer (refused a b) l cs ≡ slotIn h l rel cs
@@ -200,58 +150,3 @@ module _ (h : Sheet) (l rel cs : List ℕ) (c : Refusal) (e : outcome c ≡ chec
       slot-in-accepted l′ ds moved ed =
           ap (λ (x : List ℕ). slotAnswer accepted x ds) (moved-list h l rel slot-sheet slot-state n en l′ moved)
           ∙ ap (λ (x : SlotAnswer State). slotListed (h .count) x l) (slot-is-accepted h (stateIn l) rel cs c e f (nextState h (stateIn l) rel) ds refl ed)
-
--- a refused slot leaves the state as it was
-slot-kept : (h : Sheet) (t : State) (rel cs : List ℕ) (j a b : ℕ) → slotAt h t rel cs j .outcome ≡ refused a b → slotAt h t rel cs j .state ≡ t
-unfolding slotAt slot
-slot-kept h t rel cs j a b e = rw e
-
--- so a run that has done no slot has changed nothing
-pub course-none : (h : Sheet) (rel : List ℕ) (first : RunAnswer State) (j : ℕ) → course h rel first j .done ≡ 0 → course h rel first j .state ≡ first .state
-unfolding course onward
-course-none h rel first zero e = refl
-course-none h rel first (suc j) e = go (course h rel first j) (course-none h rel first j) e
-  where
-    go : (c : RunAnswer State) → (c .done ≡ 0 → c .state ≡ first .state) → onward h rel j c .done ≡ 0 → onward h rel j c .state ≡ first .state
-    go c so = by (isAccepted (c .outcome))
-      where
-        at : (o : Outcome) → slotAt h (c .state) rel (c .codes) j .outcome ≡ o → pick (isAccepted o) (c .done + 1) (c .done) ≡ 0 → slotAt h (c .state) rel (c .codes) j .state ≡ first .state
-        at accepted g z = absurd (omega arith)
-        at (refused a b) g z = slot-kept h (c .state) rel (c .codes) j a b g ∙ so z
-
-        by : (b : Bool) → pick b (followed (c .done) (slotAt h (c .state) rel (c .codes) j)) c .done ≡ 0 → pick b (followed (c .done) (slotAt h (c .state) rel (c .codes) j)) c .state ≡ first .state
-        by true = at (slotAt h (c .state) rel (c .codes) j .outcome) refl
-        by false = so
-
--- `run_on`
-module _ (h : Sheet) (l rel cs : List ℕ) (c : Refusal) (e : outcome c ≡ checkRun h (stateIn l) rel (length cs)) where
-  pub run-in-refused : (a b : ℕ) → c ≡ Refused a b → runAnswer 0 (refused a b) l cs ≡ runIn h l rel cs
-  unfolding runIn
-  run-in-refused a b f = ap (λ (x : RunAnswer State). runListed (h .count) x l) (run-is-refused h (stateIn l) rel cs c e a b f)
-
-  module _ (f : c ≡ Accepted) (n : ℕ) (en : n ≡ h .count) (r : Done) (l′ ds : List ℕ)
-      (er : ranIn r (stateIn l′) ds ≡ course h rel (runAnswer 0 accepted (stateIn l) cs) (length rel / n)) (kept′ : legalState h (stateIn l′) ≡ true) (long : length l′ ≡ length l) where
-    fine : legal h ≡ true
-    fine = run-sheet h (stateIn l) rel (length cs) c e f
-
-    kept : legalState h (stateIn l) ≡ true
-    kept = run-state h (stateIn l) rel (length cs) c e f
-
-    same-list : putState (h .count) (stateIn l′) l ≡ l′
-    same-list = list-of-kept h l′ l fine kept′ kept long
-
-    none-done : r .done ≡ 0 → l′ ≡ l
-    none-done z =
-        let u : stateIn l′ ≡ stateIn l =
-        ap (λ (x : RunAnswer State). x .state) er ∙ course-none h rel (runAnswer 0 accepted (stateIn l) cs) (length rel / n) (sym (ap (λ (x : RunAnswer State). x .done) er) ∙ z) in
-        sym same-list ∙ ap (λ (t : State). putState (h .count) t l) u ∙ list-of-kept h l l fine kept kept refl
-
-    picked : (b : Bool) → eqb (r .done) 0 ≡ b → l′ ≡ pick b l (putState (h .count) (stateIn l′) l)
-    picked true g = none-done (eqb-true (r .done) 0 g)
-    picked false g = sym same-list
-
-    pub run-in-done : ranIn r l′ ds ≡ runIn h l rel cs
-    unfolding runIn
-    run-in-done =
-        ap (λ (x : List ℕ). ranIn r x ds) (picked (eqb (r .done) 0) refl)
-        ∙ ap (λ (x : RunAnswer State). runListed (h .count) x l) (run-is-done h (stateIn l) rel cs c e f n en (ranIn r (stateIn l′) ds) er)

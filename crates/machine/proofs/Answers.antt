@@ -20,7 +20,7 @@ use Rattle.sheet.specs.declared.row.Sheet.{Sheet}
 use Rattle.machine.specs.States.{State, legalState}
 use Rattle.machine.specs.Checks.{checkReleases, checkState, checkRoom, checkSlot, checkRun}
 use Rattle.machine.specs.Answers.{SlotAnswer, RunAnswer, slotAnswer, runAnswer, nextState, nextCodes, slot, course, run}
-use Rattle.machine.proofs.Checked.{Ready, ready}
+use Rattle.machine.proofs.Checks.{Ready, ready}
 use Rattle.machine.proofs.Courses.{stopped}
 
 -- what an accepted slot's checks have shown
