@@ -1,5 +1,4 @@
-pub mod BoxLoop
-pub mod Lending
 pub mod RefusedSlots
 pub mod Same
 pub mod Wrong
+pub mod Inside

@@ -1,10 +1,6 @@
 -- Wrong rules for a lent state and for the box's own loop are shut out: on sheet C no answer with the fault meets the promise.
 -- Assumes nothing.
-use Prim.Native.Nat.{ℕ}
-use mathlib.Core.Path.{refl}
-use mathlib.Core.List.{List, [], _∷_}
-use native.Mathlib.Omega.{arith}
-use lib.ListN.{getD}
+use Rattle.basis.specs.Prelude.{ℕ, refl, List, [], _∷_, arith, getD}
 use Rattle.basis.specs.Words.{allOf}
 use Rattle.basis.specs.Refusals.{firstOf}
 use Rattle.basis.specs.Upto.{upto}

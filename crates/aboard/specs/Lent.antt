@@ -1,7 +1,5 @@
 -- What a call with a lent state answers, with the state and the code buffer after it.
-use Prim.Native.Nat.{ℕ, _/_}
-use mathlib.Core.List.{List}
-use lib.ListN.{length}
+use Rattle.basis.specs.Prelude.{ℕ, _/_, List, length}
 use Rattle.basis.specs.Refusals.{Outcome, outcome, handed}
 use Rattle.basis.specs.declared.refusal.Refusal.{Refusal}
 use Rattle.sheet.specs.declared.row.Sheet.{Sheet}

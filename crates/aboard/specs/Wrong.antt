@@ -1,6 +1,5 @@
 -- Wrong rules for a lent state and for the box's own loop, each right but for one thing.
-use Prim.Native.Nat.{ℕ}
-use mathlib.Core.List.{List}
+use Rattle.basis.specs.Prelude.{ℕ, List}
 use Rattle.basis.specs.Refusals.{accepted}
 use Rattle.sheet.specs.declared.row.Sheet.{Sheet}
 use Rattle.machine.specs.States.{State, noState}

@@ -1,11 +1,6 @@
 -- A fault is shut out where one number, read off both answers, differs.
 -- Assumes nothing.
-use Prim.Native.Nat.{ℕ}
-use mathlib.Core.Path.{_≡_, sym, ap, _∙_}
-use mathlib.Core.Bool.{Bool, true, false}
-use native.Mathlib.Omega.{arith}
-use borrow.Author.Tests.{eq-eqb}
-use lib.Dec.{eqb}
+use Rattle.basis.specs.Prelude.{ℕ, _≡_, sym, ap, _∙_, Bool, true, false, arith, eq-eqb, eqb}
 use Rattle.basis.specs.Words.{pick}
 use Rattle.basis.specs.Refusals.{Outcome, accepted, refused}
 use Rattle.basis.specs.Faults.{NoAnswer, NoneMeets}

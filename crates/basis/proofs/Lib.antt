@@ -1,15 +1,7 @@
-pub mod FirstRefusal
-pub mod Lists
 pub mod Marks
-pub mod Pairs
 pub mod Refusals
-pub mod Steps
-pub mod Sums
 pub mod Tame
-pub mod Tests
-pub mod Upto
-pub mod Words
-pub mod Workload
 pub mod Faults
 pub mod Wrong
 pub mod Same
+pub mod Inside

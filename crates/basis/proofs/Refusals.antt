@@ -1,11 +1,6 @@
 -- Laws of refusals: an outcome stands for one answer of the code, and two answers that a promise allows are equal.
 -- Assumes nothing.
-use mathlib.Core.Path.{_≡_, refl, sym, _∙_}
-use mathlib.Core.Bool.{Bool, true, false}
-use lib.Dec.{leb}
-use borrow.Author.Tests.{leb-true}
-use Prim.Native.Nat.{ℕ, _≤_}
-use native.Mathlib.Omega.{arith}
+use Rattle.basis.specs.Prelude.{_≡_, refl, sym, _∙_, Bool, true, false, leb, leb-true, ℕ, _≤_, arith}
 use Rattle.basis.specs.Refusals.{Outcome, accepted, refused, outcome, isAccepted, orElse, needed, roomFor, handed}
 use Rattle.basis.specs.declared.refusal.Refusal.{Refusal}
 use Rattle.basis.specs.declared.refusal.Refusal.the-variants.{Accepted, Refused}

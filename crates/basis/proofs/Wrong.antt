@@ -1,11 +1,6 @@
 -- Wrong answers of this crate's promises are shut out.
 -- Assumes nothing.
-use Prim.Native.Nat.{ℕ}
-use mathlib.Core.Path.{_≡_, refl, sym, ap, _∙_}
-use mathlib.Core.Bool.{Bool, true, false}
-use lib.Dec.{eqb}
-use native.Mathlib.Omega.{arith}
-use borrow.Author.Tests.{eq-eqb}
+use Rattle.basis.specs.Prelude.{ℕ, _≡_, refl, sym, ap, _∙_, Bool, true, false, eqb, arith, eq-eqb}
 use Rattle.basis.specs.Words.{pick}
 use Rattle.basis.specs.Refusals.{accepted, isAccepted}
 use Rattle.basis.specs.Readers.{begins}

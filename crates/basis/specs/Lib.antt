@@ -1,3 +1,4 @@
+pub mod Prelude
 pub mod Limits
 pub mod Words
 pub mod Refusals

@@ -1,5 +1,5 @@
 -- The limits of a sheet, each by its name, and all together.
-use Prim.Native.Nat.{ℕ}
+use Rattle.basis.specs.Prelude.{ℕ}
 
 -- A number has one to so many groups.
 abbrev pub mostGroups : ℕ

@@ -1,9 +1,5 @@
 -- Readers: what reading bytes at a place gives, and how one reader follows another. The form of a file is written with `do` over them.
-use Prim.Native.Nat.{ℕ, _+_, _<_}
-use mathlib.Core.List.{List, [], _∷_}
-use mathlib.Core.Bool.{Bool, true, false}
-use lib.ListN.{length, getD}
-use lib.Dec.{ltb, leb, eqb}
+use Rattle.basis.specs.Prelude.{ℕ, _+_, _<_, List, [], _∷_, Bool, true, false, length, getD, ltb, leb, eqb}
 use Rattle.basis.specs.Words.{pick, both}
 
 -- Each element is a byte.

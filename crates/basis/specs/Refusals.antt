@@ -1,7 +1,5 @@
 -- What a call says of itself: accepted, or refused, with the number and the place of the table of refusals.
-use Prim.Native.Nat.{ℕ, zero, suc}
-use mathlib.Core.Bool.{Bool, true, false}
-use lib.Dec.{leb}
+use Rattle.basis.specs.Prelude.{ℕ, zero, suc, Bool, true, false, leb}
 use Rattle.basis.specs.Words.{pick}
 use Rattle.basis.specs.declared.refusal.Refusal.{Refusal}
 use Rattle.basis.specs.declared.refusal.Refusal.the-variants.{Accepted, Refused}

@@ -1,8 +1,5 @@
 -- Lists that a loop fills.
-use Prim.Native.Nat.{ℕ, zero, suc, _/_, _%_}
-use mathlib.Core.List.{List}
-use lib.ListN.{set}
-use lib.Dec.{eqb}
+use Rattle.basis.specs.Prelude.{ℕ, zero, suc, _/_, _%_, List, set, eqb}
 use Rattle.basis.specs.Words.{pick}
 
 -- The list l with its first n places made f 0, f 1, ..; the places past them are as they were.

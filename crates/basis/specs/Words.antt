@@ -1,8 +1,5 @@
 -- The words that the definitions are made of: a choice, two tests together, a range, all of several, a sum, every element of a list.
-use Prim.Native.Nat.{ℕ, zero, suc, _+_}
-use mathlib.Core.Bool.{Bool, true, false}
-use mathlib.Core.List.{List, [], _∷_}
-use lib.Dec.{leb}
+use Rattle.basis.specs.Prelude.{ℕ, zero, suc, _+_, Bool, true, false, List, [], _∷_, leb}
 
 -- The first where the test holds, the second where it does not.
 abbrev pub pick : {A : Type 0} → Bool → A → A → A

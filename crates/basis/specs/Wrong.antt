@@ -1,8 +1,5 @@
 -- Wrong rules, each the rule of document 01 but for one thing: every promise shuts them out on a named input.
-use mathlib.Core.Bool.{Bool, true, false}
-use mathlib.Core.List.{List, [], _∷_}
-use Prim.Native.Nat.{ℕ}
-use lib.Dec.{eqb}
+use Rattle.basis.specs.Prelude.{Bool, true, false, List, [], _∷_, ℕ, eqb}
 use Rattle.basis.specs.Words.{both}
 use Rattle.basis.specs.Refusals.{Outcome, refused}
 

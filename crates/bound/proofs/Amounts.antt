@@ -1,23 +1,15 @@
 -- q, X and the sum of the amounts: they fit, and the sum never falls as the length grows.
 -- Assumes nothing.
-use Prim.Native.Nat.{ℕ, _+_, _*_, _-_, _≤_, _<_, min}
-use mathlib.Core.Path.{_≡_, refl, ap, _∙_}
-use mathlib.Core.Bool.{Bool, false}
-use borrow.Author.Tests.{le-ltb}
-use lib.Dec.{ltb}
-use native.Mathlib.Nat.{mul-le-mul, mul-le-mul-right}
-use native.Mathlib.Omega.{arith}
-use mir.Val.{Fits}
-use mir.Syntax.{w64}
+use Rattle.basis.specs.Prelude.{ℕ, _+_, _*_, _-_, _≤_, _<_, min, _≡_, refl, ap, _∙_, Bool, false, le-ltb, ltb, mul-le-mul, mul-le-mul-right, arith, Fits, w64}
 use Rattle.basis.specs.Limits.{mostProcessors}
 use Rattle.basis.specs.Words.{sum}
-use Rattle.basis.proofs.Sums.{sum-le, sum-most, sum-one-more}
+use Rattle.basis.proofs.Inside.Sums.{sum-le, sum-most, sum-one-more}
 use Rattle.sheet.specs.Legal.{rowAt, LegalRow, Legal}
 use Rattle.sheet.specs.declared.row.Row.{Row}
 use Rattle.sheet.specs.declared.row.Sheet.{Sheet}
 use Rattle.bound.specs.Quantities.{widestRows, widestSeparation, on, noAmount}
 use Rattle.bound.specs.Test.{q, X, x, W, durationOf, amountOf, amounts, room, passes}
-use Rattle.bound.specs.Ready.{Ready, Length, Above}
+use Rattle.bound.specs.Inside.Ready.{Ready, Length, Above}
 use Rattle.bound.specs.declared.quantity.Duration.{Duration}
 use Rattle.bound.specs.declared.quantity.Amount.{Amount}
 use Rattle.bound.proofs.Durations.{same, same-amount, number, number-of}

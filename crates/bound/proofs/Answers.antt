@@ -1,16 +1,11 @@
 -- Laws of the answers: a word stands for one result of the code, two answers that a promise allows are equal, and what a refusal says.
 -- Assumes nothing.
-use Prim.Native.Nat.{ℕ, suc, _≤_, _<_}
-use mathlib.Core.Path.{_≡_, refl, sym, ap, ap₂, _∙_}
-use mathlib.Core.Bool.{Bool, true, false}
-use mathlib.Core.List.{List}
-use native.Mathlib.Omega.{arith}
-use lib.ListN.{length, getD, length-replicate}
+use Rattle.basis.specs.Prelude.{ℕ, suc, _≤_, _<_, _≡_, refl, sym, ap, ap₂, _∙_, Bool, true, false, List, arith, length, getD, length-replicate}
 use Rattle.basis.specs.Limits.{mostRows}
 use Rattle.basis.specs.Refusals.{Outcome, accepted, refused, outcome, orElse, roomFor, handed}
 use Rattle.basis.specs.declared.refusal.Refusal.{Refusal}
 use Rattle.basis.proofs.Refusals.{outcome-one-to-one}
-use Rattle.basis.proofs.Upto.{upto-below, upto-past}
+use Rattle.basis.proofs.Inside.Upto.{upto-below, upto-past}
 use Rattle.sheet.specs.Legal.{legal}
 use Rattle.sheet.specs.Lists.{filled, sheetIn}
 use Rattle.sheet.specs.declared.row.Sheet.{Sheet}
@@ -23,8 +18,8 @@ use Rattle.bound.specs.declared.results.Result.the-variants.{Unreached, 
 use Rattle.bound.specs.declared.results.Judged.{Judged}
 use Rattle.bound.specs.declared.results.Results.{Results}
 use Rattle.bound.specs.declared.results.Judgement.{Judgement}
-use Rattle.basis.proofs.Lists.{map-one-to-one, getD-all}
-use Rattle.bound.proofs.Judging.{Agree, passes-local, result-agrees}
+use Rattle.basis.proofs.Inside.Lists.{map-one-to-one, getD-all}
+use Rattle.bound.proofs.Inside.Judging.{Agree, passes-local, result-agrees}
 
 -- ---- one word, one result
 

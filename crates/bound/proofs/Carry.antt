@@ -1,26 +1,17 @@
 -- A bound carried over from a row above that is no wider: lengths that fail for that row, weighed for row k, fail for it too.
 -- Assumes nothing.
-use Prim.Native.Nat.{ℕ, _+_, _*_, _-_, _≤_, _<_, min, max}
-use mathlib.Core.Path.{_≡_, refl, ap}
-use mathlib.Core.Bool.{Bool, true, false}
-use mathlib.Core.Logic.{⊎-elim}
-use native.Mathlib.Nat.{mul-le-mul, mul-le-mul-left, mul-le-mul-right, le-of-mul-le-mul-right}
-use native.Mathlib.Omega.{arith}
-use borrow.Author.Tests.{ltb-true, ltb-false, lt-ltb, le-ltb, leb-true, leb-false, le-leb, lt-leb}
-use lib.Dec.{ltb, leb}
-use mir.Val.{Fits}
-use mir.Syntax.{w64}
+use Rattle.basis.specs.Prelude.{ℕ, _+_, _*_, _-_, _≤_, _<_, min, max, _≡_, refl, ap, Bool, true, false, ⊎-elim, mul-le-mul, mul-le-mul-left, mul-le-mul-right, le-of-mul-le-mul-right, arith, ltb-true, ltb-false, lt-ltb, le-ltb, leb-true, leb-false, le-leb, lt-leb, ltb, leb, Fits, w64}
 use Rattle.basis.specs.Limits.{mostProcessors}
 use Rattle.basis.specs.Words.{pick, sum}
-use Rattle.basis.proofs.Words.{lt-or-le}
-use Rattle.basis.proofs.Sums.{sum-one-more, sum-grows, sum-weighed}
+use Rattle.basis.proofs.Inside.Words.{lt-or-le}
+use Rattle.basis.proofs.Inside.Sums.{sum-one-more, sum-grows, sum-weighed}
 use Rattle.sheet.specs.Legal.{rowAt, LegalRow}
 use Rattle.sheet.specs.declared.row.Row.{Row}
 use Rattle.sheet.specs.declared.row.Sheet.{Sheet}
 use Rattle.bound.specs.Quantities.{slots, plus, minus}
 use Rattle.bound.specs.Test.{C, q, X, x, W, durationOf, amountOf, amounts, passes}
-use Rattle.bound.specs.Ready.{Ready, Above}
-use Rattle.bound.specs.Skipping.{carriedOf, Starts}
+use Rattle.bound.specs.Inside.Ready.{Ready, Above}
+use Rattle.bound.specs.Inside.Skipping.{carriedOf, Starts}
 use Rattle.bound.specs.declared.quantity.Duration.{Duration}
 use Rattle.bound.proofs.Durations.{same}
 use Rattle.bound.proofs.Amounts.{q-some, room-by-q, fails-where, row-above}

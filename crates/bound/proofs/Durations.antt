@@ -1,17 +1,12 @@
 -- The quantities of one row above: each fits, and each is the definition's.
 -- Assumes nothing.
-use Prim.Native.Nat.{ℕ, _+_, _*_, _-_, _/_, _%_, _≤_, _<_, min}
-use mathlib.Core.Path.{_≡_, refl, ap, _∙_}
-use native.Mathlib.Nat.{div-mul-le-self, div-add-mod', mod-lt, mul-le-mul-left, mul-le-mul}
-use native.Mathlib.Omega.{arith}
-use mir.Val.{Fits}
-use mir.Syntax.{w64}
+use Rattle.basis.specs.Prelude.{ℕ, _+_, _*_, _-_, _/_, _%_, _≤_, _<_, min, _≡_, refl, ap, _∙_, div-mul-le-self, div-add-mod', mod-lt, mul-le-mul-left, mul-le-mul, arith, Fits, w64}
 use Rattle.basis.specs.Limits.{mostProcessors}
 use Rattle.sheet.specs.declared.row.Row.{Row}
 use Rattle.bound.specs.Quantities.{widestRows, widestSeparation, slots, on, parts, pieces}
 use Rattle.bound.specs.Test.{x, W, durationOf}
-use Rattle.bound.specs.Ready.{Above, Spans}
-use Rattle.bound.specs.Skipping.{stayOf}
+use Rattle.bound.specs.Inside.Ready.{Above, Spans}
+use Rattle.bound.specs.Inside.Skipping.{stayOf}
 use Rattle.bound.specs.declared.quantity.Duration.{Duration}
 use Rattle.bound.specs.declared.quantity.Amount.{Amount}
 use Rattle.bound.specs.declared.quantity.Fine.{Fine}

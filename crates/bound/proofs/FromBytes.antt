@@ -1,32 +1,23 @@
 -- Bytes read and judged: what is known at each step, and each way out.
 -- Assumes nothing.
-use Prim.Native.Nat.{ℕ, _+_, _*_, _≤_, _<_}
-use mathlib.Core.Path.{_≡_, refl, sym, ap, ap₂, _∙_}
-use mathlib.Core.Bool.{Bool, true, false}
-use mathlib.Core.List.{List}
-use native.Mathlib.Omega.{arith}
-use lib.ListN.{length, take}
-use lib.Seq.{length-take-le}
-use borrow.Author.Tests.{lt-leb, le-leb}
-use mir.Syntax.{w64}
-use mir.Val.{Fits}
+use Rattle.basis.specs.Prelude.{ℕ, _+_, _*_, _≤_, _<_, _≡_, refl, sym, ap, ap₂, _∙_, Bool, true, false, List, arith, length, take, length-take-le, lt-leb, le-leb, w64, Fits}
 use Rattle.basis.specs.Limits.{mostRows}
 use Rattle.basis.specs.Upto.{upto}
 use Rattle.basis.specs.Refusals.{Outcome, accepted, refused, outcome, orElse, roomFor}
 use Rattle.basis.specs.declared.refusal.Refusal.{Refusal}
 use Rattle.basis.specs.declared.refusal.Refusal.the-variants.{Accepted, Refused}
-use Rattle.basis.proofs.FirstRefusal.{both-accepted}
+use Rattle.basis.proofs.Inside.FirstRefusal.{both-accepted}
 use Rattle.basis.proofs.Refusals.{outcome-one-to-one, room-holds, handed-found, handed-done, handed-outcome}
-use Rattle.basis.proofs.Upto.{length-upto}
+use Rattle.basis.proofs.Inside.Upto.{length-upto}
 use Rattle.sheet.specs.Legal.{legal}
 use Rattle.sheet.specs.Lists.{sheetIn, sheetLong}
 use Rattle.sheet.specs.declared.row.Sheet.{Sheet}
 use Rattle.sheet.proofs.Legality.{legal-is}
 use Rattle.reader.specs.Answers.{reading, labelIn}
 use Rattle.reader.specs.Lists.{labelsLong, readInto}
-use Rattle.reader.specs.Steps.{partIn}
+use Rattle.reader.specs.Inside.Steps.{partIn}
 use Rattle.reader.proofs.LentLists.{list-kept, labels-kept, list-has-room, labels-have-room, list-as-long, count-read, front-hands-over, sheet-is-legal, outcome-is-the-readers, parts-written, labels-as-long}
-use Rattle.reader.proofs.ZeroLists.{lists}
+use Rattle.reader.proofs.Inside.ZeroLists.{lists}
 use Rattle.bound.specs.declared.results.Judgement.{Judgement}
 use Rattle.bound.specs.Test.{passes}
 use Rattle.bound.specs.Bound.{Answer, resultOf, holds, judged, boundsBy, boundsOf}

@@ -3,16 +3,14 @@ pub mod Workload
 pub mod Amounts
 pub mod Paces
 pub mod Steps
-pub mod Lengths
 pub mod Shares
 pub mod Carry
 pub mod FromBytes
 pub mod Stretches
-pub mod Judging
 pub mod Meaning
 pub mod Lists
-pub mod Rows
 pub mod Worked
 pub mod Wrong
 pub mod Answers
 pub mod Load
+pub mod Inside

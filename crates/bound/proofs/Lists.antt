@@ -1,29 +1,18 @@
 -- A list of results: what stands at its places, how it is put together, cleared past the rows and read back, and what `bounds_on` makes of it at each way out.
 -- Assumes nothing.
-use Prim.Native.Nat.{ℕ, _+_, _*_, _/_, _%_, _≤_, _<_}
-use mathlib.Core.Path.{_≡_, refl, sym, ap, _∙_}
-use mathlib.Core.Bool.{Bool, true, false}
-use mathlib.Core.List.{List}
-use native.Mathlib.Omega.{arith}
-use native.Mathlib.Nat.{le-refl, mod-lt, div-add-mod'}
-use lib.ListN.{length, getD, set, replicate, length-set, length-replicate}
-use lib.Seq.{ext-getD}
-use lib.Dec.{eqb}
-use borrow.Author.Tests.{le-leb, lt-leb, ne-eqb}
-use mir.Val.{Fits}
-use mir.Syntax.{w64}
+use Rattle.basis.specs.Prelude.{ℕ, _+_, _*_, _/_, _%_, _≤_, _<_, _≡_, refl, sym, ap, _∙_, Bool, true, false, List, arith, le-refl, mod-lt, div-add-mod', length, getD, set, replicate, length-set, length-replicate, ext-getD, eqb, le-leb, lt-leb, ne-eqb, Fits, w64}
 use Rattle.basis.specs.Limits.{mostRows}
 use Rattle.basis.specs.Words.{pick}
 use Rattle.basis.specs.Upto.{upto, pairCell}
 use Rattle.basis.specs.Refusals.{accepted, refused}
-use Rattle.basis.proofs.Upto.{upto-below, upto-past, length-upto}
-use Rattle.basis.proofs.Pairs.{first-cell, second-cell, first-read, second-read}
-use Rattle.basis.proofs.Lists.{getD-all}
+use Rattle.basis.proofs.Inside.Upto.{upto-below, upto-past, length-upto}
+use Rattle.basis.proofs.Inside.Pairs.{first-cell, second-cell, first-read, second-read}
+use Rattle.basis.proofs.Inside.Lists.{getD-all}
 use Rattle.sheet.specs.Legal.{legal, Legal}
 use Rattle.sheet.specs.declared.row.Sheet.{Sheet}
 use Rattle.sheet.specs.Lists.{numberAt, filled, sheetIn, clearedCell}
 use Rattle.sheet.proofs.Legality.{legal-is}
-use Rattle.sheet.proofs.ClearedLists.{cleared-is-filled}
+use Rattle.sheet.proofs.Inside.ClearedLists.{cleared-is-filled}
 use Rattle.bound.specs.Test.{passes}
 use Rattle.bound.specs.Bound.{Word, bound, none, unreached, resultOf, allUnreached, holds, judged, boundsBy}
 use Rattle.bound.specs.Lists.{wordNumber, boundNumber, resultsLong, resultCell, resultsOn, boundsOn, words, putResult, wordAt}

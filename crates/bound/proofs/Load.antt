@@ -1,19 +1,13 @@
 -- A load that reaches q leaves nothing: where the rows above take, of every slot, as many processors as row k leaves them, no length passes.
 -- Assumes nothing.
-use Prim.Native.Nat.{ℕ, zero, suc, _+_, _*_, _-_, _/_, _≤_, _<_, min}
-use mathlib.Core.Path.{_≡_}
-use mathlib.Core.Bool.{false}
-use mathlib.Core.Logic.{⊎-elim}
-use native.Mathlib.Nat.{mul-le-mul-left, mul-le-mul-right, le-of-mul-le-mul-right, div-mul-le-self, le-refl}
-use native.Mathlib.Omega.{arith}
-use borrow.Author.Tests.{le-ltb}
+use Rattle.basis.specs.Prelude.{ℕ, zero, suc, _+_, _*_, _-_, _/_, _≤_, _<_, min, _≡_, false, ⊎-elim, mul-le-mul-left, mul-le-mul-right, le-of-mul-le-mul-right, div-mul-le-self, le-refl, arith, le-ltb}
 use Rattle.basis.specs.Words.{sum}
-use Rattle.basis.proofs.Words.{lt-or-le}
+use Rattle.basis.proofs.Inside.Words.{lt-or-le}
 use Rattle.sheet.specs.Legal.{rowAt, LegalRow}
 use Rattle.sheet.specs.declared.row.Sheet.{Sheet}
 use Rattle.bound.specs.Quantities.{slots}
 use Rattle.bound.specs.Test.{q, X, x, W, durationOf, amountOf, amounts, room, passes}
-use Rattle.bound.specs.Ready.{Ready}
+use Rattle.bound.specs.Inside.Ready.{Ready}
 use Rattle.bound.specs.declared.quantity.Duration.{Duration}
 use Rattle.bound.proofs.Workload.{W-shares}
 use Rattle.bound.proofs.Amounts.{row, room-by-q}

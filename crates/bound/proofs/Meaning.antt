@@ -1,24 +1,18 @@
 -- What the definitions mean, for any test that looks at no lower row: a bound is the smallest length that passes, none is that no length passes, and not reached is
 -- every row after the first none.
 -- Assumes nothing.
-use Prim.Native.Nat.{ℕ, zero, suc, _+_, _-_, _*_, _≤_, _<_}
-use mathlib.Core.Path.{_≡_, refl, sym, ap, _∙_}
-use mathlib.Core.Bool.{Bool, true, false}
-use native.Mathlib.Nat.{mul-le-mul}
-use native.Mathlib.Omega.{arith}
-use lib.Dec.{ltb}
-use borrow.Author.Tests.{lt-ltb}
+use Rattle.basis.specs.Prelude.{ℕ, zero, suc, _+_, _-_, _*_, _≤_, _<_, _≡_, refl, sym, ap, _∙_, Bool, true, false, mul-le-mul, arith, ltb, lt-ltb}
 use Rattle.basis.specs.Words.{sum, allOf}
-use Rattle.basis.proofs.Words.{true-not-false, all-at, all-fails}
+use Rattle.basis.proofs.Inside.Words.{true-not-false, all-at, all-fails}
 use Rattle.sheet.specs.Legal.{rowAt, Legal}
 use Rattle.sheet.specs.declared.row.Sheet.{Sheet}
 use Rattle.bound.specs.Quantities.{slots}
 use Rattle.bound.specs.Test.{Test, q, X, amounts, room, passes}
 use Rattle.bound.specs.Bound.{Word, bound, none, unreached, isBound, valueOf, passesAt, boundBy, bounds, bounded, judge, resultsTo, resultOf, holds}
 use Rattle.bound.specs.declared.quantity.Duration.{Duration}
-use Rattle.bound.proofs.Lengths.{Smallest, least-hit, least-found, smallest-is-least, none-holds, none-is-least, least-never-unreached}
+use Rattle.bound.proofs.Inside.Lengths.{Smallest, least-hit, least-found, smallest-is-least, none-holds, none-is-least, least-never-unreached}
 use Rattle.bound.proofs.Amounts.{q-some, X-some, room-by-q}
-use Rattle.bound.proofs.Judging.{Local, reached-result, unreached-result}
+use Rattle.bound.proofs.Inside.Judging.{Local, reached-result, unreached-result}
 
 unreached-no-bound : {A : Type 0} {r : ℕ} → unreached ≡ bound r → A
 unreached-no-bound e = let z : _≡_ {A = ℕ} 0 1 = cc in absurd (omega arith)

@@ -1,22 +1,16 @@
 -- The pace at which the sum of the amounts grows with the length: what the loop over the rows above joins.
 -- Assumes nothing.
-use Prim.Native.Nat.{ℕ, _+_, _*_, _-_, _%_, _≤_, _<_, min}
-use mathlib.Core.Path.{_≡_, ap}
-use mathlib.Core.Bool.{Bool, true, false}
-use native.Mathlib.Nat.{mul-le-mul-right}
-use native.Mathlib.Omega.{arith}
-use lib.Dec.{eqb}
-use borrow.Author.Tests.{ne-eqb}
+use Rattle.basis.specs.Prelude.{ℕ, _+_, _*_, _-_, _%_, _≤_, _<_, min, _≡_, ap, Bool, true, false, mul-le-mul-right, arith, eqb, ne-eqb}
 use Rattle.basis.specs.Limits.{mostProcessors, mostSeparation}
 use Rattle.basis.specs.Words.{pick, sum}
-use Rattle.basis.proofs.Sums.{sum-one-more}
+use Rattle.basis.proofs.Inside.Sums.{sum-one-more}
 use Rattle.sheet.specs.Legal.{rowAt}
 use Rattle.sheet.specs.declared.row.Row.{Row}
 use Rattle.sheet.specs.declared.row.Sheet.{Sheet}
 use Rattle.bound.specs.Quantities.{widestRows, slots, plus, lesser}
 use Rattle.bound.specs.Test.{q, X, x, W, durationOf, amountOf, amounts}
-use Rattle.bound.specs.Ready.{Ready, Length}
-use Rattle.bound.specs.Skipping.{Paces, stayOf, joined}
+use Rattle.bound.specs.Inside.Ready.{Ready, Length}
+use Rattle.bound.specs.Inside.Skipping.{Paces, stayOf, joined}
 use Rattle.bound.specs.declared.quantity.Duration.{Duration}
 use Rattle.bound.specs.declared.pace.Pace.{Pace}
 use Rattle.bound.proofs.Durations.{number}

@@ -1,25 +1,16 @@
 -- Shares: in proportion to X, the amounts in a shorter length are no less than the shares in a longer one. So where these leave no room, no shorter length passes.
 -- Assumes nothing.
-use Prim.Native.Nat.{ℕ, _+_, _*_, _-_, _/_, _≤_, _<_, min}
-use mathlib.Core.Path.{_≡_, sym, ap, _∙_}
-use mathlib.Core.Bool.{Bool, true, false}
-use mathlib.Core.Logic.{⊎-elim}
-use native.Mathlib.Nat.{mul-le-mul, mul-le-mul-left, mul-le-mul-right, le-of-mul-le-mul-left, le-of-mul-le-mul-right, div-mul-le-self}
-use native.Mathlib.Omega.{arith}
-use borrow.Author.Tests.{ltb-true}
-use lib.Dec.{ltb}
-use mir.Val.{Fits}
-use mir.Syntax.{w64}
+use Rattle.basis.specs.Prelude.{ℕ, _+_, _*_, _-_, _/_, _≤_, _<_, min, _≡_, sym, ap, _∙_, Bool, true, false, ⊎-elim, mul-le-mul, mul-le-mul-left, mul-le-mul-right, le-of-mul-le-mul-left, le-of-mul-le-mul-right, div-mul-le-self, arith, ltb-true, ltb, Fits, w64}
 use Rattle.basis.specs.Limits.{mostProcessors}
-use Rattle.basis.proofs.Words.{lt-or-le}
-use Rattle.basis.proofs.Sums.{sum-one-more}
+use Rattle.basis.proofs.Inside.Words.{lt-or-le}
+use Rattle.basis.proofs.Inside.Sums.{sum-one-more}
 use Rattle.sheet.specs.Legal.{rowAt, LegalRow}
 use Rattle.sheet.specs.declared.row.Row.{Row}
 use Rattle.sheet.specs.declared.row.Sheet.{Sheet}
 use Rattle.bound.specs.Quantities.{widestSeparation, slots, onFine}
 use Rattle.bound.specs.Test.{q, X, x, W, durationOf, amountOf, amounts, room, passes}
-use Rattle.bound.specs.Ready.{Ready, Length}
-use Rattle.bound.specs.Skipping.{Skips, shareOf, Shares, AllFail}
+use Rattle.bound.specs.Inside.Ready.{Ready, Length}
+use Rattle.bound.specs.Inside.Skipping.{Skips, shareOf, Shares, AllFail}
 use Rattle.bound.specs.declared.quantity.Duration.{Duration}
 use Rattle.bound.specs.declared.quantity.Amount.{Amount}
 use Rattle.bound.specs.declared.quantity.Fine.{Fine}

@@ -1,22 +1,13 @@
 -- The step from a length that fails to the next that can pass: every length between fails.
 -- Assumes nothing.
-use Prim.Native.Nat.{ℕ, _+_, _*_, _-_, _≤_, _<_, min, max}
-use mathlib.Core.Path.{_≡_, sym, ap, _∙_}
-use mathlib.Core.Bool.{Bool, true, false}
-use mathlib.Core.Logic.{⊎-elim}
-use native.Mathlib.Nat.{mul-le-mul-right, mul-le-mul-left}
-use native.Mathlib.Omega.{arith}
-use borrow.Author.Tests.{ltb-false, le-ltb}
-use lib.Dec.{ltb}
-use mir.Val.{Fits}
-use mir.Syntax.{w64}
+use Rattle.basis.specs.Prelude.{ℕ, _+_, _*_, _-_, _≤_, _<_, min, max, _≡_, sym, ap, _∙_, Bool, true, false, ⊎-elim, mul-le-mul-right, mul-le-mul-left, arith, ltb-false, le-ltb, ltb, Fits, w64}
 use Rattle.basis.specs.Limits.{mostProcessors}
-use Rattle.basis.proofs.Words.{lt-or-le}
+use Rattle.basis.proofs.Inside.Words.{lt-or-le}
 use Rattle.sheet.specs.declared.row.Sheet.{Sheet}
 use Rattle.bound.specs.Quantities.{widestRows, widestSeparation, slots, plus}
 use Rattle.bound.specs.Test.{q, X, amounts, room, passes}
-use Rattle.bound.specs.Ready.{Ready, Length}
-use Rattle.bound.specs.Skipping.{Skips, Paces, Steep}
+use Rattle.bound.specs.Inside.Ready.{Ready, Length}
+use Rattle.bound.specs.Inside.Skipping.{Skips, Paces, Steep}
 use Rattle.bound.specs.declared.quantity.Duration.{Duration}
 use Rattle.bound.specs.declared.quantity.Amount.{Amount}
 use Rattle.bound.specs.declared.pace.Pace.{Pace}

@@ -1,26 +1,18 @@
 -- A stretch of lengths is decided at its two ends: a straight line that a row's amount is never below, for each of three ways to choose it; the sum of such lines; and
 -- where that reaches the room at both ends, every length between fails.
 -- Assumes nothing.
-use Prim.Native.Nat.{ℕ, _+_, _*_, _-_, _/_, _%_, _≤_, _<_, min}
-use mathlib.Core.Path.{_≡_, sym, ap, _∙_}
-use mathlib.Core.Bool.{Bool, true, false}
-use native.Mathlib.Nat.{mul-le-mul, mul-le-mul-left, mul-le-mul-right, le-of-mul-le-mul-left, le-of-mul-le-mul-right, div-mul-le-self, mod-lt}
-use native.Mathlib.Omega.{arith}
-use borrow.Author.Tests.{ltb-true, leb-true}
-use lib.Dec.{ltb, leb}
-use mir.Val.{Fits}
-use mir.Syntax.{w64}
+use Rattle.basis.specs.Prelude.{ℕ, _+_, _*_, _-_, _/_, _%_, _≤_, _<_, min, _≡_, sym, ap, _∙_, Bool, true, false, mul-le-mul, mul-le-mul-left, mul-le-mul-right, le-of-mul-le-mul-left, le-of-mul-le-mul-right, div-mul-le-self, mod-lt, arith, ltb-true, leb-true, ltb, leb, Fits, w64}
 use Rattle.basis.specs.Limits.{mostProcessors}
 use Rattle.basis.specs.Words.{sum}
-use Rattle.basis.proofs.Sums.{sum-one-more}
-use Rattle.basis.proofs.Workload.{lesser-evenly}
+use Rattle.basis.proofs.Inside.Sums.{sum-one-more}
+use Rattle.basis.proofs.Inside.Workload.{lesser-evenly}
 use Rattle.sheet.specs.Legal.{rowAt}
 use Rattle.sheet.specs.declared.row.Row.{Row}
 use Rattle.sheet.specs.declared.row.Sheet.{Sheet}
 use Rattle.bound.specs.Quantities.{widestSeparation, slots, plus, on, onFine, pieces}
 use Rattle.bound.specs.Test.{q, X, x, W, durationOf, amountOf, amounts, room, passes}
-use Rattle.bound.specs.Ready.{Ready, Length}
-use Rattle.bound.specs.Skipping.{Skips, shareOf, way, Stretches, Along, amountAlong, RowMeets, RowsMeet, bothEnds, lasts, AllFail}
+use Rattle.bound.specs.Inside.Ready.{Ready, Length}
+use Rattle.bound.specs.Inside.Skipping.{Skips, shareOf, way, Stretches, Along, amountAlong, RowMeets, RowsMeet, bothEnds, lasts, AllFail}
 use Rattle.bound.specs.declared.quantity.Duration.{Duration}
 use Rattle.bound.specs.declared.quantity.Amount.{Amount}
 use Rattle.bound.specs.declared.quantity.FineAmount.{FineAmount}

@@ -1,6 +1,6 @@
 -- Cases A to F hold of the definitions.
 -- Assumes nothing.
-use mathlib.Core.Path.{refl}
+use Rattle.basis.specs.Prelude.{refl}
 use Rattle.basis.specs.Words.{allOf, sum, Each}
 use Rattle.basis.specs.Upto.{upto}
 use Rattle.sheet.specs.Legal.{legalRow, legalAt, legal}

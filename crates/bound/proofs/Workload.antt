@@ -1,8 +1,8 @@
 -- The workload W is that of basis: it never falls, grows by one with each slot in which its present job runs, and is no less than its share.
 -- Assumes nothing.
-use Prim.Native.Nat.{ℕ, _+_, _-_, _*_, _%_, _≤_, min}
+use Rattle.basis.specs.Prelude.{ℕ, _+_, _-_, _*_, _%_, _≤_, min}
 use Rattle.basis.specs.Workload.{ω}
-use Rattle.basis.proofs.Workload.{ω-mono, ω-runs-on, ω-shares, ω-evenly, ω-least}
+use Rattle.basis.proofs.Inside.Workload.{ω-mono, ω-runs-on, ω-shares, ω-evenly, ω-least}
 use Rattle.sheet.specs.declared.row.Row.{Row}
 use Rattle.bound.specs.Quantities.{slots}
 use Rattle.bound.specs.Test.{W}

@@ -1,11 +1,6 @@
 -- Wrong bounds are shut out: on a named sheet no answer with the fault meets the promise.
 -- Assumes nothing.
-use Prim.Native.Nat.{ℕ}
-use mathlib.Core.Path.{_≡_, refl, sym, ap, _∙_}
-use mathlib.Core.Bool.{Bool}
-use mathlib.Core.List.{List, [], _∷_}
-use native.Mathlib.Omega.{arith}
-use lib.ListN.{getD}
+use Rattle.basis.specs.Prelude.{ℕ, _≡_, refl, sym, ap, _∙_, Bool, List, [], _∷_, arith, getD}
 use Rattle.basis.specs.Words.{allOf, sum}
 use Rattle.basis.specs.Readers.{begins}
 use Rattle.basis.specs.Upto.{upto, pairCell}

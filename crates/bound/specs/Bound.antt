@@ -1,9 +1,5 @@
 -- The bound of a row, the results of all rows, and the whole answer, each for a test that is given.
-use Prim.Native.Nat.{ℕ, zero, suc, _+_, _-_}
-use mathlib.Core.Bool.{Bool, true, false}
-use mathlib.Core.List.{List, map}
-use lib.ListN.{replicate}
-use lib.Dec.{ltb}
+use Rattle.basis.specs.Prelude.{ℕ, zero, suc, _+_, _-_, Bool, true, false, List, map, replicate, ltb}
 use Rattle.basis.specs.Limits.{mostRows}
 use Rattle.basis.specs.Words.{pick, allOf}
 use Rattle.basis.specs.Upto.{upto}

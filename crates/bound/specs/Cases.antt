@@ -1,9 +1,5 @@
 -- Cases A to F: the fixed sheets 0 to 5, which `fixed_sheet` hands out, and the results that document 01 has for them.
-use Prim.Native.Nat.{_-_}
-use mathlib.Core.Path.{_≡_}
-use mathlib.Core.Bool.{Bool, true}
-use mathlib.Core.List.{List, [], _∷_, _++_}
-use lib.ListN.{length, replicate}
+use Rattle.basis.specs.Prelude.{_-_, _≡_, Bool, true, List, [], _∷_, _++_, length, replicate}
 use Rattle.basis.specs.Limits.{mostRows}
 use Rattle.basis.specs.Words.{both}
 use Rattle.basis.specs.Refusals.{accepted}

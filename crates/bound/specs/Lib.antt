@@ -4,5 +4,4 @@ pub mod Bound
 pub mod Cases
 pub mod Wrong
 pub mod Lists
-pub mod Ready
-pub mod Skipping
+pub mod Inside

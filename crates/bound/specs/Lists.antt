@@ -1,9 +1,5 @@
 -- The results of a sheet as a list of plain numbers: of each row its word as a number, and its bound.
-use Prim.Native.Nat.{ℕ, _+_, _*_}
-use mathlib.Core.Bool.{Bool, false}
-use mathlib.Core.List.{List}
-use lib.ListN.{length, getD, set}
-use lib.Dec.{eqb}
+use Rattle.basis.specs.Prelude.{ℕ, _+_, _*_, Bool, false, List, length, getD, set, eqb}
 use Rattle.basis.specs.Words.{pick}
 use Rattle.basis.specs.Upto.{upto, pairCell}
 use Rattle.basis.specs.Refusals.{Outcome, orElse, roomFor, handed}

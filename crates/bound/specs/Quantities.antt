@@ -1,8 +1,6 @@
 -- The two kinds of quantity: a duration in slots, and an amount, which is slots times processors. Each is there in 256ths too, where a share of it is meant.
 -- Only `on` and `onFine` lead from one kind to the other, and no sum adds one kind to another, nor 256ths to what is whole.
-use Prim.Native.Nat.{ℕ, _+_, _-_, _*_, _/_, _%_, min, max}
-use mathlib.Core.Bool.{Bool}
-use lib.Dec.{ltb}
+use Rattle.basis.specs.Prelude.{ℕ, _+_, _-_, _*_, _/_, _%_, min, max, Bool, ltb}
 use Rattle.basis.specs.Words.{sum}
 use Rattle.bound.specs.declared.quantity.Duration.{Duration}
 use Rattle.bound.specs.declared.quantity.Amount.{Amount}

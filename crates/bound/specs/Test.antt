@@ -1,7 +1,6 @@
 -- The test of one length, by the formulas of document 01, in its order. Numbers of equations are those of document 000, whose D_i - S_i is R_i here, since rows
 -- are judged from the top and a row's bound is known before it is used.
-use Prim.Native.Nat.{ℕ, _+_, _-_, min}
-use mathlib.Core.Bool.{Bool}
+use Rattle.basis.specs.Prelude.{ℕ, _+_, _-_, min, Bool}
 use Rattle.sheet.specs.Legal.{rowAt}
 use Rattle.sheet.specs.declared.row.Row.{Row}
 use Rattle.sheet.specs.declared.row.Sheet.{Sheet}

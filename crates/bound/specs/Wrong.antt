@@ -1,8 +1,5 @@
 -- Wrong answers, each right but for one thing: what the promises of this crate shut out.
-use Prim.Native.Nat.{ℕ, zero, suc, min}
-use mathlib.Core.Bool.{Bool, true, false}
-use mathlib.Core.List.{List, [], _∷_}
-use lib.Dec.{leb, ltb}
+use Rattle.basis.specs.Prelude.{ℕ, zero, suc, min, Bool, true, false, List, [], _∷_, leb, ltb}
 use Rattle.basis.specs.Words.{pick}
 use Rattle.basis.specs.Upto.{upto}
 use Rattle.basis.specs.Refusals.{Outcome, accepted, refused}

@@ -10,7 +10,7 @@ ghost use Rattle.sheet.specs.Lists.{sheetIn};
 ghost use Rattle.bound.specs.Test.{passes};
 ghost use Rattle.bound.specs.Bound.{word, isBound, resultOf, holds};
 ghost use Rattle.bound.specs.Lists.{wordNumber, boundNumber, resultsLong, resultCell, words, putResult};
-ghost use Rattle.bound.specs.Ready.{Lent, RowsAbove};
+ghost use Rattle.bound.specs.Inside.Ready.{Lent, RowsAbove};
 use crate::results::Result;
 use crate::search::bound_of;
 

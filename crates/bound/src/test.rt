@@ -6,7 +6,7 @@ ghost use Rattle.sheet.specs.Legal.{Legal};
 ghost use Rattle.sheet.specs.Lists.{sheetIn};
 ghost use Rattle.bound.specs.Quantities.{widestSeparation, on, less};
 ghost use Rattle.bound.specs.Test.{q, X, x, W, durationOf, amounts, room};
-ghost use Rattle.bound.specs.Ready.{heldIn, Long, Lent, Ready, Length, Above, Spans};
+ghost use Rattle.bound.specs.Inside.Ready.{heldIn, Long, Lent, Ready, Length, Above, Spans};
 use crate::inside::row_inside;
 use crate::inside::row_looked_at;
 use crate::quantity::Amount;

@@ -1,11 +1,6 @@
 -- What a program hands on of the buffers that it lends: the part that was written is in the buffer, and is the whole text.
 -- Assumes nothing.
-use Prim.Native.Nat.{ℕ, _≤_, min}
-use mathlib.Core.Path.{_≡_, refl, sym, ap, _∙_}
-use mathlib.Core.List.{List, _++_}
-use native.Mathlib.Omega.{arith}
-use lib.ListN.{length, take, drop, length-append, length-take, length-drop, length-replicate}
-use lib.Seq.{length-take-le, take-at}
+use Rattle.basis.specs.Prelude.{ℕ, _≤_, min, _≡_, refl, sym, ap, _∙_, List, _++_, arith, length, take, drop, length-append, length-take, length-drop, length-replicate, length-take-le, take-at}
 use Rattle.dashboard.specs.Texts.{verdictText, referenceText}
 use Rattle.page.specs.Pages.{Page, written}
 use Rattle.dashboard.specs.Longest.{textSize, textBuffer}

@@ -1,7 +1,6 @@
 -- The worked verdicts and the whole reference hold of the definitions.
 -- Assumes nothing.
-use mathlib.Core.Path.{_≡_, refl}
-use mathlib.Core.List.{[], _∷_, _++_}
+use Rattle.basis.specs.Prelude.{_≡_, refl, [], _∷_, _++_}
 use Rattle.basis.specs.Words.{allOf, sum}
 use Rattle.basis.specs.Readers.{begins}
 use Rattle.numbers.specs.Numbers.{groups, upToBy}

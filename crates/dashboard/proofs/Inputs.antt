@@ -1,15 +1,9 @@
 -- The bytes that a program reads decide the text.
 -- Assumes nothing.
-use Prim.Native.Nat.{ℕ, _+_, _≤_, _<_}
-use mathlib.Core.Path.{_≡_, refl, sym, ap, _∙_}
-use mathlib.Core.Logic.{⊎-elim}
-use mathlib.Core.List.{List}
-use native.Mathlib.Omega.{arith}
-use lib.ListN.{length, take}
-use lib.Seq.{take-all}
+use Rattle.basis.specs.Prelude.{ℕ, _+_, _≤_, _<_, _≡_, refl, sym, ap, _∙_, ⊎-elim, List, arith, length, take, take-all}
 use Rattle.basis.specs.Refusals.{Outcome, accepted}
 use Rattle.basis.specs.Readers.{Step, ok, refuse}
-use Rattle.basis.proofs.Words.{lt-or-le}
+use Rattle.basis.proofs.Inside.Words.{lt-or-le}
 use Rattle.numbers.specs.Numbers.{spelt, width}
 use Rattle.reader.specs.Form.{Held, sheet}
 use Rattle.reader.specs.Answers.{readingOf, reading}

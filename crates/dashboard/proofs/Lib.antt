@@ -1,13 +1,11 @@
 pub mod Same
-pub mod Boards
 pub mod Cases
 pub mod TextLengths
-pub mod Lists
 pub mod Inputs
 pub mod Outcomes
 pub mod NoVerdicts
-pub mod Reports
 pub mod Buffers
 pub mod Verdicts
 pub mod Wrong
 pub mod LongestText
+pub mod Inside

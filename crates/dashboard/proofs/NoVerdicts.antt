@@ -1,10 +1,6 @@
 -- NO VERDICT: the number after it is 1 to 9, and no row is printed of a sheet that the reader refuses.
 -- Assumes nothing.
-use Prim.Native.Nat.{ℕ, zero, suc, _≤_, _<_}
-use mathlib.Core.Path.{_≡_, refl, sym, ap, _∙_}
-use mathlib.Core.List.{List, _∷_, _++_}
-use native.Mathlib.Omega.{arith}
-use lib.ListN.{length, getD, drop}
+use Rattle.basis.specs.Prelude.{ℕ, zero, suc, _≤_, _<_, _≡_, refl, sym, ap, _∙_, List, _∷_, _++_, arith, length, getD, drop}
 use Rattle.basis.specs.Refusals.{accepted, refused}
 use Rattle.sheet.specs.Legal.{rowAt}
 use Rattle.reader.specs.Answers.{reading}

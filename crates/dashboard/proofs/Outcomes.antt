@@ -1,8 +1,6 @@
 -- The text by what the reader says: the lines of the sheet, or the one line of a refusal.
 -- Assumes nothing.
-use Prim.Native.Nat.{ℕ}
-use mathlib.Core.Path.{_≡_, refl, ap}
-use mathlib.Core.List.{List}
+use Rattle.basis.specs.Prelude.{ℕ, _≡_, refl, ap, List}
 use Rattle.basis.specs.Refusals.{Outcome, accepted, refused}
 use Rattle.reader.specs.Answers.{reading}
 use Rattle.dashboard.specs.Words.{noVerdict}

@@ -1,8 +1,6 @@
 -- Equal answers: two buffers, and two numbers of bytes, that a promise allows are the same.
 -- Assumes nothing.
-use Prim.Native.Nat.{ℕ}
-use mathlib.Core.Path.{_≡_}
-use mathlib.Core.List.{List}
+use Rattle.basis.specs.Prelude.{ℕ, _≡_, List}
 use Rattle.basis.proofs.Same.{same, pair-same}
 use Rattle.dashboard.specs.Texts.{verdictText, referenceText}
 use Rattle.dashboard.specs.Longest.{inputBuffer, textBuffer}

@@ -1,15 +1,9 @@
 -- How long a text can be: any is whole in the buffer that the programs lend.
 -- Assumes nothing.
-use Prim.Native.Nat.{ℕ, zero, suc, _+_, _*_, _≤_, _<_, min}
-use mathlib.Core.Path.{_≡_, refl}
-use mathlib.Core.Bool.{Bool, true, false}
-use mathlib.Core.List.{List, _++_}
-use native.Mathlib.Omega.{arith}
-use lib.ListN.{length, drop, length-append, length-take}
-use lib.Seq.{take-all}
+use Rattle.basis.specs.Prelude.{ℕ, zero, suc, _+_, _*_, _≤_, _<_, min, _≡_, refl, Bool, true, false, List, _++_, arith, length, drop, length-append, length-take, take-all}
 use Rattle.basis.specs.Limits.{mostRows, longestLabel, mostSeparation}
 use Rattle.basis.specs.Words.{sum}
-use Rattle.basis.proofs.Sums.{sum-grows}
+use Rattle.basis.proofs.Inside.Sums.{sum-grows}
 use Rattle.basis.specs.Refusals.{accepted}
 use Rattle.reader.specs.Form.{Held, sheet}
 use Rattle.sheet.specs.Legal.{Legal}
@@ -22,7 +16,7 @@ use Rattle.basis.specs.Readers.{Step, ok, refuse}
 use Rattle.bound.specs.Test.{passes}
 use Rattle.bound.specs.Bound.{Word, bound, none, unreached, isBound, valueOf, resultOf, holds}
 use Rattle.bound.proofs.Meaning.{bound-in-range}
-use Rattle.bound.proofs.Judging.{passes-local}
+use Rattle.bound.proofs.Inside.Judging.{passes-local}
 use Rattle.page.specs.Decimals.{digits, decimal, mostDigits}
 use Rattle.dashboard.specs.Words.{boundWord, resultWords, lineStart, line, holdsLine, ending, refusedBy, noVerdict}
 use Rattle.dashboard.specs.Labels.{ownLabel}

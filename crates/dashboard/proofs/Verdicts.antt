@@ -1,14 +1,8 @@
 -- The last line is HOLDS exactly if the bytes are green, and then no job is ever late.
 -- Assumes nothing.
-use Prim.Native.Nat.{ℕ, zero, suc, _+_, _<_}
-use mathlib.Core.Path.{_≡_, refl, sym, ap, subst, _∙_}
-use mathlib.Core.Bool.{Bool, true, false}
-use mathlib.Core.Logic.{_⊎_, inl, inr, _↔_}
-use mathlib.Core.List.{List, [], _∷_, _++_, append-assoc}
-use native.Mathlib.Omega.{arith}
-use lib.ListN.{length}
+use Rattle.basis.specs.Prelude.{ℕ, zero, suc, _+_, _<_, _≡_, refl, sym, ap, subst, _∙_, Bool, true, false, _⊎_, inl, inr, _↔_, List, [], _∷_, _++_, append-assoc, arith, length}
 use Rattle.basis.specs.Refusals.{accepted, isAccepted}
-use Rattle.basis.proofs.Words.{true-not-false, both-left, both-right}
+use Rattle.basis.proofs.Inside.Words.{true-not-false, both-left, both-right}
 use Rattle.reader.specs.Answers.{reading}
 use Rattle.sheet.specs.declared.row.Sheet.{Sheet}
 use Rattle.reader.proofs.LegalSheets.{accepted-is-legal}
@@ -23,7 +17,7 @@ use Rattle.dashboard.specs.Labels.{ownLabel}
 use Rattle.dashboard.specs.Texts.{lines, board, verdictText}
 use Rattle.dashboard.specs.Meaning.{EndsIn, LastLine}
 use Rattle.page.proofs.Digits.{last-digit}
-use Rattle.dashboard.proofs.Lists.{ends-same}
+use Rattle.dashboard.proofs.Inside.Lists.{ends-same}
 use Rattle.dashboard.proofs.Outcomes.{accepted-prints-its-rows, refused-prints-one-line, by-outcome}
 
 module _ (label : ℕ → List ℕ) (result : ℕ → Word) where

@@ -1,9 +1,6 @@
 -- No text by a wrong rule meets the promise of `write_verdict` or of `write_reference`, and no other buffer that of the programs' two.
 -- Assumes nothing.
-use Prim.Native.Nat.{ℕ}
-use mathlib.Core.Path.{refl}
-use mathlib.Core.List.{List}
-use lib.ListN.{length, getD}
+use Rattle.basis.specs.Prelude.{ℕ, refl, List, length, getD}
 use Rattle.basis.specs.Words.{allOf, sum}
 use Rattle.basis.specs.Readers.{begins}
 use Rattle.basis.specs.Faults.{NoneMeets}

@@ -1,6 +1,5 @@
 -- The worked verdicts, their bytes and their texts, and the whole reference.
-use Prim.Native.Nat.{ℕ}
-use mathlib.Core.List.{List, [], _∷_}
+use Rattle.basis.specs.Prelude.{ℕ, List, [], _∷_}
 
 -- Sheet C with labels roll and trim, but for its last byte.
 abbrev pub rollAndTrim : List ℕ

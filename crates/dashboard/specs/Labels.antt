@@ -1,7 +1,5 @@
 -- The labels that stand in the lines.
-use Prim.Native.Nat.{ℕ}
-use mathlib.Core.List.{List, _++_}
-use lib.ListN.{take, drop}
+use Rattle.basis.specs.Prelude.{ℕ, List, _++_, take, drop}
 use Rattle.reader.specs.Answers.{labelIn}
 use Rattle.reader.specs.declared.row.Part.{Part}
 use Rattle.page.specs.Decimals.{decimal}

@@ -1,7 +1,5 @@
 -- The longest text, and the buffers that a program lends.
-use Prim.Native.Nat.{ℕ, _+_}
-use mathlib.Core.List.{List}
-use lib.ListN.{length, replicate}
+use Rattle.basis.specs.Prelude.{ℕ, _+_, List, length, replicate}
 use Rattle.basis.specs.Limits.{mostRows, longestLabel, mostSeparation}
 use Rattle.basis.specs.Words.{sum}
 use Rattle.reader.specs.Longest.{longestSheet}

@@ -1,8 +1,5 @@
 -- What the laws of a verdict speak of: the last line, what follows NO VERDICT, and rows that are reported.
-use Prim.Native.Nat.{ℕ, _≤_}
-use mathlib.Core.Path.{_≡_}
-use mathlib.Core.Logic.{_⊎_}
-use mathlib.Core.List.{List, [], _++_}
+use Rattle.basis.specs.Prelude.{ℕ, _≤_, _≡_, _⊎_, List, [], _++_}
 use Rattle.basis.specs.Refusals.{refused}
 use Rattle.reader.specs.Answers.{reading}
 use Rattle.sheet.specs.declared.row.Row.{Row}

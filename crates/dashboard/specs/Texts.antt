@@ -1,6 +1,5 @@
 -- The text of a verdict, for any bytes, and of the reference.
-use Prim.Native.Nat.{ℕ, zero, suc, _+_}
-use mathlib.Core.List.{List, [], _∷_, _++_}
+use Rattle.basis.specs.Prelude.{ℕ, zero, suc, _+_, List, [], _∷_, _++_}
 use Rattle.basis.specs.Refusals.{Outcome, accepted, refused}
 use Rattle.reader.specs.Answers.{reading}
 use Rattle.sheet.specs.declared.row.Sheet.{Sheet}

@@ -1,7 +1,5 @@
 -- The words of a verdict and its lines, byte for byte.
-use Prim.Native.Nat.{ℕ}
-use mathlib.Core.Bool.{Bool}
-use mathlib.Core.List.{List, [], _∷_, _++_}
+use Rattle.basis.specs.Prelude.{ℕ, Bool, List, [], _∷_, _++_}
 use Rattle.basis.specs.Words.{pick}
 use Rattle.bound.specs.Bound.{Word, bound, none, unreached}
 use Rattle.page.specs.Decimals.{decimal}

@@ -1,8 +1,5 @@
 -- Wrong rules of the texts and the buffers, each the rule of document 01 but for one thing, and the sheets that tell them.
-use Prim.Native.Nat.{ℕ, zero, suc, _-_, _/_}
-use mathlib.Core.Bool.{Bool, true}
-use mathlib.Core.List.{List, [], _∷_, _++_}
-use lib.ListN.{replicate}
+use Rattle.basis.specs.Prelude.{ℕ, zero, suc, _-_, _/_, Bool, true, List, [], _∷_, _++_, replicate}
 use Rattle.basis.specs.Refusals.{Outcome, accepted, refused}
 use Rattle.reader.specs.Answers.{reading}
 use Rattle.sheet.specs.declared.row.Sheet.{Sheet}

@@ -9,7 +9,7 @@ ghost use Rattle.bound.specs.Lists.{resultsLong, wordAt};
 ghost use Rattle.dashboard.specs.Words.{ending};
 ghost use Rattle.dashboard.specs.Texts.{lines};
 ghost use Rattle.dashboard.specs.Labels.{lineLabel};
-ghost use Rattle.dashboard.specs.Ready.{LabelsLie};
+ghost use Rattle.dashboard.specs.Inside.Ready.{LabelsLie};
 ghost use Rattle.page.specs.Pages.{said};
 use crate::line::Labels;
 use crate::line::put_ending;

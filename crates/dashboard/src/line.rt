@@ -5,7 +5,7 @@ ghost use lib.ListN.{length};
 ghost use Rattle.basis.specs.Limits.{mostRows};
 ghost use Rattle.reader.specs.Answers.{labelIn};
 ghost use Rattle.reader.specs.Lists.{labelsLong};
-ghost use Rattle.reader.specs.Steps.{partIn};
+ghost use Rattle.reader.specs.Inside.Steps.{partIn};
 ghost use Rattle.bound.specs.Lists.{resultsLong, wordAt};
 ghost use Rattle.dashboard.specs.Words.{resultWords, lineStart, line, ending, refusedBy, noVerdict};
 ghost use Rattle.dashboard.specs.Labels.{ownLabel, lineLabel};

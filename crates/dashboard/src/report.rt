@@ -4,7 +4,7 @@ ghost use Prim.Native.Nat.{_<_};
 ghost use Rattle.tables.specs.Tables.{fixedSheet};
 ghost use Rattle.dashboard.specs.Texts.{fixedCount, prefix, board, section, verdictText, referenceText};
 ghost use Rattle.dashboard.specs.Labels.{numbered};
-ghost use Rattle.dashboard.specs.Ready.{Roomy};
+ghost use Rattle.dashboard.specs.Inside.Ready.{Roomy};
 ghost use Rattle.page.specs.Pages.{said, written};
 use crate::board::put_board;
 use crate::line::Labels;

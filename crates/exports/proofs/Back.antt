@@ -1,18 +1,12 @@
 -- What is read into a list comes back when the list is read.
 -- Assumes nothing.
-use Prim.Native.Nat.{ℕ}
-use mathlib.Core.Path.{_≡_, refl}
-use mathlib.Core.Bool.{Bool, true, false}
-use mathlib.Core.List.{List}
-use lib.ListN.{length}
-use lib.Dec.{leb}
-use native.Mathlib.Omega.{arith}
+use Rattle.basis.specs.Prelude.{ℕ, _≡_, refl, Bool, true, false, List, length, leb, arith}
 use Rattle.basis.specs.Refusals.{Outcome, accepted, refused, orElse, needed, roomFor}
 use Rattle.basis.proofs.Refusals.{room-holds}
 use Rattle.reader.specs.Answers.{reading}
 use Rattle.reader.proofs.LegalSheets.{accepted-is-legal}
 use Rattle.reader.proofs.Reach.{refusal-is-listed}
-use Rattle.reader.proofs.ZeroLists.{rows-long}
+use Rattle.reader.proofs.Inside.ZeroLists.{rows-long}
 use Rattle.sheet.proofs.RoundTrip.{sheet-comes-back}
 use Rattle.sheet.specs.Lists.{sheetIn, sheetLong}
 use Rattle.exports.specs.Answers.{told, fieldsIn, readIn}

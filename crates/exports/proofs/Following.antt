@@ -1,13 +1,6 @@
 -- Demand 3 for a machine kept in a list: its accepted slots since fresh are those of a history by value.
 -- Assumes nothing.
-use Prim.Native.Nat.{ℕ}
-use mathlib.Core.Path.{_≡_, refl, sym, ap, ap₂, subst, _∙_}
-use mathlib.Core.Bool.{Bool, true, false}
-use mathlib.Core.List.{List, [], _∷_, _++_, append-nil, append-assoc}
-use native.Mathlib.Omega.{arith}
-use lib.ListN.{length, take}
-use lib.Dec.{leb, eqb}
-use borrow.Author.Tests.{ne-eqb, eqb-true, eqb-false}
+use Rattle.basis.specs.Prelude.{ℕ, _≡_, refl, sym, ap, ap₂, subst, _∙_, Bool, true, false, List, [], _∷_, _++_, append-nil, append-assoc, arith, length, take, leb, eqb, ne-eqb, eqb-true, eqb-false}
 use Rattle.basis.specs.Words.{pick}
 use Rattle.basis.specs.Refusals.{Outcome, accepted, refused, isAccepted, orElse, needed}
 use Rattle.reader.specs.Answers.{reading}

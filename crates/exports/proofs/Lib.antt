@@ -1,14 +1,8 @@
 pub mod Back
-pub mod Bounds
-pub mod BoxAnswers
-pub mod Calls
-pub mod Copies
-pub mod Fields
 pub mod Following
 pub mod Refusals
 pub mod Meaning
-pub mod NumberAnswers
 pub mod Same
-pub mod Texts
 pub mod Wrong
 pub mod WrongFurther
+pub mod Inside

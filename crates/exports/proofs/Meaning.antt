@@ -1,11 +1,6 @@
 -- What a sheet's list that hands over too little means: it is refused, since the sheet in it is not legal.
 -- Assumes nothing.
-use Prim.Native.Nat.{ℕ, _<_}
-use mathlib.Core.Path.{_≡_}
-use mathlib.Core.Bool.{false}
-use mathlib.Core.List.{List}
-use lib.ListN.{length}
-use native.Mathlib.Omega.{arith}
+use Rattle.basis.specs.Prelude.{ℕ, _<_, _≡_, false, List, length, arith}
 use Rattle.sheet.specs.Legal.{legal}
 use Rattle.sheet.specs.Lists.{sheetIn}
 use Rattle.sheet.proofs.Ranges.{missing-rows-are-refused}

@@ -1,11 +1,7 @@
 -- A refused call changes nothing that is lent: where the number told is not 0, every list and number is as it was.
 -- Assumes nothing.
-use Prim.Native.Nat.{ℕ, _/_}
-use mathlib.Core.Path.{_≡_, refl, sym, ap, _∙_}
-use mathlib.Core.List.{List}
-use lib.ListN.{length}
+use Rattle.basis.specs.Prelude.{ℕ, _/_, _≡_, refl, sym, ap, _∙_, List, length, eq-eqb}
 use lib.IntN.{ℤ}
-use borrow.Author.Tests.{eq-eqb}
 use Rattle.basis.specs.Words.{pick}
 use Rattle.basis.specs.Refusals.{Outcome, accepted, refused, orElse, needed, roomFor, handed, isAccepted}
 use Rattle.basis.specs.Readers.{Step, ok, refuse}

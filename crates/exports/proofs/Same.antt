@@ -1,9 +1,6 @@
 -- Equal answers: any two answers that the promise of a call allows are equal.
 -- Assumes nothing.
-use Prim.Native.Nat.{ℕ}
-use mathlib.Core.Path.{_≡_, sym, _∙_}
-use mathlib.Core.Bool.{Bool, true}
-use mathlib.Core.List.{List}
+use Rattle.basis.specs.Prelude.{ℕ, _≡_, sym, _∙_, Bool, true, List}
 use lib.IntN.{ℤ}
 use Rattle.reader.specs.Answers.{reading}
 use Rattle.green.specs.Demand.{NoJobIsLate}

@@ -1,10 +1,6 @@
 -- Wrong answers of the calls for other programs are shut out: on the list or the bytes of sheet C, or on none, no answer with the fault meets the promise.
 -- Assumes nothing.
-use Prim.Native.Nat.{ℕ}
-use mathlib.Core.Path.{refl}
-use mathlib.Core.List.{List, [], _∷_}
-use native.Mathlib.Omega.{arith}
-use lib.ListN.{getD, replicate}
+use Rattle.basis.specs.Prelude.{ℕ, refl, List, [], _∷_, arith, getD, replicate}
 use lib.IntN.{ℤ, pos, negsuc}
 use Rattle.basis.specs.Words.{allOf, sum}
 use Rattle.basis.specs.Readers.{begins}

@@ -1,9 +1,6 @@
 -- No answer by a wrong rule of the further calls meets their promises; that of `giachimu_legal` is that of `sheet::is_legal`, and so are its wrong answers.
 -- Assumes nothing.
-use Prim.Native.Nat.{ℕ}
-use mathlib.Core.Path.{refl}
-use mathlib.Core.List.{List}
-use lib.ListN.{getD}
+use Rattle.basis.specs.Prelude.{ℕ, refl, List, getD}
 use Rattle.basis.specs.Words.{allOf}
 use Rattle.basis.specs.Refusals.{firstOf}
 use Rattle.basis.specs.Upto.{upto, pairCell}

@@ -1,10 +1,6 @@
 -- What each call for other programs answers: the number and the place of a refusal, or zeros, and every lent list and number afterwards.
-use Prim.Native.Nat.{ℕ}
-use mathlib.Core.Bool.{Bool}
-use mathlib.Core.List.{List}
-use lib.ListN.{length}
+use Rattle.basis.specs.Prelude.{ℕ, Bool, List, length, ltb}
 use lib.IntN.{ℤ}
-use lib.Dec.{ltb}
 use Rattle.basis.specs.Words.{pick}
 use Rattle.basis.specs.Refusals.{Outcome, accepted, refused, orElse, needed, roomFor, handed}
 use Rattle.reader.specs.Answers.{reading, labelIn}

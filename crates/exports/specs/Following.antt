@@ -1,9 +1,5 @@
 -- A machine kept in a list, as a program that links the library keeps it: any calls on the list, one after another, and its accepted slots since it was last made fresh.
-use Prim.Native.Nat.{ℕ}
-use mathlib.Core.Path.{_≡_}
-use mathlib.Core.List.{List, [], _∷_, _++_}
-use lib.ListN.{take}
-use lib.Dec.{eqb}
+use Rattle.basis.specs.Prelude.{ℕ, _≡_, List, [], _∷_, _++_, take, eqb}
 use Rattle.basis.specs.Words.{pick}
 use Rattle.sheet.specs.Lists.{sheetIn}
 use Rattle.green.specs.Calls.{Done, runDone}

@@ -1,7 +1,5 @@
 -- What the further calls for other programs answer: a number in bytes, a sheet's list in its ranges, the worked sheets, and a run of the box's own loop.
-use Prim.Native.Nat.{ℕ}
-use mathlib.Core.List.{List}
-use lib.ListN.{length}
+use Rattle.basis.specs.Prelude.{ℕ, List, length}
 use Rattle.basis.specs.Refusals.{Outcome, accepted, refused, orElse, needed, roomFor}
 use Rattle.basis.specs.Upto.{pairCell}
 use Rattle.basis.specs.Readers.{Step, ok, refuse}

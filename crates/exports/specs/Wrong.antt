@@ -1,6 +1,5 @@
 -- Wrong answers of the calls for other programs, each right but for one thing.
-use Prim.Native.Nat.{ℕ}
-use mathlib.Core.List.{List}
+use Rattle.basis.specs.Prelude.{ℕ, List}
 use lib.IntN.{ℤ, pos}
 use Rattle.sheet.specs.Lists.{filled, sheetCell}
 use Rattle.reader.specs.Answers.{reading}

@@ -1,7 +1,5 @@
 -- Wrong rules of the further calls, each the rule but for one thing, and the inputs that tell them.
-use Prim.Native.Nat.{ℕ, _/_}
-use mathlib.Core.List.{List, [], _∷_}
-use lib.ListN.{length, replicate}
+use Rattle.basis.specs.Prelude.{ℕ, _/_, List, [], _∷_, length, replicate}
 use Rattle.sheet.specs.Lists.{filled, sheetIn, sheetCell}
 use Rattle.tables.specs.Tables.{fixedSheet}
 use Rattle.numbers.specs.Numbers.{upTo}

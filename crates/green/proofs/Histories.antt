@@ -1,26 +1,18 @@
 -- The accepted slots of any calls are a chain: of one slot, of a run, and of calls one after another.
 -- Assumes nothing.
-use Prim.Native.Nat.{ℕ, zero, suc, _+_, _*_, _-_, _/_, _≤_, _<_}
-use mathlib.Core.Path.{_≡_, refl, sym, ap, ap₂, subst, _∙_}
-use mathlib.Core.Bool.{Bool, true, false}
-use mathlib.Core.List.{List, [], _∷_, _++_}
-use native.Mathlib.Omega.{arith}
-use native.Mathlib.Nat.{mul-le-mul-right}
-use native.Mathlib.Numerals.{add-one}
-use lib.ListN.{length, getD, take, drop, length-append, length-drop, take-append-drop}
-use lib.Seq.{getD-take, length-take-le, take-append-le, drop-append-le, drop-at, take-take}
+use Rattle.basis.specs.Prelude.{ℕ, zero, suc, _+_, _*_, _-_, _/_, _≤_, _<_, _≡_, refl, sym, ap, ap₂, subst, _∙_, Bool, true, false, List, [], _∷_, _++_, arith, mul-le-mul-right, add-one, length, getD, take, drop, length-append, length-drop, take-append-drop, getD-take, length-take-le, take-append-le, drop-append-le, drop-at, take-take}
 use Rattle.basis.specs.Refusals.{Outcome, accepted, refused}
-use Rattle.basis.proofs.Upto.{upto-below, length-upto}
+use Rattle.basis.proofs.Inside.Upto.{upto-below, length-upto}
 use Rattle.sheet.specs.declared.row.Sheet.{Sheet}
 use Rattle.machine.specs.States.{State}
 use Rattle.machine.specs.Slot.{code}
 use Rattle.machine.specs.Checks.{checkSlot, checkRun}
 use Rattle.machine.specs.Answers.{SlotAnswer, RunAnswer, slotAnswer, runAnswer, given, nextState, nextCodes, slotBy, slot, entriesOf, slotAt, onward, course, run}
-use Rattle.machine.proofs.Answers.{Accepted-slot, slot-shows}
-use Rattle.machine.proofs.Courses.{followed}
-use Rattle.machine.proofs.Legals.{legal-state-is}
+use Rattle.machine.proofs.Inside.Answers.{Accepted-slot, slot-shows}
+use Rattle.machine.proofs.Inside.Courses.{followed}
+use Rattle.machine.proofs.Inside.Legals.{legal-state-is}
 use Rattle.green.specs.Calls.{Call, one-slot, a-run, Done, slotDone, runSlot, runDone, slotsOf, stateAfter, history, stateAfterAll}
-use Rattle.green.proofs.Chains.{Slotted, Chain, none, more, chain-append}
+use Rattle.green.proofs.Inside.Chains.{Slotted, Chain, none, more, chain-append}
 
 -- an accepted slot, on any buffer that begins with its codes
 module _ (h : Sheet) (t : State) (rel cs : List ℕ) (e : checkSlot h t rel (length cs) ≡ accepted) where

@@ -1,7 +1,6 @@
 -- Demand 3 is not empty: sheets A, B, D, E and F are instances, and on sheet D a job of the lower row finishes in exactly its bound.
 -- Assumes nothing.
-use mathlib.Core.Path.{_≡_, refl}
-use mathlib.Core.List.{[], _∷_}
+use Rattle.basis.specs.Prelude.{_≡_, refl, [], _∷_}
 use Rattle.basis.specs.Words.{allOf, sum, Each}
 use Rattle.basis.specs.Refusals.{firstOf}
 use Rattle.basis.specs.Upto.{upto}

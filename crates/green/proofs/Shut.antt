@@ -1,10 +1,6 @@
 -- Wrong answers of green and wrong histories are shut out: on the bytes of sheets C and D, and on runs of sheet D.
 -- Assumes nothing.
-use Prim.Native.Nat.{ℕ, zero, suc, _+_, _<_}
-use mathlib.Core.Path.{_≡_, refl}
-use mathlib.Core.List.{List, [], _∷_}
-use native.Mathlib.Omega.{arith}
-use lib.ListN.{length}
+use Rattle.basis.specs.Prelude.{ℕ, zero, suc, _+_, _<_, _≡_, refl, List, [], _∷_, arith, length}
 use Rattle.basis.specs.Words.{allOf, sum}
 use Rattle.basis.specs.Readers.{begins}
 use Rattle.basis.specs.Refusals.{firstOf}

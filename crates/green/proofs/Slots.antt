@@ -1,20 +1,12 @@
 -- From the machine's own slot to what the argument for green needs of a slot.
 -- Assumes nothing.
-use Prim.Native.Nat.{ℕ, zero, suc, _+_, _*_, _-_, _≤_, _<_, min}
-use mathlib.Core.Path.{_≡_, refl, sym, ap, subst, _∙_}
-use mathlib.Core.Bool.{Bool, true, false}
-use mathlib.Core.Logic.{⊎-elim}
-use mathlib.Core.List.{List}
-use native.Mathlib.Omega.{arith}
-use lib.ListN.{getD}
-use lib.Dec.{ltb, leb}
-use borrow.Author.Tests.{ltb-true, lt-ltb, ne-eqb}
+use Rattle.basis.specs.Prelude.{ℕ, zero, suc, _+_, _*_, _-_, _≤_, _<_, min, _≡_, refl, sym, ap, subst, _∙_, Bool, true, false, ⊎-elim, List, arith, getD, ltb, leb, ltb-true, lt-ltb, ne-eqb}
 use Rattle.basis.specs.Words.{pick, both}
 use Rattle.basis.specs.Refusals.{accepted}
-use Rattle.basis.proofs.FirstRefusal.{first-at}
-use Rattle.basis.proofs.Sums.{sum-same}
-use Rattle.basis.proofs.Words.{lt-or-le}
-use Rattle.basis.proofs.Upto.{upto-below}
+use Rattle.basis.proofs.Inside.FirstRefusal.{first-at}
+use Rattle.basis.proofs.Inside.Sums.{sum-same}
+use Rattle.basis.proofs.Inside.Words.{lt-or-le}
+use Rattle.basis.proofs.Inside.Upto.{upto-below}
 use Rattle.sheet.specs.Legal.{rowAt}
 use Rattle.sheet.specs.declared.row.Row.{Row}
 use Rattle.sheet.specs.declared.row.Sheet.{Sheet}
@@ -25,10 +17,10 @@ use Rattle.machine.specs.Slot.{begun, free, runs, reached, next}
 use Rattle.records.specs.Steps.{released, fits, worked, older, aged, missed, ended}
 use Rattle.machine.specs.Checks.{checkAt, checkReleases}
 use Rattle.machine.specs.Answers.{given, nextState}
-use Rattle.machine.proofs.Legals.{LegalState, legal-state-long}
+use Rattle.machine.proofs.Inside.Legals.{LegalState, legal-state-long}
 use Rattle.machine.proofs.Placement.{takenBy, processors-are-kept, waits-unfit}
-use Rattle.records.proofs.Records.{release-allowed, older-below, older-full}
-use Rattle.green.specs.Model.{Moment, owed, age, Slot}
+use Rattle.records.proofs.Inside.Records.{release-allowed, older-below, older-full}
+use Rattle.green.specs.Inside.Model.{Moment, owed, age, Slot}
 use Rattle.green.proofs.Sheets.{rowsOf}
 
 -- a state as functions of the row number

@@ -1,7 +1,6 @@
 -- Wrong tests are unsound: the sheet of two rows (1,1,1,1) on one processor holds by each of them, and its second row misses its deadline.
 -- Assumes nothing.
-use mathlib.Core.Path.{_≡_, refl}
-use mathlib.Core.Bool.{true, false}
+use Rattle.basis.specs.Prelude.{_≡_, refl, true, false}
 use Rattle.basis.specs.Words.{allOf, sum}
 use Rattle.basis.specs.Refusals.{firstOf}
 use Rattle.basis.specs.Upto.{upto}

@@ -1,7 +1,5 @@
 -- Any list of calls with a sheet, from a fresh machine, and its accepted slots in one sequence.
-use Prim.Native.Nat.{ℕ, zero, suc, _+_}
-use mathlib.Core.List.{List, [], _∷_, _++_}
-use lib.ListN.{length, getD, take}
+use Rattle.basis.specs.Prelude.{ℕ, zero, suc, _+_, List, [], _∷_, _++_, length, getD, take}
 use Rattle.basis.specs.Words.{pick}
 use Rattle.basis.specs.Refusals.{isAccepted}
 use Rattle.sheet.specs.declared.row.Sheet.{Sheet}

@@ -2,6 +2,6 @@ pub mod Calls
 pub mod Demand
 pub mod Green
 pub mod Lent
-pub mod Model
 pub mod Tight
 pub mod Wrong
+pub mod Inside

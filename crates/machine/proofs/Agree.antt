@@ -1,12 +1,8 @@
 -- Two sheets: rows 0 to k decide for rows 0 to k, and rows past n decide nothing.
 -- Assumes nothing.
-use Prim.Native.Nat.{ℕ, _≤_, _<_}
-use mathlib.Core.Path.{_≡_, refl, sym, ap, ap₂, _∙_}
-use mathlib.Core.List.{List}
-use lib.ListN.{length, getD}
-use native.Mathlib.Omega.{arith}
+use Rattle.basis.specs.Prelude.{ℕ, _≤_, _<_, _≡_, refl, sym, ap, ap₂, _∙_, List, length, getD, arith}
 use Rattle.basis.specs.Refusals.{Outcome, accepted}
-use Rattle.basis.proofs.Upto.{upto-below}
+use Rattle.basis.proofs.Inside.Upto.{upto-below}
 use Rattle.sheet.specs.declared.row.Sheet.{Sheet}
 use Rattle.machine.specs.States.{State, recordAt}
 use Rattle.records.specs.Records.{noRecord}
@@ -14,8 +10,8 @@ use Rattle.records.specs.Steps.{released, ended}
 use Rattle.machine.specs.Slot.{freeAt, Given, begun, free, runs, reached, next, code}
 use Rattle.machine.specs.Checks.{checkSlot}
 use Rattle.machine.specs.Answers.{SlotAnswer, slotAnswer, given, nextState, nextCodes, slot}
-use Rattle.machine.proofs.Answers.{slot-shows}
-use Rattle.machine.proofs.Legals.{legal-state-is, legal-state-long}
+use Rattle.machine.proofs.Inside.Answers.{slot-shows}
+use Rattle.machine.proofs.Inside.Legals.{legal-state-is, legal-state-long}
 use Rattle.machine.proofs.Placement.{free-agrees}
 
 -- what two slots are given is equal in m and in rows 0 to k

@@ -1,6 +1,6 @@
 -- Cases G and H hold of the definitions: a run from fresh gives these codes, with nothing refused.
 -- Assumes nothing.
-use mathlib.Core.Path.{refl}
+use Rattle.basis.specs.Prelude.{refl}
 use Rattle.basis.specs.Words.{allOf}
 use Rattle.basis.specs.Refusals.{firstOf}
 use Rattle.basis.specs.Upto.{upto}

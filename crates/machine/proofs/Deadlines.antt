@@ -1,14 +1,8 @@
 -- What the margin of a job says of its deadline, in any continuation of accepted slots.
 -- Assumes nothing.
-use Prim.Native.Nat.{ℕ, zero, suc, _+_, _≤_, _<_}
-use mathlib.Core.Path.{_≡_, ap, subst, _∙_}
-use mathlib.Core.Bool.{Bool, true, false}
-use mathlib.Core.List.{List}
-use lib.ListN.{getD}
+use Rattle.basis.specs.Prelude.{ℕ, zero, suc, _+_, _≤_, _<_, _≡_, ap, subst, _∙_, Bool, true, false, List, getD, arith, add-zero}
 use lib.IntN.{pos}
 use lib.Signed.{_<ℤ_}
-use native.Mathlib.Omega.{arith}
-use native.Mathlib.Nat.{add-zero}
 use Rattle.basis.specs.Refusals.{accepted}
 use Rattle.sheet.specs.Legal.{rowAt}
 use Rattle.sheet.specs.declared.row.Row.{Row}
@@ -18,9 +12,9 @@ use Rattle.machine.specs.States.{State, recordAt}
 use Rattle.records.specs.Steps.{worked}
 use Rattle.machine.specs.Slot.{runs}
 use Rattle.machine.specs.Answers.{slotAnswer, given, slot, marginOf}
-use Rattle.machine.proofs.Jobs.{JobSlot, job-slot, job-finished, job-missed, job-left, job-older}
+use Rattle.machine.proofs.Inside.Jobs.{JobSlot, job-slot, job-finished, job-missed, job-left, job-older}
 use Rattle.machine.proofs.Ranges.{negative-late, zero-just}
-use Rattle.records.proofs.Records.{worked-least, worked-one, worked-none}
+use Rattle.records.proofs.Inside.Records.{worked-least, worked-one, worked-none}
 
 -- n accepted slots one after another, with any releases and any room for codes
 pub record Continuation (h : Sheet) (n : ℕ) : Type 0 where

@@ -1,20 +1,10 @@
 -- A list that holds a legal state: what it shows of its numbers, and the lists that are refused.
 -- Assumes nothing.
-use Prim.Native.Nat.{ℕ, _+_, _-_, _*_, _/_, _%_, _≤_, _<_}
-use mathlib.Core.Path.{_≡_, refl, sym, ap, _∙_}
-use mathlib.Core.Bool.{Bool, true, false}
-use mathlib.Core.List.{List}
-use mathlib.Core.Logic.{⊎-elim}
-use lib.ListN.{length, List·getD-eq-default}
-use lib.Seq.{ext-getD}
-use lib.Dec.{eqb}
-use native.Mathlib.Omega.{arith}
-use native.Mathlib.Nat.{mod-lt, div-add-mod'}
-use borrow.Author.Tests.{lt-ltb, le-ltb, eq-eqb, eqb-true}
+use Rattle.basis.specs.Prelude.{ℕ, _+_, _-_, _*_, _/_, _%_, _≤_, _<_, _≡_, refl, sym, ap, _∙_, Bool, true, false, List, ⊎-elim, length, List·getD-eq-default, ext-getD, eqb, arith, mod-lt, div-add-mod', lt-ltb, le-ltb, eq-eqb, eqb-true}
 use Rattle.basis.specs.Limits.{mostRows}
 use Rattle.basis.specs.Upto.{upto}
-use Rattle.basis.proofs.Words.{lt-or-le, all-at, all-true, both-left, both-right, true-not-false}
-use Rattle.basis.proofs.Upto.{upto-below, upto-past, length-upto}
+use Rattle.basis.proofs.Inside.Words.{lt-or-le, all-at, all-true, both-left, both-right, true-not-false}
+use Rattle.basis.proofs.Inside.Upto.{upto-below, upto-past, length-upto}
 use Rattle.sheet.specs.Legal.{legal}
 use Rattle.sheet.specs.declared.row.Sheet.{Sheet}
 use Rattle.sheet.proofs.Legality.{legal-is}
@@ -24,8 +14,8 @@ use Rattle.records.specs.declared.record.RowState.{RowState}
 use Rattle.machine.specs.States.{State, stateOf, recordAt, legalState}
 use Rattle.records.specs.Records.{noRecord, isZero}
 use Rattle.machine.specs.Lists.{recordWide, recordIn, stateLong, zeroAt, zeroFrom, spareIsZero, stateIn, putTo, putState}
-use Rattle.machine.proofs.Legals.{legal-state-is}
-use Rattle.machine.proofs.RecordLists.{record-in-state, record-of-none, length-put-to, put-past, put-agree, put-own, state-rows-long, state-put}
+use Rattle.machine.proofs.Inside.Legals.{legal-state-is}
+use Rattle.machine.proofs.Inside.RecordLists.{record-in-state, record-of-none, length-put-to, put-past, put-agree, put-own, state-rows-long, state-put}
 
 -- a list that holds a legal state
 module _ (h : Sheet) (l : List ℕ) (fine : legal h ≡ true) where

@@ -1,20 +1,11 @@
 -- Sheets that are equal in m, n and rows 0 to n - 1 get equal answers of every function: rows past n are not looked at.
 -- Assumes nothing.
-use Prim.Native.Nat.{ℕ, zero, suc, _*_, _/_, _%_, _<_}
-use mathlib.Core.Path.{_≡_, refl, ap, ap₂, _∙_}
-use mathlib.Core.Bool.{Bool}
-use mathlib.Core.List.{List, _++_}
-use mathlib.Core.Logic.{⊎-elim}
-use lib.ListN.{length, getD, take, drop, replicate}
-use lib.Dec.{ltb, eqb}
-use native.Mathlib.Omega.{arith}
-use native.Mathlib.Nat.{le-refl}
-use borrow.Author.Tests.{lt-ltb, le-ltb}
+use Rattle.basis.specs.Prelude.{ℕ, zero, suc, _*_, _/_, _%_, _<_, _≡_, refl, ap, ap₂, _∙_, Bool, List, _++_, ⊎-elim, length, getD, take, drop, replicate, ltb, eqb, arith, le-refl, lt-ltb, le-ltb}
 use Rattle.basis.specs.Limits.{mostRows, mostProcessors}
 use Rattle.basis.specs.Words.{pick, both, within}
 use Rattle.basis.specs.Refusals.{Outcome, accepted, refused, isAccepted, orElse, needed}
-use Rattle.basis.proofs.Words.{all-same, lt-or-le}
-use Rattle.basis.proofs.FirstRefusal.{first-same}
+use Rattle.basis.proofs.Inside.Words.{all-same, lt-or-le}
+use Rattle.basis.proofs.Inside.FirstRefusal.{first-same}
 use Rattle.sheet.specs.Legal.{noRow, rowAt, legalRow, legal}
 use Rattle.sheet.specs.Legal as sheets
 use Rattle.sheet.specs.declared.row.Row.{Row}
@@ -26,9 +17,9 @@ use Rattle.machine.specs.Slot.{next, code}
 use Rattle.records.specs.Checks.{checkRow}
 use Rattle.machine.specs.Checks.{checkAt, checkReleases, checkState, checkRoom, checkSlot, checkRun, checkMargin}
 use Rattle.machine.specs.Answers.{SlotAnswer, RunAnswer, freshAnswer, slotAnswer, runAnswer, fresh, given, nextState, nextCodes, slotBy, slot, entriesOf, slotAt, onward, course, run, MarginAnswer, marginAt, marginBy, margin}
-use Rattle.machine.proofs.Courses.{followed}
+use Rattle.machine.proofs.Inside.Courses.{followed}
 use Rattle.machine.proofs.Agree.{AgreeTo, next-agrees, code-agrees}
-use Rattle.basis.proofs.Upto.{upto-agree}
+use Rattle.basis.proofs.Inside.Upto.{upto-agree}
 
 -- equal in m, n and rows 0 to n - 1
 pub record Alike (h h′ : Sheet) : Type 0 where

@@ -1,13 +1,8 @@
 -- Laws of placement: processors are kept, and rows and records that agree above row k leave as many free there.
 -- Assumes nothing.
-use Prim.Native.Nat.{ℕ, zero, suc, _+_, _-_, _≤_, _<_}
-use mathlib.Core.Path.{_≡_, refl}
-use mathlib.Core.Bool.{Bool, true, false}
-use lib.Dec.{leb}
-use borrow.Author.Tests.{leb-true, leb-false}
-use native.Mathlib.Omega.{arith}
+use Rattle.basis.specs.Prelude.{ℕ, zero, suc, _+_, _-_, _≤_, _<_, _≡_, refl, Bool, true, false, leb, leb-true, leb-false, arith}
 use Rattle.basis.specs.Words.{pick, sum}
-use Rattle.basis.proofs.Words.{both-right}
+use Rattle.basis.proofs.Inside.Words.{both-right}
 use Rattle.sheet.specs.declared.row.Row.{Row}
 use Rattle.records.specs.declared.record.RowState.{RowState}
 use Rattle.records.specs.Records.{hasJob}

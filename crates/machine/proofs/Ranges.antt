@@ -1,13 +1,8 @@
 -- The margin of a row with a job: its value, its range, and what negative and zero say in numbers.
 -- Assumes nothing.
-use Prim.Native.Nat.{ℕ, suc, _+_, _-_, _≤_, _<_}
-use mathlib.Core.Path.{_≡_, refl, sym, _∙_}
-use mathlib.Core.Bool.{Bool, true, false, cond}
-use lib.Dec.{ltb, le→leb, ltb→lt}
+use Rattle.basis.specs.Prelude.{ℕ, suc, _+_, _-_, _≤_, _<_, _≡_, refl, sym, _∙_, Bool, true, false, cond, ltb, le→leb, ltb→lt, arith, lt-ltb, ltb-true, ltb-false}
 use lib.IntN.{pos, negsuc, subℕ, _-ℤ_}
 use lib.Signed.{_≤ℤ_, _<ℤ_}
-use native.Mathlib.Omega.{arith}
-use borrow.Author.Tests.{lt-ltb, ltb-true, ltb-false}
 use Rattle.basis.specs.Refusals.{accepted}
 use Rattle.sheet.specs.Legal.{rowAt, LegalRow}
 use Rattle.sheet.specs.declared.row.Row.{Row}
@@ -16,8 +11,8 @@ use Rattle.records.specs.declared.record.RowState.{RowState}
 use Rattle.machine.specs.States.{State, recordAt}
 use Rattle.machine.specs.Checks.{checkMargin}
 use Rattle.machine.specs.Answers.{margin-is, marginOf, marginAt, margin}
-use Rattle.machine.proofs.Differences.{less, less-twice}
-use Rattle.machine.proofs.Legals.{LegalRecord}
+use Rattle.machine.proofs.Inside.Differences.{less, less-twice}
+use Rattle.machine.proofs.Inside.Legals.{LegalRecord}
 
 -- where the checks pass: a row with a job has the margin D - since - remaining, and a row without one has none
 pub margin-of-a-job : (h : Sheet) (t : State) (k : ℕ) → checkMargin h t k ≡ accepted → 1 ≤ recordAt t k .remaining

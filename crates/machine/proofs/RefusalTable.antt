@@ -1,12 +1,6 @@
 -- Every refusal is the table's: its number, and its place.
 -- Assumes nothing.
-use Prim.Native.Nat.{ℕ, zero, suc, _*_, _/_, _%_, _<_}
-use mathlib.Core.Path.{_≡_, refl, sym}
-use mathlib.Core.Bool.{Bool, true, false}
-use mathlib.Core.List.{List}
-use lib.ListN.{length, getD, drop}
-use lib.Dec.{ltb, leb, eqb}
-use native.Mathlib.Omega.{arith}
+use Rattle.basis.specs.Prelude.{ℕ, zero, suc, _*_, _/_, _%_, _<_, _≡_, refl, sym, Bool, true, false, List, length, getD, drop, ltb, leb, eqb, arith}
 use Rattle.basis.specs.Words.{pick}
 use Rattle.basis.specs.Refusals.{Outcome, accepted, refused, isAccepted, orElse, firstOf, needed}
 use Rattle.sheet.specs.Legal.{rowAt, legal}
@@ -18,7 +12,7 @@ use Rattle.records.specs.Records.{hasJob}
 use Rattle.records.specs.Checks.{checkRow}
 use Rattle.machine.specs.Checks.{checkAt, checkReleases, checkState, checkRoom, checkSlot, checkRun, checkMargin}
 use Rattle.machine.specs.Answers.{RunAnswer, runAnswer, fresh, slot, entriesOf, slotAt, onward, course, run, no-job, margin-is, refused-by, marginOf, marginAt, marginBy, margin}
-use Rattle.machine.proofs.Courses.{followed}
+use Rattle.machine.proofs.Inside.Courses.{followed}
 use Rattle.machine.proofs.Agree.{slot-outcome}
 
 -- the table's lines for calls of the machine, with n rows: number and place

@@ -1,19 +1,12 @@
 -- The slot in place: what each turn and each way out shows, in the words of its invariant and of what it calls.
 -- Assumes nothing.
-use Prim.Native.Nat.{ℕ, _+_, _*_, _-_, _≤_, _<_}
-use mathlib.Core.Path.{_≡_, refl, sym, ap, ap₂, _∙_}
-use mathlib.Core.Bool.{true}
-use mathlib.Core.List.{List}
-use lib.ListN.{length, getD, set, take, drop}
-use native.Mathlib.Omega.{arith}
-use native.Mathlib.Nat.{le-refl}
-use native.Mathlib.Numerals.{add-one}
+use Rattle.basis.specs.Prelude.{ℕ, _+_, _*_, _-_, _≤_, _<_, _≡_, refl, sym, ap, ap₂, _∙_, true, List, length, getD, set, take, drop, arith, le-refl, add-one}
 use borrow.Rule.Slice.PartMut.{putMid}
 use Rattle.basis.specs.Refusals.{accepted, refused, outcome}
 use Rattle.basis.specs.declared.refusal.Refusal.{Refusal}
 use Rattle.basis.specs.declared.refusal.Refusal.the-variants.{Accepted, Refused}
 use Rattle.basis.specs.Upto.{upto}
-use Rattle.basis.proofs.Upto.{upto-set}
+use Rattle.basis.proofs.Inside.Upto.{upto-set}
 use Rattle.sheet.specs.Legal.{rowAt, legal}
 use Rattle.sheet.specs.declared.row.Row.{Row}
 use Rattle.sheet.specs.declared.row.Sheet.{Sheet}
@@ -26,12 +19,12 @@ use Rattle.machine.specs.Checks.{checkReleases, checkSlot}
 use Rattle.machine.specs.Answers.{SlotAnswer, slotAnswer, given, nextState, nextCodes, slotAt}
 use Rattle.records.specs.Methods.{begunRow, steppedRow}
 use Rattle.machine.specs.Lists.{recordIn, stateIn, putRecord, putTo, putState, slotListed, slotIn}
-use Rattle.machine.proofs.Answers.{Accepted-slot, slot-shows, slot-is-refused, slot-is-accepted}
-use Rattle.machine.proofs.Courses.{part-holds, rest-holds, slot-at-accepted}
-use Rattle.machine.proofs.LegalSlots.{next-at, next-legal}
-use Rattle.machine.proofs.Legals.{legal-state-is, legal-state-says}
+use Rattle.machine.proofs.Inside.Answers.{Accepted-slot, slot-shows, slot-is-refused, slot-is-accepted}
+use Rattle.machine.proofs.Inside.Courses.{part-holds, rest-holds, slot-at-accepted}
+use Rattle.machine.proofs.Inside.LegalSlots.{next-at, next-legal}
+use Rattle.machine.proofs.Inside.Legals.{legal-state-is, legal-state-says}
 use Rattle.machine.proofs.LegalLists.{kept-spare, kept-long, kept-record}
-use Rattle.machine.proofs.RecordLists.{put-record-past, put-more, put-agree, state-put}
+use Rattle.machine.proofs.Inside.RecordLists.{put-record-past, put-more, put-agree, state-put}
 
 -- `step_row`
 pub row-stepped : (h : Sheet) (l : List ℕ) (k release f : ℕ) (row : Row) (s : RowState) (r : Placed) → row ≡ rowAt h k → s ≡ recordIn l k → r ≡ steppedRow row s release f

@@ -1,41 +1,33 @@
 -- The state that a list hands over after each call on it: the fresh state, and the state after a slot and after a run by value.
 -- Assumes nothing.
-use Prim.Native.Nat.{ℕ, _/_, _≤_}
-use mathlib.Core.Path.{_≡_, refl, sym, ap, _∙_}
-use mathlib.Core.Bool.{Bool, true, false}
-use mathlib.Core.List.{List}
-use mathlib.Core.Logic.{⊎-elim}
-use lib.ListN.{length, replicate, List·getD-eq-default}
-use lib.Dec.{leb, eqb}
-use native.Mathlib.Omega.{arith}
-use borrow.Author.Tests.{le-leb, eq-eqb, leb-true, eqb-true}
+use Rattle.basis.specs.Prelude.{ℕ, _/_, _≤_, _≡_, refl, sym, ap, _∙_, Bool, true, false, List, ⊎-elim, length, replicate, List·getD-eq-default, leb, eqb, arith, le-leb, eq-eqb, leb-true, eqb-true}
 use Rattle.basis.specs.Limits.{mostRows}
 use Rattle.basis.specs.Words.{pick}
 use Rattle.basis.specs.Refusals.{Outcome, accepted, refused, outcome, orElse, needed}
 use Rattle.basis.specs.Upto.{upto}
-use Rattle.basis.proofs.FirstRefusal.{both-accepted}
-use Rattle.basis.proofs.Lists.{getD-all}
-use Rattle.basis.proofs.Words.{lt-or-le}
+use Rattle.basis.proofs.Inside.FirstRefusal.{both-accepted}
+use Rattle.basis.proofs.Inside.Lists.{getD-all}
+use Rattle.basis.proofs.Inside.Words.{lt-or-le}
 use Rattle.basis.proofs.Refusals.{needed-holds}
 use Rattle.sheet.specs.Legal.{legal}
 use Rattle.sheet.specs.declared.row.Sheet.{Sheet}
 use Rattle.sheet.proofs.Legality.{legal-is}
 use Rattle.sheet.specs.Lists.{numberAt}
-use Rattle.sheet.proofs.FilledLists.{length-filled}
+use Rattle.sheet.proofs.Inside.FilledLists.{length-filled}
 use Rattle.machine.specs.States.{State, stateOf, recordAt, freshAt, freshState, legalState}
 use Rattle.machine.specs.declared.places.Done.{Done}
 use Rattle.machine.specs.Checks.{checkSlot, checkRun}
 use Rattle.machine.specs.Answers.{RunAnswer, freshAnswer, runAnswer, fresh, nextState, nextCodes, slotBy, slot, run}
 use Rattle.machine.specs.Lists.{stateLong, stateIn, putState, cleared, freshOn, slotListed, slotIn, runIn, ranIn}
-use Rattle.machine.proofs.Checks.{Ready}
-use Rattle.machine.proofs.Answers.{slot-shows, run-in-order-shows}
+use Rattle.machine.proofs.Inside.Checks.{Ready}
+use Rattle.machine.proofs.Inside.Answers.{slot-shows, run-in-order-shows}
 use Rattle.machine.proofs.SlotsDone.{run-not-begun}
 use Rattle.machine.proofs.LegalRuns.{run-keeps-legal, run-keeps-long}
 use Rattle.machine.proofs.LegalLists.{kept-spare, past-is-zero, state-comes-back}
-use Rattle.machine.proofs.RecordLists.{put-past, state-rows-long, state-put, zeros-spare, zeros-state, cleared-none}
-use Rattle.machine.proofs.FreshLists.{fresh-put}
+use Rattle.machine.proofs.Inside.RecordLists.{put-past, state-rows-long, state-put, zeros-spare, zeros-state, cleared-none}
+use Rattle.machine.proofs.Inside.FreshLists.{fresh-put}
 use Rattle.machine.proofs.SlotsInPlace.{moved-back}
-use Rattle.machine.proofs.RunsInPlace.{course-none}
+use Rattle.machine.proofs.Inside.RunsInPlace.{course-none}
 
 -- the fresh state, written into a list with room for it
 written-fresh : (h : Sheet) (l : List ℕ) → legal h ≡ true → stateLong (h .count) ≤ length l → stateIn (putState (h .count) (freshState h) (cleared l)) ≡ freshState h

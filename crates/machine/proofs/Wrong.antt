@@ -1,10 +1,6 @@
 -- Wrong rules for a state are shut out: on sheet B, C or F no answer with the fault meets the promise.
 -- Assumes nothing.
-use Prim.Native.Nat.{ℕ, _+_}
-use mathlib.Core.Path.{refl}
-use mathlib.Core.List.{List, [], _∷_}
-use native.Mathlib.Omega.{arith}
-use lib.ListN.{getD}
+use Rattle.basis.specs.Prelude.{ℕ, _+_, refl, List, [], _∷_, arith, getD}
 use lib.IntN.{pos, negsuc}
 use Rattle.basis.specs.Words.{allOf}
 use Rattle.basis.specs.Refusals.{Outcome, firstOf}

@@ -1,7 +1,5 @@
 -- What each call answers, with the state and the code buffer after it.
-use Prim.Native.Nat.{ℕ, zero, suc, _+_, _*_, _/_}
-use mathlib.Core.List.{List, _++_}
-use lib.ListN.{length, getD, take, drop}
+use Rattle.basis.specs.Prelude.{ℕ, zero, suc, _+_, _*_, _/_, List, _++_, length, getD, take, drop}
 use lib.IntN.{ℤ, pos, _-ℤ_}
 use Rattle.basis.specs.Words.{pick}
 use Rattle.basis.specs.Refusals.{Outcome, accepted, refused, isAccepted, needed}

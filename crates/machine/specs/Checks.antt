@@ -1,9 +1,5 @@
 -- The checks of each call, in their order: the number and the place of the first that fails.
-use Prim.Native.Nat.{ℕ, _%_}
-use mathlib.Core.Bool.{Bool}
-use mathlib.Core.List.{List}
-use lib.ListN.{length, getD}
-use lib.Dec.{ltb, eqb}
+use Rattle.basis.specs.Prelude.{ℕ, _%_, Bool, List, length, getD, ltb, eqb}
 use Rattle.basis.specs.Refusals.{Outcome, orElse, firstOf, needed, roomFor}
 use Rattle.sheet.specs.Legal.{rowAt, legal}
 use Rattle.sheet.specs.declared.row.Sheet.{Sheet}

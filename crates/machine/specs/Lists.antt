@@ -1,9 +1,5 @@
 -- States as lists of plain numbers, of each row remaining and since; a sheet's list is that of crate sheet.
-use Prim.Native.Nat.{ℕ, zero, suc, _+_, _*_}
-use mathlib.Core.Bool.{Bool, true}
-use mathlib.Core.List.{List}
-use lib.ListN.{length, set}
-use lib.Dec.{ltb, eqb}
+use Rattle.basis.specs.Prelude.{ℕ, zero, suc, _+_, _*_, Bool, true, List, length, set, ltb, eqb}
 use Rattle.basis.specs.Limits.{mostRows}
 use Rattle.basis.specs.Words.{pick, allOf}
 use Rattle.basis.specs.Refusals.{outcome, isAccepted, orElse, roomFor}

@@ -1,6 +1,5 @@
 -- One slot, in five steps, over any number of rows: what each row becomes, and its code.
-use Prim.Native.Nat.{ℕ, zero, suc}
-use mathlib.Core.Bool.{Bool}
+use Rattle.basis.specs.Prelude.{ℕ, zero, suc, Bool}
 use Rattle.sheet.specs.declared.row.Row.{Row}
 use Rattle.records.specs.declared.record.RowState.{RowState}
 use Rattle.records.specs.Steps.{released, fits, freeBelow, worked, aged, ended, codeOf}

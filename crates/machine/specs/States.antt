@@ -1,9 +1,5 @@
 -- The state of a box: a record for each row, the fresh state, and the states that are legal for a sheet.
-use Prim.Native.Nat.{ℕ}
-use mathlib.Core.Bool.{Bool}
-use mathlib.Core.List.{List}
-use lib.ListN.{getD, replicate}
-use lib.Dec.{ltb}
+use Rattle.basis.specs.Prelude.{ℕ, Bool, List, getD, replicate, ltb}
 use Rattle.basis.specs.Limits.{mostRows}
 use Rattle.basis.specs.Words.{pick, allOf}
 use Rattle.basis.specs.Upto.{upto}

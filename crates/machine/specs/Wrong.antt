@@ -1,10 +1,6 @@
 -- Wrong rules for a state, each that of 01 but for one thing, and the sheets, states and lists that tell them apart.
-use Prim.Native.Nat.{ℕ, zero, suc, _%_, _/_}
-use mathlib.Core.Bool.{Bool}
-use mathlib.Core.List.{List, [], _∷_}
-use lib.ListN.{length, getD, replicate}
+use Rattle.basis.specs.Prelude.{ℕ, zero, suc, _%_, _/_, Bool, List, [], _∷_, length, getD, replicate, eqb}
 use lib.IntN.{pos, _-ℤ_}
-use lib.Dec.{eqb}
 use Rattle.basis.specs.Limits.{mostRows}
 use Rattle.basis.specs.Words.{pick}
 use Rattle.basis.specs.Refusals.{Outcome, accepted, orElse, firstOf, needed, roomFor}

@@ -1,6 +1,6 @@
 -- Case I holds of the definitions.
 -- Assumes nothing.
-use mathlib.Core.Path.{refl}
+use Rattle.basis.specs.Prelude.{refl}
 use Rattle.basis.specs.Words.{Each}
 use Rattle.numbers.specs.Numbers.{groups}
 use Rattle.numbers.specs.Cases.{caseI, RightNumber}

@@ -1,11 +1,6 @@
 -- The laws of a number: one encoding, its range, equal answers; and the worked numbers.
 -- Assumes nothing.
-use Prim.Native.Nat.{ℕ, _^_, _<_}
-use mathlib.Core.Path.{_≡_, sym, _∙_}
-use mathlib.Core.List.{List}
-use native.Mathlib.Omega.{arith}
-use lib.ListN.{length}
-use lib.Seq.{take-length}
+use Rattle.basis.specs.Prelude.{ℕ, _^_, _<_, _≡_, sym, _∙_, List, arith, length, take-length}
 use Rattle.basis.specs.Limits.{mostGroups}
 use Rattle.basis.specs.Readers.{Bytes, ok}
 use Rattle.basis.proofs.Same.{same-by}

@@ -1,22 +1,11 @@
 -- A value has one spelling: what `groups` accepts is what `spelt` writes, and `groups` accepts that.
-use Prim.Native.Nat.{ℕ, zero, suc, _+_, _-_, _*_, _/_, _%_, _^_, _≤_, _<_}
-use mathlib.Core.Path.{_≡_, refl, sym, ap, ap₂, _∙_, subst}
-use mathlib.Core.Logic.{_⊎_, ⊎-elim, inl, inr}
-use mathlib.Core.Bool.{Bool, true, false}
-use mathlib.Core.List.{List, [], _∷_, _++_, append-assoc}
-use native.Mathlib.Omega.{arith}
-use native.Mathlib.Numerals.{add-one}
-use native.Mathlib.Nat.{pow-succ', zero-lt-suc, one-le-pow}
-use lib.ListN.{length, getD, length-append}
-use lib.Seq.{slice, slice-cons, slice-empty, getD-append-seam, append-snoc}
-use lib.Dec.{ltb}
-use borrow.Author.Tests.{lt-ltb, le-ltb, ltb-true, ltb-false}
+use Rattle.basis.specs.Prelude.{ℕ, zero, suc, _+_, _-_, _*_, _/_, _%_, _^_, _≤_, _<_, _≡_, refl, sym, ap, ap₂, _∙_, subst, _⊎_, ⊎-elim, inl, inr, Bool, true, false, List, [], _∷_, _++_, append-assoc, arith, add-one, pow-succ', zero-lt-suc, one-le-pow, length, getD, length-append, slice, slice-cons, slice-empty, getD-append-seam, append-snoc, ltb, lt-ltb, le-ltb, ltb-true, ltb-false}
 use Rattle.basis.specs.Readers.{Bytes, Step, ok, refuse, after}
 use Rattle.basis.specs.Limits.{mostGroups}
 use Rattle.numbers.specs.Numbers.{groups, spelt, number, spell}
-use Rattle.basis.proofs.Steps.{never-ok}
-use Rattle.basis.proofs.Words.{lt-or-le}
-use Rattle.numbers.proofs.Groups.{one-less, ends, over, low, last, more}
+use Rattle.basis.proofs.Inside.Steps.{never-ok}
+use Rattle.basis.proofs.Inside.Words.{lt-or-le}
+use Rattle.numbers.proofs.Inside.Groups.{one-less, ends, over, low, last, more}
 
 pub spelt-one : (g v : ℕ) → v < 128 → spelt (suc g) v ≡ v ∷ []
 unfolding spelt

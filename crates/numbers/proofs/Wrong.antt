@@ -1,7 +1,6 @@
 -- No answer by a wrong rule of a number meets the promise of `read_number` or of `read_up_to`.
 -- Assumes nothing.
-use Prim.Native.Nat.{ℕ}
-use mathlib.Core.Path.{refl}
+use Rattle.basis.specs.Prelude.{ℕ, refl}
 use Rattle.basis.specs.Readers.{Step, ok, refuse}
 use Rattle.basis.specs.Faults.{NoAnswer}
 use Rattle.basis.proofs.Faults.{told-apart}

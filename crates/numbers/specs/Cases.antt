@@ -1,7 +1,5 @@
 -- The worked numbers (case I): their bytes, and what they are.
-use Prim.Native.Nat.{ℕ}
-use mathlib.Core.List.{List, [], _∷_}
-use mathlib.Core.Path.{_≡_}
+use Rattle.basis.specs.Prelude.{ℕ, List, [], _∷_, _≡_}
 use Rattle.basis.specs.Readers.{Step, ok, refuse}
 use Rattle.numbers.specs.Numbers.{number}
 

@@ -1,8 +1,5 @@
 -- A number: groups of seven bits, the lowest first, the top bit set where another follows, in the shortest form only.
-use Prim.Native.Nat.{ℕ, zero, suc, _+_, _-_, _*_, _/_, _%_}
-use mathlib.Core.List.{List, [], _∷_}
-use lib.ListN.{length}
-use lib.Dec.{ltb, leb, eqb}
+use Rattle.basis.specs.Prelude.{ℕ, zero, suc, _+_, _-_, _*_, _/_, _%_, List, [], _∷_, length, ltb, leb, eqb}
 use Rattle.basis.specs.Limits.{mostGroups}
 use Rattle.basis.specs.Words.{pick}
 use Rattle.basis.specs.Readers.{Step, ok, refuse, Reader, _>>=_, _>>_, give, refuse-at, here, byte}

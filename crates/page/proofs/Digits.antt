@@ -1,18 +1,10 @@
 -- The digits of a number: the last and those before it, how many there are, and what they stand for.
 -- Assumes nothing.
-use Prim.Native.Nat.{ℕ, zero, suc, _+_, _-_, _*_, _/_, _%_, _^_, _≤_, _<_}
-use mathlib.Core.Path.{_≡_, refl, ap, _∙_}
-use mathlib.Core.Bool.{Bool, true, false}
-use mathlib.Core.List.{List, [], _∷_, _++_}
-use native.Mathlib.Nat.{pow-succ'}
-use native.Mathlib.Omega.{arith}
-use lib.ListN.{length, length-append}
-use lib.Dec.{ltb}
-use borrow.Author.Tests.{lt-ltb, le-ltb, ltb-true, ltb-false}
+use Rattle.basis.specs.Prelude.{ℕ, zero, suc, _+_, _-_, _*_, _/_, _%_, _^_, _≤_, _<_, _≡_, refl, ap, _∙_, Bool, true, false, List, [], _∷_, _++_, pow-succ', arith, length, length-append, ltb, lt-ltb, le-ltb, ltb-true, ltb-false}
 use Rattle.basis.specs.Words.{pick}
 use Rattle.page.specs.Decimals.{digits, decimal, mostDigits, valueAfter, value}
 use Rattle.page.specs.Pages.{Page, said}
-use Rattle.page.proofs.Pages.{two-said}
+use Rattle.page.proofs.Inside.Pages.{two-said}
 
 -- any number of places that suffices gives the same digits
 enough : (j k n : ℕ) → n < 10 ^ suc j → n < 10 ^ suc k → digits (suc j) n ≡ digits (suc k) n

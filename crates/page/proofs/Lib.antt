@@ -1,4 +1,4 @@
-pub mod Pages
 pub mod Digits
 pub mod Same
 pub mod Wrong
+pub mod Inside

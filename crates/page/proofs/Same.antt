@@ -1,8 +1,6 @@
 -- Equal answers: two buffers, and two places, that a promise allows are the same.
 -- Assumes nothing.
-use Prim.Native.Nat.{ℕ}
-use mathlib.Core.Path.{_≡_}
-use mathlib.Core.List.{List, [], _∷_}
+use Rattle.basis.specs.Prelude.{ℕ, _≡_, List, [], _∷_}
 use Rattle.basis.proofs.Same.{pair-same}
 use Rattle.page.specs.Pages.{said}
 use Rattle.page.specs.Decimals.{decimal}

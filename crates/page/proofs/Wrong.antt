@@ -1,10 +1,6 @@
 -- Wrong ways to write into a lent buffer are shut out: in a buffer of two bytes no answer with the fault meets the promise.
 -- Assumes nothing.
-use Prim.Native.Nat.{ℕ}
-use mathlib.Core.Path.{refl}
-use mathlib.Core.List.{[], _∷_}
-use native.Mathlib.Omega.{arith}
-use lib.ListN.{getD}
+use Rattle.basis.specs.Prelude.{ℕ, refl, [], _∷_, arith, getD}
 use Rattle.basis.specs.Faults.{NoneMeets}
 use Rattle.basis.proofs.Faults.{apart}
 use Rattle.page.specs.Pages.{Page, putOne, said}

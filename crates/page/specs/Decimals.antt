@@ -1,7 +1,5 @@
 -- Numbers in decimal, byte for byte.
-use Prim.Native.Nat.{ℕ, zero, suc, _+_, _-_, _*_, _/_, _%_}
-use mathlib.Core.List.{List, [], _∷_, _++_}
-use lib.Dec.{ltb}
+use Rattle.basis.specs.Prelude.{ℕ, zero, suc, _+_, _-_, _*_, _/_, _%_, List, [], _∷_, _++_, ltb}
 use Rattle.basis.specs.Words.{pick}
 
 -- The last k decimal digits of n, the highest first, with no zero in front.

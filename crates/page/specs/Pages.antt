@@ -1,8 +1,5 @@
 -- A lent buffer after a text was written into it: as much as has room.
-use Prim.Native.Nat.{ℕ, _+_, min}
-use mathlib.Core.List.{List, [], _∷_, _++_}
-use lib.ListN.{length, set, take, drop}
-use lib.Dec.{ltb}
+use Rattle.basis.specs.Prelude.{ℕ, _+_, min, List, [], _∷_, _++_, length, set, take, drop, ltb}
 use Rattle.basis.specs.Words.{pick}
 
 -- A buffer, and a place in it.

@@ -1,7 +1,5 @@
 -- Wrong ways to write into a lent buffer, each right but for one thing.
-use Prim.Native.Nat.{ℕ, zero, suc, _+_, _/_, _%_}
-use mathlib.Core.List.{List, [], _∷_, _++_}
-use lib.Dec.{ltb}
+use Rattle.basis.specs.Prelude.{ℕ, zero, suc, _+_, _/_, _%_, List, [], _∷_, _++_, ltb}
 use Rattle.basis.specs.Words.{pick}
 use Rattle.page.specs.Pages.{Page, putOne, said}
 use Rattle.page.specs.Decimals.{decimal}

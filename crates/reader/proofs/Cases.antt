@@ -1,8 +1,6 @@
 -- Worked sheets hold of the definitions: two rows with one label have two parts, and a label is judged length, enough bytes, each byte.
 -- Assumes nothing.
-use mathlib.Core.Path.{_≡_, refl}
-use mathlib.Core.List.{[], _∷_}
-use lib.ListN.{take, drop, replicate}
+use Rattle.basis.specs.Prelude.{_≡_, refl, [], _∷_, take, drop, replicate}
 use Rattle.basis.specs.Refusals.{refused}
 use Rattle.basis.specs.Upto.{upto}
 use Rattle.basis.specs.Readers.{begins}

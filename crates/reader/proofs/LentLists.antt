@@ -1,26 +1,20 @@
 -- What is known after a reading into lent lists.
 -- Assumes nothing.
-use Prim.Native.Nat.{ℕ, _≤_, _<_}
-use mathlib.Core.Path.{_≡_, sym, ap, _∙_}
-use mathlib.Core.Bool.{true}
-use mathlib.Core.List.{List}
-use native.Mathlib.Omega.{arith}
-use lib.ListN.{length, take}
-use borrow.Author.Tests.{le-leb}
+use Rattle.basis.specs.Prelude.{ℕ, _≤_, _<_, _≡_, sym, ap, _∙_, true, List, arith, length, take, le-leb}
 use Rattle.basis.specs.Upto.{upto}
 use Rattle.basis.specs.Refusals.{Outcome, accepted, refused, orElse, roomFor, handed}
-use Rattle.basis.proofs.FirstRefusal.{both-accepted}
+use Rattle.basis.proofs.Inside.FirstRefusal.{both-accepted}
 use Rattle.basis.proofs.Refusals.{room-holds, handed-found, handed-done, handed-outcome, or-nothing}
-use Rattle.basis.proofs.Upto.{upto-below, length-upto}
+use Rattle.basis.proofs.Inside.Upto.{upto-below, length-upto}
 use Rattle.sheet.specs.Legal.{legal}
 use Rattle.sheet.specs.Lists.{numberAt, listCell, sheetIn, sheetCell, sheetLong}
 use Rattle.sheet.proofs.RoundTrip.{sheet-in-front}
 use Rattle.reader.specs.Answers.{reading, labelIn}
 use Rattle.reader.specs.Lists.{labelsLong, labelCell, intoLists, readInto}
 use Rattle.reader.proofs.LegalSheets.{accepted-is-legal}
-use Rattle.reader.specs.Steps.{partIn}
-use Rattle.reader.proofs.PartLists.{part-there}
-use Rattle.reader.proofs.ZeroLists.{Lists, lists, rows-long}
+use Rattle.reader.specs.Inside.Steps.{partIn}
+use Rattle.reader.proofs.Inside.PartLists.{part-there}
+use Rattle.reader.proofs.Inside.ZeroLists.{Lists, lists, rows-long}
 
 -- where there is room the outcome is the reader's
 pub outcome-is-the-readers : (s list labels : List ℕ) → sheetLong (reading s .1 .count) ≤ length list → labelsLong (reading s .1 .count) ≤ length labels → readInto s list labels .0 ≡ reading s .0

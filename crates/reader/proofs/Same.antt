@@ -1,8 +1,6 @@
 -- Equal answers of the reader and of the labels.
 -- Assumes nothing.
-use Prim.Native.Nat.{ℕ}
-use mathlib.Core.Path.{_≡_, sym, ap, ap₂, _∙_}
-use mathlib.Core.List.{List}
+use Rattle.basis.specs.Prelude.{ℕ, _≡_, sym, ap, ap₂, _∙_, List}
 use denote.Ref.{RefT}
 use Rattle.basis.specs.Refusals.{Outcome, outcome}
 use Rattle.basis.specs.declared.refusal.Refusal.{Refusal}

@@ -1,10 +1,6 @@
 -- No answer by a wrong rule of the reader or of the labels meets the promise of a function of this crate.
 -- Assumes nothing.
-use Prim.Native.Nat.{ℕ, _+_}
-use mathlib.Core.Path.{_≡_, refl, sym, ap, _∙_}
-use mathlib.Core.List.{List}
-use native.Mathlib.Omega.{arith}
-use lib.ListN.{getD}
+use Rattle.basis.specs.Prelude.{ℕ, _+_, _≡_, refl, sym, ap, _∙_, List, arith, getD}
 use denote.Ref.{RefT}
 use Rattle.basis.specs.Refusals.{Outcome, accepted, refused}
 use Rattle.basis.specs.Readers.{begins}

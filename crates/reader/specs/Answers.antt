@@ -1,8 +1,5 @@
 -- What the reader and the label answer.
-use Prim.Native.Nat.{ℕ, _+_}
-use mathlib.Core.List.{List, map}
-use lib.ListN.{length, take, drop, replicate}
-use lib.Dec.{ltb}
+use Rattle.basis.specs.Prelude.{ℕ, _+_, List, map, length, take, drop, replicate, ltb}
 use denote.Ref.{RefT}
 use Rattle.basis.specs.Limits.{mostRows}
 use Rattle.basis.specs.Words.{pick}

@@ -1,6 +1,5 @@
 -- A worked sheet with two equal labels.
-use Prim.Native.Nat.{ℕ}
-use mathlib.Core.List.{List, [], _∷_}
+use Rattle.basis.specs.Prelude.{ℕ, List, [], _∷_}
 use Rattle.reader.specs.declared.row.Part.{Part}
 
 -- Two rows, each with the label pump: sheet E of the table.

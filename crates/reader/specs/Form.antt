@@ -1,7 +1,5 @@
 -- The form of a sheet, read from left to right: the first fault decides.
-use Prim.Native.Nat.{ℕ, zero, suc}
-use mathlib.Core.List.{List, [], _∷_}
-use mathlib.Core.Bool.{Bool}
+use Rattle.basis.specs.Prelude.{ℕ, zero, suc, List, [], _∷_, Bool}
 use Rattle.basis.specs.Limits.{Limits, limits, longestLabel}
 use Rattle.basis.specs.Words.{pick, within}
 use Rattle.basis.specs.Readers.{Step, ok, refuse, Reader, _>>=_, _>>_, give, refuse-at, here, byte, enough, end, marked}

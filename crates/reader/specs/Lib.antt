@@ -3,5 +3,5 @@ pub mod Answers
 pub mod Lists
 pub mod Longest
 pub mod Cases
-pub mod Steps
 pub mod Wrong
+pub mod Inside

@@ -1,7 +1,5 @@
 -- What reading into lent lists answers: the sheet's list, and the list of where each label lies.
-use Prim.Native.Nat.{ℕ, _*_}
-use mathlib.Core.List.{List}
-use lib.ListN.{length}
+use Rattle.basis.specs.Prelude.{ℕ, _*_, List, length}
 use Rattle.basis.specs.Refusals.{Outcome, orElse, roomFor, handed}
 use Rattle.basis.specs.Upto.{upto, pairCell}
 use Rattle.sheet.specs.Lists.{sheetCell, sheetLong}

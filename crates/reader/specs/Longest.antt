@@ -1,6 +1,5 @@
 -- The longest sheet.
-use Prim.Native.Nat.{ℕ, _+_, _*_}
-use lib.ListN.{length}
+use Rattle.basis.specs.Prelude.{ℕ, _+_, _*_, length}
 use Rattle.basis.specs.Limits.{mostProcessors, mostRows, longestLabel, mostSeparation}
 use Rattle.numbers.specs.Numbers.{width}
 use Rattle.reader.specs.Form.{markBytes}

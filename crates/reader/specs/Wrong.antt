@@ -1,8 +1,5 @@
 -- Wrong rules of the reader and of the labels, each the rule of document 01 but for one thing, and the bytes that tell them.
-use Prim.Native.Nat.{ℕ, zero, suc, _+_}
-use mathlib.Core.List.{List, [], _∷_, _++_}
-use lib.ListN.{length, take, drop, replicate}
-use lib.Dec.{leb}
+use Rattle.basis.specs.Prelude.{ℕ, zero, suc, _+_, List, [], _∷_, _++_, length, take, drop, replicate, leb}
 use denote.Ref.{RefT}
 use Rattle.basis.specs.Limits.{mostProcessors, mostRows, longestLabel, mostSeparation}
 use Rattle.basis.specs.Words.{pick}

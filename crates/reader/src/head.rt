@@ -1,7 +1,7 @@
 // What stands before the rows of a sheet.
 ghost use mathlib.Core.Path.{_≡_};
 ghost use Rattle.reader.specs.Form.{head};
-ghost use Rattle.reader.specs.Steps.{headStep};
+ghost use Rattle.reader.specs.Inside.Steps.{headStep};
 use basis::MOST_PROCESSORS;
 use basis::MOST_ROWS;
 use numbers::Number;

@@ -9,7 +9,7 @@ ghost use Rattle.basis.specs.Upto.{upto};
 ghost use Rattle.sheet.specs.Lists.{numberAt, sheetLong};
 ghost use Rattle.reader.specs.Form.{head};
 ghost use Rattle.reader.specs.Lists.{labelsLong, readInto};
-ghost use Rattle.reader.specs.Steps.{headOf, handedOver};
+ghost use Rattle.reader.specs.Inside.Steps.{headOf, handedOver};
 use crate::head::HeadRead;
 use crate::head::read_head;
 use crate::row::Passed;

@@ -5,7 +5,7 @@ ghost use lib.ListN.{length};
 ghost use Rattle.basis.specs.Limits.{mostRows};
 ghost use Rattle.reader.specs.Answers.{shown, part, labelIn, labelsIn};
 ghost use Rattle.reader.specs.Lists.{labelsLong};
-ghost use Rattle.reader.specs.Steps.{partIn};
+ghost use Rattle.reader.specs.Inside.Steps.{partIn};
 use crate::into::LABELS_LONG;
 use crate::into::read_into;
 use crate::row::Part;

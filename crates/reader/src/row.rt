@@ -4,7 +4,7 @@ ghost use Prim.Native.Nat.{_-_, _≤_};
 ghost use lib.ListN.{length};
 ghost use Rattle.basis.specs.Readers.{mapStep};
 ghost use Rattle.reader.specs.Form.{entryRow, plain, label, entry};
-ghost use Rattle.reader.specs.Steps.{passedStep, labelStep, rowStep, entryStep, nothing, numbers, LabelAt, EntryAt};
+ghost use Rattle.reader.specs.Inside.Steps.{passedStep, labelStep, rowStep, entryStep, nothing, numbers, LabelAt, EntryAt};
 use basis::LONGEST_LABEL;
 use basis::MOST_SEPARATION;
 use numbers::Number;

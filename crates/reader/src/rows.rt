@@ -7,7 +7,7 @@ ghost use Rattle.basis.specs.Readers.{mapStep};
 ghost use Rattle.sheet.specs.Lists.{sheetLong};
 ghost use Rattle.reader.specs.Form.{entries};
 ghost use Rattle.reader.specs.Lists.{labelsLong};
-ghost use Rattle.reader.specs.Steps.{passedStep, nothing, putRow, putPart, Took};
+ghost use Rattle.reader.specs.Inside.Steps.{passedStep, nothing, putRow, putPart, Took};
 use crate::row::EntryRead;
 use crate::row::Part;
 use crate::row::Passed;

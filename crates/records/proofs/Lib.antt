@@ -1,5 +1,4 @@
-pub mod Records
-pub mod Codes
 pub mod RowSlots
 pub mod Same
 pub mod Wrong
+pub mod Inside

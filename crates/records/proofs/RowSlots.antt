@@ -1,7 +1,6 @@
 -- Placement and ageing of one row are its steps: its record, and its code.
 -- Assumes nothing.
-use Prim.Native.Nat.{ℕ}
-use mathlib.Core.Path.{_≡_, refl, ap, _∙_}
+use Rattle.basis.specs.Prelude.{ℕ, _≡_, refl, ap, _∙_}
 use Rattle.sheet.specs.declared.row.Row.{Row}
 use Rattle.records.specs.declared.record.RowState.{RowState}
 use Rattle.records.specs.declared.steps.Placed.{Placed}

@@ -1,8 +1,6 @@
 -- Equal answers: any two answers that a promise allows are equal.
 -- Assumes nothing.
-use Prim.Native.Nat.{ℕ}
-use mathlib.Core.Path.{_≡_, sym, _∙_}
-use mathlib.Core.Bool.{Bool}
+use Rattle.basis.specs.Prelude.{ℕ, _≡_, sym, _∙_, Bool}
 use Rattle.basis.specs.Refusals.{outcome}
 use Rattle.basis.specs.declared.refusal.Refusal.{Refusal}
 use Rattle.basis.proofs.Refusals.{outcome-one-to-one}

@@ -1,7 +1,6 @@
 -- Wrong rules for one row are shut out: on a row of sheet C, or one with an early deadline, no answer with the fault meets the promise.
 -- Assumes nothing.
-use mathlib.Core.Path.{refl}
-use native.Mathlib.Omega.{arith}
+use Rattle.basis.specs.Prelude.{refl, arith}
 use Rattle.basis.specs.Faults.{NoneMeets}
 use Rattle.basis.proofs.Faults.{apart, numberOf, bit}
 use Rattle.records.specs.declared.record.RowState.{RowState}

@@ -1,6 +1,5 @@
 -- The check of a release: the number and the place of the first fault.
-use Prim.Native.Nat.{ℕ}
-use lib.Dec.{ltb, eqb}
+use Rattle.basis.specs.Prelude.{ℕ, ltb, eqb}
 use Rattle.basis.specs.Words.{pick}
 use Rattle.basis.specs.Refusals.{Outcome, accepted, refused}
 use Rattle.sheet.specs.declared.row.Row.{Row}

@@ -1,5 +1,5 @@
 -- What the methods of a record answer: placement, ageing, and all steps of a row together.
-use Prim.Native.Nat.{ℕ}
+use Rattle.basis.specs.Prelude.{ℕ}
 use Rattle.sheet.specs.declared.row.Row.{Row}
 use Rattle.records.specs.declared.record.RowState.{RowState}
 use Rattle.records.specs.declared.steps.Placed.{Placed}

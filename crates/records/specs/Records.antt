@@ -1,6 +1,5 @@
 -- The record of a row: whether it has a job, and the records that are legal for a row.
-use mathlib.Core.Bool.{Bool, true}
-use lib.Dec.{ltb, leb, eqb}
+use Rattle.basis.specs.Prelude.{Bool, true, ltb, leb, eqb}
 use Rattle.basis.specs.Words.{pick, both, within}
 use Rattle.sheet.specs.declared.row.Row.{Row}
 use Rattle.records.specs.declared.record.RowState.{RowState}

@@ -1,7 +1,5 @@
 -- One slot of one row, in five steps: what its record becomes, and its code.
-use Prim.Native.Nat.{ℕ, _+_, _-_}
-use mathlib.Core.Bool.{Bool}
-use lib.Dec.{ltb, leb, eqb}
+use Rattle.basis.specs.Prelude.{ℕ, _+_, _-_, Bool, ltb, leb, eqb}
 use Rattle.basis.specs.Words.{pick, both}
 use Rattle.sheet.specs.declared.row.Row.{Row}
 use Rattle.records.specs.declared.record.RowState.{RowState}

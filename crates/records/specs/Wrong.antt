@@ -1,7 +1,5 @@
 -- Wrong rules for one row, each that of 01 but for one thing, and the rows and records that tell them apart.
-use Prim.Native.Nat.{ℕ, _+_, _-_}
-use mathlib.Core.Bool.{Bool, true}
-use lib.Dec.{ltb, leb, eqb}
+use Rattle.basis.specs.Prelude.{ℕ, _+_, _-_, Bool, true, ltb, leb, eqb}
 use Rattle.basis.specs.Words.{pick, both, within}
 use Rattle.basis.specs.Refusals.{Outcome, accepted, refused}
 use Rattle.sheet.specs.declared.row.Row.{Row}

@@ -1,11 +1,9 @@
 -- A legal sheet is one whose every number is in its range.
 -- Assumes nothing.
-use Prim.Native.Nat.{ℕ}
-use mathlib.Core.Path.{_≡_}
-use mathlib.Core.Bool.{true}
+use Rattle.basis.specs.Prelude.{ℕ, _≡_, true}
 use Rattle.basis.specs.Limits.{mostProcessors, mostRows, mostSeparation}
 use Rattle.basis.specs.Words.{within}
-use Rattle.basis.proofs.Words.{both-left, both-right, both-true, at-least, at-most, within-true, all-at, all-true}
+use Rattle.basis.proofs.Inside.Words.{both-left, both-right, both-true, at-least, at-most, within-true, all-at, all-true}
 use Rattle.sheet.specs.Legal.{rowAt, legalRow, legalAt, legal, LegalRow, Legal}
 use Rattle.sheet.specs.declared.row.Row.{Row}
 use Rattle.sheet.specs.declared.row.Sheet.{Sheet}

@@ -1,11 +1,6 @@
 pub mod RoundTrip
-pub mod Cells
-pub mod ClearedLists
-pub mod FilledLists
-pub mod ListRows
 pub mod Legality
-pub mod Places
 pub mod Ranges
 pub mod Same
-pub mod Stores
 pub mod Wrong
+pub mod Inside

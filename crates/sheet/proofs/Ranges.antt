@@ -1,23 +1,15 @@
 -- The check of the sheet in a list: a turn over its rows, and what each way out says.
 -- Assumes nothing.
-use Prim.Native.Nat.{ℕ, _+_, _-_, _*_, _≤_, _<_}
-use mathlib.Core.Path.{_≡_, refl, sym, ap, ap₂, _∙_}
-use mathlib.Core.Bool.{Bool, true, false}
-use mathlib.Core.List.{List}
-use lib.ListN.{length, List·getD-eq-default}
-use native.Mathlib.Omega.{arith}
-use mir.Syntax.{w64}
-use mir.Val.{Fits}
+use Rattle.basis.specs.Prelude.{ℕ, _+_, _-_, _*_, _≤_, _<_, _≡_, refl, sym, ap, ap₂, _∙_, Bool, true, false, List, length, List·getD-eq-default, arith, w64, Fits, ⊎-elim}
 use Rattle.basis.specs.Limits.{mostProcessors, mostRows}
 use Rattle.basis.specs.Words.{both, within, allOf}
-use Rattle.basis.proofs.Words.{all-one-more, all-fails, both-left, both-right, at-most, lt-or-le}
+use Rattle.basis.proofs.Inside.Words.{all-one-more, all-fails, both-left, both-right, at-most, lt-or-le}
 use Rattle.sheet.specs.Legal.{rowAt, legalRow, legalAt, legal, Legal}
 use Rattle.sheet.specs.declared.row.Row.{Row}
 use Rattle.sheet.specs.declared.row.Sheet.{Sheet}
 use Rattle.sheet.proofs.Legality.{legal-is}
 use Rattle.sheet.specs.Lists.{numberAt, rowIn, sheetIn, sheetLong, legalRows}
-use Rattle.sheet.proofs.ListRows.{row-in-sheet}
-use mathlib.Core.Logic.{⊎-elim}
+use Rattle.sheet.proofs.Inside.ListRows.{row-in-sheet}
 
 -- `rows_are_legal`
 module _ (m : ℕ) (h : Sheet) (i : ℕ) (so-far : true ≡ allOf i (legalRows m h)) where

@@ -1,24 +1,17 @@
 -- A sheet that is written into a list comes back when the list is read.
 -- Assumes nothing.
-use Prim.Native.Nat.{ℕ, _+_, _*_, _≤_, _<_}
-use mathlib.Core.Path.{_≡_, sym, ap, _∙_}
-use mathlib.Core.Logic.{⊎-elim}
-use mathlib.Core.List.{List}
-use lib.ListN.{length, take, List·getD-eq-default}
-use lib.Seq.{ext-getD, getD-take, length-take-le}
-use native.Mathlib.Omega.{arith}
-use native.Mathlib.Nat.{le-refl}
+use Rattle.basis.specs.Prelude.{ℕ, _+_, _*_, _≤_, _<_, _≡_, sym, ap, _∙_, ⊎-elim, List, length, take, List·getD-eq-default, ext-getD, getD-take, length-take-le, arith, le-refl}
 use Rattle.basis.specs.Limits.{mostRows}
 use Rattle.basis.specs.Upto.{upto}
-use Rattle.basis.proofs.Upto.{upto-below, length-upto}
-use Rattle.basis.proofs.Words.{lt-or-le}
+use Rattle.basis.proofs.Inside.Upto.{upto-below, length-upto}
+use Rattle.basis.proofs.Inside.Words.{lt-or-le}
 use Rattle.sheet.specs.Legal.{noRow, rowAt}
 use Rattle.sheet.specs.Values.{noRows}
 use Rattle.sheet.specs.declared.row.Sheet.{Sheet}
 use Rattle.sheet.specs.Lists.{numberAt, filled, rowIn, sheetIn, rowCell, listCell, sheetCell, sheetLong}
-use Rattle.sheet.proofs.FilledLists.{filled-read}
-use Rattle.sheet.proofs.ListRows.{row-read}
-use Rattle.sheet.proofs.Cells.{cell-of-row, cell-past, no-row-past}
+use Rattle.sheet.proofs.Inside.FilledLists.{filled-read}
+use Rattle.sheet.proofs.Inside.ListRows.{row-read}
+use Rattle.sheet.proofs.Inside.Cells.{cell-of-row, cell-past, no-row-past}
 
 -- A list whose every number is that of a sheet hands the sheet over.
 module _ (h : Sheet) (l : List ℕ) (long : length (h .rows) ≡ mostRows) (number : (i : ℕ) → numberAt l i ≡ sheetCell h i) where

@@ -1,8 +1,6 @@
 -- No answer by a wrong rule of a sheet or its list meets the promise of a function of this crate.
 -- Assumes nothing.
-use Prim.Native.Nat.{ℕ}
-use mathlib.Core.Path.{refl}
-use mathlib.Core.List.{List}
+use Rattle.basis.specs.Prelude.{ℕ, refl, List}
 use Rattle.basis.specs.Words.{allOf}
 use Rattle.basis.specs.Upto.{upto}
 use Rattle.basis.specs.Faults.{NoneMeets}

@@ -1,8 +1,5 @@
 -- The ranges of a sheet that is handed over.
-use Prim.Native.Nat.{ℕ, _≤_, _<_}
-use mathlib.Core.Bool.{Bool}
-use mathlib.Core.Path.{_≡_}
-use lib.ListN.{getD}
+use Rattle.basis.specs.Prelude.{ℕ, _≤_, _<_, Bool, _≡_, getD}
 use Rattle.basis.specs.Limits.{mostProcessors, mostRows, mostSeparation}
 use Rattle.basis.specs.Words.{both, within, allOf}
 use Rattle.sheet.specs.declared.row.Row.{Row}

@@ -1,9 +1,5 @@
 -- A sheet as a list of plain numbers.
-use Prim.Native.Nat.{ℕ, _+_, _-_, _*_, _/_, _%_}
-use mathlib.Core.Bool.{Bool}
-use mathlib.Core.List.{List}
-use lib.ListN.{length, getD}
-use lib.Dec.{ltb, leb, eqb}
+use Rattle.basis.specs.Prelude.{ℕ, _+_, _-_, _*_, _/_, _%_, Bool, List, length, getD, ltb, leb, eqb}
 use Rattle.basis.specs.Limits.{mostRows}
 use Rattle.basis.specs.Words.{pick}
 use Rattle.basis.specs.Upto.{upto}

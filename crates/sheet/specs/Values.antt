@@ -1,7 +1,5 @@
 -- A sheet by value: its rows, with zeros past them.
-use Prim.Native.Nat.{ℕ, _-_}
-use mathlib.Core.List.{List, _++_}
-use lib.ListN.{length, replicate}
+use Rattle.basis.specs.Prelude.{ℕ, _-_, List, _++_, length, replicate}
 use Rattle.basis.specs.Limits.{mostRows}
 use Rattle.sheet.specs.Legal.{noRow}
 use Rattle.sheet.specs.declared.row.Row.{Row}

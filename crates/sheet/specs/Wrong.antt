@@ -1,9 +1,5 @@
 -- Wrong rules of a sheet and its list, each the rule of document 01 but for one thing, and the lists that tell them.
-use Prim.Native.Nat.{ℕ, _+_, _-_, _/_, _%_}
-use mathlib.Core.Bool.{Bool, true, false}
-use mathlib.Core.List.{List, [], _∷_}
-use lib.ListN.{getD}
-use lib.Dec.{ltb, eqb}
+use Rattle.basis.specs.Prelude.{ℕ, _+_, _-_, _/_, _%_, Bool, true, false, List, [], _∷_, getD, ltb, eqb}
 use Rattle.basis.specs.Limits.{mostProcessors, mostRows, mostSeparation}
 use Rattle.basis.specs.Words.{pick, both, within, allOf}
 use Rattle.basis.specs.Upto.{upto}

@@ -1,4 +1,3 @@
-pub mod StepLoops
 pub mod StepsTogether
-pub mod ValueLists
 pub mod Same
+pub mod Inside

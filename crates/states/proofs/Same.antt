@@ -1,8 +1,6 @@
 -- Equal answers: what an answer stands for is one value of the code, and any two answers that a promise allows are equal.
 -- Assumes nothing.
-use Prim.Native.Nat.{ℕ}
-use mathlib.Core.Path.{_≡_, sym, ap, ap₂, _∙_}
-use mathlib.Core.List.{List}
+use Rattle.basis.specs.Prelude.{ℕ, _≡_, sym, ap, ap₂, _∙_, List}
 use Rattle.basis.specs.Refusals.{outcome}
 use Rattle.basis.specs.declared.refusal.Refusal.{Refusal}
 use Rattle.basis.proofs.Refusals.{outcome-one-to-one}

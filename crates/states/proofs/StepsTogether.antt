@@ -1,13 +1,8 @@
 -- Releases, placement and ageing are the slot: of all rows one step after another.
 -- Assumes nothing.
-use Prim.Native.Nat.{ℕ, _≤_, _<_}
-use mathlib.Core.Path.{_≡_, refl, ap, ap₂, _∙_}
-use mathlib.Core.List.{List}
-use lib.ListN.{length, getD}
-use native.Mathlib.Nat.{le-refl}
-use native.Mathlib.Omega.{arith}
+use Rattle.basis.specs.Prelude.{ℕ, _≤_, _<_, _≡_, refl, ap, ap₂, _∙_, List, length, getD, le-refl, arith}
 use Rattle.basis.specs.Limits.{mostRows}
-use Rattle.basis.proofs.Upto.{length-upto, upto-below, upto-agree, upto-over}
+use Rattle.basis.proofs.Inside.Upto.{length-upto, upto-below, upto-agree, upto-over}
 use Rattle.sheet.specs.Legal.{rowAt}
 use Rattle.sheet.specs.declared.row.Sheet.{Sheet}
 use Rattle.machine.specs.States.{State, stateOf, recordAt}
@@ -17,7 +12,7 @@ use Rattle.records.specs.Records.{noRecord}
 use Rattle.records.specs.Steps.{worked}
 use Rattle.machine.specs.Slot.{begun, free, runs, next, code}
 use Rattle.machine.specs.Answers.{given, nextState, nextCodes}
-use Rattle.states.specs.Methods.{releasedAt, releasedState, placedAt, placedRecord, placedCode, placedState, placedCodes, agedAt, agedRecord, agedCode, agedState, agedCodes}
+use Rattle.states.specs.Inside.Methods.{releasedAt, releasedState, placedAt, placedRecord, placedCode, placedState, placedCodes, agedAt, agedRecord, agedCode, agedState, agedCodes}
 use Rattle.records.specs.Methods.{placedRow, agedRow}
 use Rattle.records.proofs.RowSlots.{row-code}
 use Rattle.machine.proofs.Placement.{free-agrees}

@@ -1,6 +1,5 @@
 -- What the answers of the code by value stand for.
-use Prim.Native.Nat.{ℕ}
-use mathlib.Core.List.{List}
+use Rattle.basis.specs.Prelude.{ℕ, List}
 use Rattle.basis.specs.Refusals.{outcome}
 use Rattle.machine.specs.States as states
 use Rattle.machine.specs.States.{stateOf}

@@ -4,7 +4,7 @@ ghost use Prim.Native.Nat.{_≤_};
 ghost use lib.ListN.{length};
 ghost use Rattle.basis.specs.Limits.{mostRows};
 ghost use Rattle.states.specs.Values.{held};
-ghost use Rattle.states.specs.Methods.{releasedState, placedState, placedCodes, agedState, agedCodes};
+ghost use Rattle.states.specs.Inside.Methods.{releasedState, placedState, placedCodes, agedState, agedCodes};
 use crate::state::State;
 use sheet::Sheet;
 

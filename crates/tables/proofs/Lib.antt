@@ -1,3 +1,3 @@
-pub mod SheetNumbers
 pub mod Same
 pub mod Wrong
+pub mod Inside

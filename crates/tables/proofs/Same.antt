@@ -1,7 +1,6 @@
 -- Equal answers: any two answers that the promise allows are equal.
 -- Assumes nothing.
-use Prim.Native.Nat.{ℕ}
-use mathlib.Core.Path.{_≡_}
+use Rattle.basis.specs.Prelude.{ℕ, _≡_}
 use Rattle.basis.proofs.Same.{same}
 use Rattle.sheet.specs.declared.row.Sheet.{Sheet}
 use Rattle.tables.specs.Tables.{fixedSheet}

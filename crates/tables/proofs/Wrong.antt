@@ -1,6 +1,6 @@
 -- Wrong tables are shut out: for a named number no answer with the fault meets the promise.
 -- Assumes nothing.
-use mathlib.Core.Path.{refl}
+use Rattle.basis.specs.Prelude.{refl}
 use Rattle.basis.specs.Faults.{NoneMeets}
 use Rattle.basis.proofs.Faults.{values-apart}
 use Rattle.sheet.specs.declared.row.Sheet.{Sheet}

@@ -1,7 +1,5 @@
 -- Sheets A to F, as the table of document 01 has them: rows as (threads, T, D, C).
-use Prim.Native.Nat.{ℕ}
-use mathlib.Core.List.{List, [], _∷_}
-use lib.ListN.{length, getD}
+use Rattle.basis.specs.Prelude.{ℕ, List, [], _∷_, length, getD}
 use Rattle.sheet.specs.Values.{padded, noSheet}
 use Rattle.sheet.specs.declared.row.Row.{Row}
 use Rattle.sheet.specs.declared.row.Sheet.{Sheet}

@@ -1,7 +1,5 @@
 -- What reading standard input promises.
-use Prim.Native.Nat.{ℕ, _≤_}
-use mathlib.Core.List.{List}
-use lib.ListN.{length}
+use Rattle.basis.specs.Prelude.{ℕ, _≤_, List, length}
 use Rattle.verdict.specs.declared.input.Input.{Input}
 use Rattle.verdict.specs.declared.input.Input.the-variants.{Failed, Read}
 

@@ -1,5 +1,5 @@
 -- `main` meets its contract: the part that it prints is in the buffer. Assumes nothing.
-use borrow.Author.Needs.{needs}
+use Rattle.basis.specs.Prelude.{needs}
 use Rattle.dashboard.proofs.Buffers.{written-in-room, written-part}
 use Rattle.reference.proofs.main.Statement.{statement}
 use Rattle.reference.proofs.main.Tie as tie

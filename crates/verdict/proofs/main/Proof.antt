@@ -1,7 +1,7 @@
 -- `main` meets its contract: the parts that it reads and prints are in their buffers. Assumes nothing.
-use borrow.Author.Needs.{needs}
+use Rattle.basis.specs.Prelude.{needs}
 use Rattle.dashboard.proofs.Buffers.{written-in-room, written-part}
-use Rattle.verdict.proofs.Parts.{read-in-buffer, read-part}
+use Rattle.verdict.proofs.Inside.Parts.{read-in-buffer, read-part}
 use Rattle.verdict.proofs.main.Statement.{statement}
 use Rattle.verdict.proofs.main.Tie as tie
 

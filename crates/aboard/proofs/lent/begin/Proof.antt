@@ -1,7 +1,7 @@
 -- `begin` meets its promise. Assumes nothing.
-use borrow.Author.Needs.{needs}
-use Rattle.machine.proofs.Answers.{run-rows}
-use Rattle.aboard.proofs.BoxLoop.{begin-refused, begin-accepted}
+use Rattle.basis.specs.Prelude.{needs}
+use Rattle.machine.proofs.Inside.Answers.{run-rows}
+use Rattle.aboard.proofs.Inside.BoxLoop.{begin-refused, begin-accepted}
 use Rattle.aboard.proofs.lent.begin.Statement.{statement}
 use Rattle.aboard.proofs.lent.begin.Tie as tie
 

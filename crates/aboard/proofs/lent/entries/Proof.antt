@@ -1,6 +1,6 @@
 -- `entries` meets its promise. Assumes nothing.
-use borrow.Author.Needs.{needs}
-use Rattle.aboard.proofs.BoxLoop.{part-of}
+use Rattle.basis.specs.Prelude.{needs}
+use Rattle.aboard.proofs.Inside.BoxLoop.{part-of}
 use Rattle.aboard.proofs.lent.entries.Statement.{statement}
 use Rattle.aboard.proofs.lent.entries.Tie as tie
 

@@ -1,8 +1,5 @@
 -- `begins_with` meets its promise: what is left of both lists after i bytes decides. Assumes nothing.
-use borrow.Author.Needs.{needs}
-use Prim.Native.Nat.{_-_}
-use mathlib.Core.Path.{_≡_, refl}
-use lib.ListN.{length, drop}
+use Rattle.basis.specs.Prelude.{needs, _-_, _≡_, refl, length, drop}
 use Rattle.basis.specs.Readers.{begins}
 use Rattle.basis.proofs.Marks.{begins-short, begins-differ, begins-more, begins-whole}
 use Rattle.basis.proofs.mark.begins_with.Statement.{statement}

@@ -1,5 +1,5 @@
 -- `judge_bytes` meets its promise: the bytes are read, and the front of the list is judged. Assumes nothing.
-use borrow.Author.Needs.{needs}
+use Rattle.basis.specs.Prelude.{needs}
 use Rattle.bound.proofs.FromBytes.{less-room, not-read, rows-fit, end-fits, end-inside, front-long, front-count, front-legal, results-fit, read-and-judged}
 use Rattle.bound.proofs.bytes.judge_bytes.Statement.{statement}
 use Rattle.bound.proofs.bytes.judge_bytes.Tie as tie

@@ -1,6 +1,6 @@
 -- `row_inside` is the row of the sheet. Assumes nothing.
-use borrow.Author.Needs.{needs}
-use Rattle.sheet.proofs.Places.{numbers-handed}
+use Rattle.basis.specs.Prelude.{needs}
+use Rattle.sheet.proofs.Inside.Places.{numbers-handed}
 use Rattle.bound.proofs.inside.row_inside.Statement.{statement}
 use Rattle.bound.proofs.inside.row_inside.Tie as tie
 

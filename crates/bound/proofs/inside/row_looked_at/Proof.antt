@@ -1,6 +1,5 @@
 -- `row_looked_at` is the row of the sheet: the list never ends before it. Assumes nothing.
-use borrow.Author.Needs.{needs}
-use native.Mathlib.Omega.{arith}
+use Rattle.basis.specs.Prelude.{needs, arith}
 use Rattle.bound.proofs.inside.row_looked_at.Statement.{statement}
 use Rattle.bound.proofs.inside.row_looked_at.Tie as tie
 

@@ -1,6 +1,6 @@
 -- `judge_row` is the result of a row, by those above. Assumes nothing.
-use borrow.Author.Needs.{needs}
-use Rattle.bound.proofs.Rows.{ready, judged-reached, judged-unreached}
+use Rattle.basis.specs.Prelude.{needs}
+use Rattle.bound.proofs.Inside.Rows.{ready, judged-reached, judged-unreached}
 use Rattle.bound.proofs.judge.judge_row.Statement.{statement}
 use Rattle.bound.proofs.judge.judge_row.Tie as tie
 

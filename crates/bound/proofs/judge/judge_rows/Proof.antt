@@ -1,12 +1,10 @@
 -- `judge_rows` judges every row: the loop has the results of the first i rows, and whether each is a bound. Assumes nothing.
-use borrow.Author.Needs.{needs}
-use Prim.Native.Nat.{_≤_, _-_}
-use mathlib.Core.Path.{_≡_}
+use Rattle.basis.specs.Prelude.{needs, _≤_, _-_, _≡_}
 use Rattle.sheet.specs.Legal.{Legal}
 use Rattle.sheet.specs.Lists.{sheetIn}
 use Rattle.sheet.proofs.Legality.{legal-is}
-use Rattle.bound.specs.Ready.{Lent, SoFar}
-use Rattle.bound.proofs.Rows.{lists-are-lent, so-far-none, so-far-long, rows-above, so-far-more, still-lent, holds-told, results-put}
+use Rattle.bound.specs.Inside.Ready.{Lent, SoFar}
+use Rattle.bound.proofs.Inside.Rows.{lists-are-lent, so-far-none, so-far-long, rows-above, so-far-more, still-lent, holds-told, results-put}
 use Rattle.bound.proofs.judge.judge_rows.Statement.{statement}
 use Rattle.bound.proofs.judge.judge_rows.Tie as tie
 

@@ -1,5 +1,5 @@
 -- `put_result` puts the two numbers of a result. Assumes nothing.
-use borrow.Author.Needs.{needs}
+use Rattle.basis.specs.Prelude.{needs}
 use Rattle.bound.proofs.Lists.{second-place-there, result-put}
 use Rattle.bound.proofs.judge.put_result.Statement.{statement}
 use Rattle.bound.proofs.judge.put_result.Tie as tie

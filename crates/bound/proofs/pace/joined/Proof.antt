@@ -1,5 +1,5 @@
 -- `joined` is a pace with a row more. Assumes nothing.
-use borrow.Author.Needs.{needs}
+use Rattle.basis.specs.Prelude.{needs}
 use Rattle.bound.proofs.Paces.{join-none, join-more}
 use Rattle.bound.proofs.pace.joined.Statement.{statement}
 use Rattle.bound.proofs.pace.joined.Tie as tie

@@ -1,9 +1,8 @@
 -- `pace_above` is a pace of the sum: the loop has that of the first i rows. Assumes nothing.
-use borrow.Author.Needs.{needs}
-use Prim.Native.Nat.{_≤_, _-_}
+use Rattle.basis.specs.Prelude.{needs, _≤_, _-_}
 use Rattle.sheet.specs.Lists.{sheetIn}
-use Rattle.bound.specs.Ready.{heldIn}
-use Rattle.bound.specs.Skipping.{Paces}
+use Rattle.bound.specs.Inside.Ready.{heldIn}
+use Rattle.bound.specs.Inside.Skipping.{Paces}
 use Rattle.bound.proofs.Amounts.{row-above, capped-small}
 use Rattle.bound.proofs.Paces.{paces-none, paces-more, width-small, paces-done}
 use Rattle.bound.proofs.pace.pace_above.Statement.{statement}

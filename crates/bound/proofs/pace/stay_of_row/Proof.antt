@@ -1,5 +1,5 @@
 -- `stay_of_row` is how long a row above keeps pace. Assumes nothing.
-use borrow.Author.Needs.{needs}
+use Rattle.basis.specs.Prelude.{needs}
 use Rattle.bound.proofs.Durations.{spans, span-small, stay-fits, stay-is}
 use Rattle.bound.proofs.pace.stay_of_row.Statement.{statement}
 use Rattle.bound.proofs.pace.stay_of_row.Tie as tie

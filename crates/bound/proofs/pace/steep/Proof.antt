@@ -1,5 +1,5 @@
 -- `steep` stays within the pace and the amount. Assumes nothing.
-use borrow.Author.Needs.{needs}
+use Rattle.basis.specs.Prelude.{needs}
 use Rattle.bound.proofs.Steps.{steep-whole, steep-part}
 use Rattle.bound.proofs.pace.steep.Statement.{statement}
 use Rattle.bound.proofs.pace.steep.Tie as tie

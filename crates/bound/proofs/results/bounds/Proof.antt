@@ -1,7 +1,7 @@
 -- `bounds` meets its promise: the sheet comes back from the list that it is put into, and its results from theirs. Assumes nothing.
-use borrow.Author.Needs.{needs}
-use Rattle.sheet.proofs.Cells.{unmapped}
-use Rattle.bound.proofs.Rows.{answered}
+use Rattle.basis.specs.Prelude.{needs}
+use Rattle.sheet.proofs.Inside.Cells.{unmapped}
+use Rattle.bound.proofs.Inside.Rows.{answered}
 use Rattle.bound.proofs.results.bounds.Statement.{statement}
 use Rattle.bound.proofs.results.bounds.Tie as tie
 

@@ -1,5 +1,5 @@
 -- `bounds_on` meets its promise at each way out. Assumes nothing.
-use borrow.Author.Needs.{needs}
+use Rattle.basis.specs.Prelude.{needs}
 use Rattle.bound.proofs.Lists.{legal-is-known, results-fit, no-room-told, results-told, not-legal-told}
 use Rattle.bound.proofs.results.bounds_on.Statement.{statement}
 use Rattle.bound.proofs.results.bounds_on.Tie as tie

@@ -1,5 +1,5 @@
 -- `judged_at` is a result of a list, by its word and its bound. Assumes nothing.
-use borrow.Author.Needs.{needs}
+use Rattle.basis.specs.Prelude.{needs}
 use Rattle.bound.proofs.Lists.{unreached-read, bound-read, none-read}
 use Rattle.bound.proofs.results.judged_at.Statement.{statement}
 use Rattle.bound.proofs.results.judged_at.Tie as tie

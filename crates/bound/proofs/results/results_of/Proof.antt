@@ -1,13 +1,10 @@
 -- `results_of` has the result of every row: the loop has those of the first i. Assumes nothing.
-use borrow.Author.Needs.{needs}
-use Prim.Native.Nat.{_≤_, _-_}
-use mathlib.Core.Path.{_≡_, refl}
-use mathlib.Core.List.{map}
+use Rattle.basis.specs.Prelude.{needs, _≤_, _-_, _≡_, refl, map}
 use Rattle.basis.specs.Limits.{mostRows}
 use Rattle.basis.specs.Upto.{upto}
 use Rattle.bound.specs.Bound.{wordIn, allUnreached}
 use Rattle.bound.specs.Lists.{wordAt}
-use Rattle.bound.proofs.Rows.{rows-more, rows-done}
+use Rattle.bound.proofs.Inside.Rows.{rows-more, rows-done}
 use Rattle.bound.proofs.results.results_of.Statement.{statement}
 use Rattle.bound.proofs.results.results_of.Tie as tie
 

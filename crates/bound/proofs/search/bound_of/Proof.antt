@@ -1,14 +1,11 @@
 -- `bound_of` is the smallest length that passes: the smallest from this length on is the smallest of all. Assumes nothing.
-use borrow.Author.Needs.{needs}
-use Prim.Native.Nat.{_≤_, _-_, _+_}
-use native.Mathlib.Nat.{le-of-lt}
-use mathlib.Core.Path.{_≡_}
+use Rattle.basis.specs.Prelude.{needs, _≤_, _-_, _+_, le-of-lt, _≡_}
 use Rattle.sheet.specs.Legal.{rowAt}
 use Rattle.sheet.specs.Lists.{sheetIn}
 use Rattle.bound.specs.Test.{passes}
 use Rattle.bound.specs.Bound.{least, passesAt, boundBy}
-use Rattle.bound.specs.Ready.{heldIn}
-use Rattle.bound.proofs.Lengths.{search-starts, length-of-row, search-less, search-low, told-next, search-found, search-more, search-ends}
+use Rattle.bound.specs.Inside.Ready.{heldIn}
+use Rattle.bound.proofs.Inside.Lengths.{search-starts, length-of-row, search-less, search-low, told-next, search-found, search-more, search-ends}
 use Rattle.bound.proofs.search.bound_of.Statement.{statement}
 use Rattle.bound.proofs.search.bound_of.Tie as tie
 

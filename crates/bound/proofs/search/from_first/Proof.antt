@@ -1,5 +1,5 @@
 -- `from_first` steps over lengths that fail: past the deadline, where none up to it passes. Assumes nothing.
-use borrow.Author.Needs.{needs}
+use Rattle.basis.specs.Prelude.{needs}
 use Rattle.bound.proofs.Shares.{deadline-is-length, after-deadline-fits, past-deadline}
 use Rattle.bound.proofs.search.from_first.Statement.{statement}
 use Rattle.bound.proofs.search.from_first.Tie as tie

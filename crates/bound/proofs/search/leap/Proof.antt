@@ -1,5 +1,5 @@
 -- `leap` steps over lengths that fail, whatever is guessed. Assumes nothing.
-use borrow.Author.Needs.{needs}
+use Rattle.basis.specs.Prelude.{needs}
 use Rattle.bound.proofs.Stretches.{deadline-small, end-is-length, after-end-fits, twice-fits, end-further, over-skips}
 use Rattle.bound.proofs.search.leap.Statement.{statement}
 use Rattle.bound.proofs.search.leap.Tie as tie

@@ -1,5 +1,5 @@
 -- `next_length` steps over lengths that fail. Assumes nothing.
-use borrow.Author.Needs.{needs}
+use Rattle.basis.specs.Prelude.{needs}
 use Rattle.bound.proofs.Steps.{divides, next-fits, one-more-fits, next-skips}
 use Rattle.bound.proofs.search.next_length.Statement.{statement}
 use Rattle.bound.proofs.search.next_length.Tie as tie

@@ -1,5 +1,5 @@
 -- `try_length` tells whether a length passes, and if not which may be next. Assumes nothing.
-use borrow.Author.Needs.{needs}
+use Rattle.basis.specs.Prelude.{needs}
 use Rattle.bound.proofs.Steps.{length-passes, length-fails, spare-fits}
 use Rattle.bound.proofs.search.try_length.Statement.{statement}
 use Rattle.bound.proofs.search.try_length.Tie as tie

@@ -1,5 +1,5 @@
 -- `no_room` says that no length passes only where none does. Assumes nothing.
-use borrow.Author.Needs.{needs}
+use Rattle.basis.specs.Prelude.{needs}
 use Rattle.bound.proofs.Amounts.{fine-room-fits}
 use Rattle.bound.proofs.Shares.{shares-round, room-told}
 use Rattle.bound.proofs.share.no_room.Statement.{statement}

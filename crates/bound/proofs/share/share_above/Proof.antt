@@ -1,5 +1,5 @@
 -- `share_above` is the amount of a row above by its share. Assumes nothing.
-use borrow.Author.Needs.{needs}
+use Rattle.basis.specs.Prelude.{needs}
 use Rattle.bound.proofs.Durations.{span-small}
 use Rattle.bound.proofs.Shares.{share-amount-is}
 use Rattle.bound.proofs.share.share_above.Statement.{statement}

@@ -1,9 +1,8 @@
 -- `shares_above` has what the rows above reach by their shares: the loop has that of the first i rows. Assumes nothing.
-use borrow.Author.Needs.{needs}
-use Prim.Native.Nat.{_≤_, _-_}
+use Rattle.basis.specs.Prelude.{needs, _≤_, _-_}
 use Rattle.sheet.specs.Lists.{sheetIn}
-use Rattle.bound.specs.Ready.{heldIn}
-use Rattle.bound.specs.Skipping.{Shares}
+use Rattle.bound.specs.Inside.Ready.{heldIn}
+use Rattle.bound.specs.Inside.Skipping.{Shares}
 use Rattle.bound.proofs.Amounts.{row-above, window-small, q-of-small}
 use Rattle.bound.proofs.Shares.{shares-none, shares-fit, shares-more, shares-done}
 use Rattle.bound.proofs.share.shares_above.Statement.{statement}

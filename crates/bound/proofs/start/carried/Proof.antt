@@ -1,5 +1,5 @@
 -- `carried` is the length that a bound above gives. Assumes nothing.
-use borrow.Author.Needs.{needs}
+use Rattle.basis.specs.Prelude.{needs}
 use Rattle.bound.proofs.Carry.{carried-wide, carried-within, carried-small, carried-bound, carried-none}
 use Rattle.bound.proofs.start.carried.Statement.{statement}
 use Rattle.bound.proofs.start.carried.Tie as tie

@@ -1,9 +1,8 @@
 -- `first_length` is a length before which none passes: the latest that the rows above give. Assumes nothing.
-use borrow.Author.Needs.{needs}
-use Prim.Native.Nat.{_≤_, _-_}
+use Rattle.basis.specs.Prelude.{needs, _≤_, _-_}
 use Rattle.sheet.specs.Lists.{sheetIn}
-use Rattle.bound.specs.Ready.{heldIn}
-use Rattle.bound.specs.Skipping.{Starts}
+use Rattle.bound.specs.Inside.Ready.{heldIn}
+use Rattle.bound.specs.Inside.Skipping.{Starts}
 use Rattle.bound.proofs.Carry.{start-at-budget, above-budget, threads-small, carried-starts, start-later}
 use Rattle.bound.proofs.start.first_length.Statement.{statement}
 use Rattle.bound.proofs.start.first_length.Tie as tie

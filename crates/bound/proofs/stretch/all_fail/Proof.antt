@@ -1,5 +1,5 @@
 -- `all_fail` says that all lengths of a stretch fail only where they do: its two ends decide. Assumes nothing.
-use borrow.Author.Needs.{needs}
+use Rattle.basis.specs.Prelude.{needs}
 use Rattle.bound.proofs.Amounts.{fine-room-fits}
 use Rattle.bound.proofs.Stretches.{now-rounds, then-rounds, stretch-told}
 use Rattle.bound.proofs.stretch.all_fail.Statement.{statement}

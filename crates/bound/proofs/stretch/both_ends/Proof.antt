@@ -1,5 +1,5 @@
 -- `both_ends` adds at each end. Assumes nothing.
-use borrow.Author.Needs.{needs}
+use Rattle.basis.specs.Prelude.{needs}
 use Rattle.bound.proofs.Stretches.{both-ends-are}
 use Rattle.bound.proofs.stretch.both_ends.Statement.{statement}
 use Rattle.bound.proofs.stretch.both_ends.Tie as tie

@@ -1,9 +1,8 @@
 -- `ends_of_rows` has ends whose line the sum is never below: the loop has those of the first i rows. Assumes nothing.
-use borrow.Author.Needs.{needs}
-use Prim.Native.Nat.{_≤_, _-_}
+use Rattle.basis.specs.Prelude.{needs, _≤_, _-_}
 use Rattle.sheet.specs.Lists.{sheetIn}
-use Rattle.bound.specs.Ready.{heldIn}
-use Rattle.bound.specs.Skipping.{RowsMeet}
+use Rattle.bound.specs.Inside.Ready.{heldIn}
+use Rattle.bound.specs.Inside.Skipping.{RowsMeet}
 use Rattle.bound.proofs.Stretches.{meet-none, meet-done}
 use Rattle.bound.proofs.stretch.ends_of_rows.Statement.{statement}
 use Rattle.bound.proofs.stretch.ends_of_rows.Tie as tie

@@ -1,5 +1,5 @@
 -- `lasts` says whether the present separation lasts. Assumes nothing.
-use borrow.Author.Needs.{needs}
+use Rattle.basis.specs.Prelude.{needs}
 use Rattle.bound.proofs.Durations.{span-small}
 use Rattle.bound.proofs.Stretches.{lasts-fits, lasts-is}
 use Rattle.bound.proofs.stretch.lasts.Statement.{statement}

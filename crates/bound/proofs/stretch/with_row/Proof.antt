@@ -1,5 +1,5 @@
 -- `with_row` has ends whose line the sum with one row more is never below. Assumes nothing.
-use borrow.Author.Needs.{needs}
+use Rattle.basis.specs.Prelude.{needs}
 use Rattle.bound.proofs.Stretches.{row-along, now-fits, then-fits, meet-more}
 use Rattle.bound.proofs.stretch.with_row.Statement.{statement}
 use Rattle.bound.proofs.stretch.with_row.Tie as tie

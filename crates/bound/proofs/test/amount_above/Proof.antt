@@ -1,5 +1,5 @@
 -- `amount_above` is the amount of a row above. Assumes nothing.
-use borrow.Author.Needs.{needs}
+use Rattle.basis.specs.Prelude.{needs}
 use Rattle.bound.proofs.Durations.{duration-small, amount-is}
 use Rattle.bound.proofs.test.amount_above.Statement.{statement}
 use Rattle.bound.proofs.test.amount_above.Tie as tie

@@ -1,5 +1,5 @@
 -- `duration_above` is the duration of a row above. Assumes nothing.
-use borrow.Author.Needs.{needs}
+use Rattle.basis.specs.Prelude.{needs}
 use Rattle.bound.proofs.Durations.{spans, duration-is}
 use Rattle.bound.proofs.test.duration_above.Statement.{statement}
 use Rattle.bound.proofs.test.duration_above.Tie as tie

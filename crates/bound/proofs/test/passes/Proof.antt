@@ -1,5 +1,5 @@
 -- `passes` says whether a sum is less than q × X. Assumes nothing.
-use borrow.Author.Needs.{needs}
+use Rattle.basis.specs.Prelude.{needs}
 use Rattle.bound.proofs.Amounts.{less-room}
 use Rattle.bound.proofs.test.passes.Statement.{statement}
 use Rattle.bound.proofs.test.passes.Tie as tie

@@ -1,5 +1,5 @@
 -- `q_of` is q. Assumes nothing.
-use borrow.Author.Needs.{needs}
+use Rattle.basis.specs.Prelude.{needs}
 use Rattle.bound.proofs.Amounts.{threads-fit, q-fits, q-is}
 use Rattle.bound.proofs.test.q_of.Statement.{statement}
 use Rattle.bound.proofs.test.q_of.Tie as tie

@@ -1,5 +1,5 @@
 -- `room_of` is q × X. Assumes nothing.
-use borrow.Author.Needs.{needs}
+use Rattle.basis.specs.Prelude.{needs}
 use Rattle.bound.proofs.Amounts.{window-small, q-of-small, room-is}
 use Rattle.bound.proofs.test.room_of.Statement.{statement}
 use Rattle.bound.proofs.test.room_of.Tie as tie

@@ -1,5 +1,5 @@
 -- `span_of` is x. Assumes nothing.
-use borrow.Author.Needs.{needs}
+use Rattle.basis.specs.Prelude.{needs}
 use Rattle.bound.proofs.Durations.{span-is}
 use Rattle.bound.proofs.test.span_of.Statement.{statement}
 use Rattle.bound.proofs.test.span_of.Tie as tie

@@ -1,10 +1,8 @@
 -- `sum_above` is the sum of the amounts: the loop has those of the first i rows. Assumes nothing.
-use borrow.Author.Needs.{needs}
-use Prim.Native.Nat.{_≤_, _-_}
-use mathlib.Core.Path.{_≡_}
+use Rattle.basis.specs.Prelude.{needs, _≤_, _-_, _≡_}
 use Rattle.bound.specs.Test.{amounts}
 use Rattle.sheet.specs.Lists.{sheetIn}
-use Rattle.bound.specs.Ready.{heldIn}
+use Rattle.bound.specs.Inside.Ready.{heldIn}
 use Rattle.bound.proofs.Amounts.{row-above, window-small, q-of-small, sum-none, sum-fits, sum-more, sum-done}
 use Rattle.bound.proofs.test.sum_above.Statement.{statement}
 use Rattle.bound.proofs.test.sum_above.Tie as tie

@@ -1,5 +1,5 @@
 -- `window_of` is X. Assumes nothing.
-use borrow.Author.Needs.{needs}
+use Rattle.basis.specs.Prelude.{needs}
 use Rattle.bound.proofs.Amounts.{window-low, window-fits, window-is}
 use Rattle.bound.proofs.test.window_of.Statement.{statement}
 use Rattle.bound.proofs.test.window_of.Tie as tie

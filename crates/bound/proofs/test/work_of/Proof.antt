@@ -1,5 +1,5 @@
 -- `work_of` is W: whole periods fit into x, and jobs into periods. Assumes nothing.
-use borrow.Author.Needs.{needs}
+use Rattle.basis.specs.Prelude.{needs}
 use Rattle.bound.proofs.Durations.{jobs-fit, work-fits, work-is}
 use Rattle.bound.proofs.test.work_of.Statement.{statement}
 use Rattle.bound.proofs.test.work_of.Tie as tie

@@ -1,6 +1,6 @@
 -- `put_board` meets its promise: the lines, then the last one. Assumes nothing.
-use borrow.Author.Needs.{needs}
-use Rattle.page.proofs.Pages.{two-said}
+use Rattle.basis.specs.Prelude.{needs}
+use Rattle.page.proofs.Inside.Pages.{two-said}
 use Rattle.dashboard.proofs.board.put_board.Statement.{statement}
 use Rattle.dashboard.proofs.board.put_board.Tie as tie
 

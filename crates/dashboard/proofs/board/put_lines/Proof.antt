@@ -1,13 +1,10 @@
 -- `put_lines` meets its promise. The invariant: what is said so far is the lines of the rows passed. Assumes nothing.
-use borrow.Author.Needs.{needs}
-use Prim.Native.Nat.{_-_, _≤_}
-use mathlib.Core.Path.{_≡_}
-use lib.ListN.{length}
+use Rattle.basis.specs.Prelude.{needs, _-_, _≤_, _≡_, length}
 use Rattle.bound.specs.Lists.{wordAt}
 use Rattle.dashboard.specs.Labels.{lineLabel}
 use Rattle.dashboard.specs.Texts.{lines}
 use Rattle.page.specs.Pages.{said}
-use Rattle.dashboard.proofs.Boards.{no-lines, one-line, all-lines, label-room, label-lies, result-room}
+use Rattle.dashboard.proofs.Inside.Boards.{no-lines, one-line, all-lines, label-room, label-lies, result-room}
 use Rattle.dashboard.proofs.board.put_lines.Statement.{statement}
 use Rattle.dashboard.proofs.board.put_lines.Tie as tie
 

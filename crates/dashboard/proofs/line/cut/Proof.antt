@@ -1,6 +1,6 @@
 -- `cut` meets its promise: it shows the part. Assumes nothing.
-use borrow.Author.Needs.{needs}
-use Rattle.dashboard.proofs.Boards.{label-ends, label-inside, label-cut}
+use Rattle.basis.specs.Prelude.{needs}
+use Rattle.dashboard.proofs.Inside.Boards.{label-ends, label-inside, label-cut}
 use Rattle.dashboard.proofs.line.cut.Statement.{statement}
 use Rattle.dashboard.proofs.line.cut.Tie as tie
 

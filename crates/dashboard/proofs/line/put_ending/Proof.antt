@@ -1,6 +1,6 @@
 -- `put_ending` meets its promise. Assumes nothing.
-use borrow.Author.Needs.{needs}
-use Rattle.dashboard.proofs.Boards.{holds-said, fails-said}
+use Rattle.basis.specs.Prelude.{needs}
+use Rattle.dashboard.proofs.Inside.Boards.{holds-said, fails-said}
 use Rattle.dashboard.proofs.line.put_ending.Statement.{statement}
 use Rattle.dashboard.proofs.line.put_ending.Tie as tie
 

@@ -1,7 +1,7 @@
 -- `put_line` meets its promise. Assumes nothing.
-use borrow.Author.Needs.{needs}
+use Rattle.basis.specs.Prelude.{needs}
 use Rattle.dashboard.specs.Words.{line}
-use Rattle.page.proofs.Pages.{three-said}
+use Rattle.page.proofs.Inside.Pages.{three-said}
 use Rattle.dashboard.proofs.line.put_line.Statement.{statement}
 use Rattle.dashboard.proofs.line.put_line.Tie as tie
 

@@ -1,7 +1,7 @@
 -- `put_no_verdict` meets its promise. Assumes nothing.
-use borrow.Author.Needs.{needs}
+use Rattle.basis.specs.Prelude.{needs}
 use Rattle.dashboard.specs.Words.{noVerdict}
-use Rattle.page.proofs.Pages.{four-said}
+use Rattle.page.proofs.Inside.Pages.{four-said}
 use Rattle.dashboard.proofs.line.put_no_verdict.Statement.{statement}
 use Rattle.dashboard.proofs.line.put_no_verdict.Tie as tie
 

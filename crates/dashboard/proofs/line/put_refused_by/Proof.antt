@@ -1,7 +1,7 @@
 -- `put_refused_by` meets its promise. Assumes nothing.
-use borrow.Author.Needs.{needs}
+use Rattle.basis.specs.Prelude.{needs}
 use Rattle.dashboard.specs.Words.{refusedBy}
-use Rattle.page.proofs.Pages.{two-said}
+use Rattle.page.proofs.Inside.Pages.{two-said}
 use Rattle.dashboard.proofs.line.put_refused_by.Statement.{statement}
 use Rattle.dashboard.proofs.line.put_refused_by.Tie as tie
 

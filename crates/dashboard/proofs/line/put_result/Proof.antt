@@ -1,6 +1,6 @@
 -- `put_result` meets its promise: each word. Assumes nothing.
-use borrow.Author.Needs.{needs}
-use Rattle.dashboard.proofs.Boards.{unreached-said, bound-said, none-said}
+use Rattle.basis.specs.Prelude.{needs}
+use Rattle.dashboard.proofs.Inside.Boards.{unreached-said, bound-said, none-said}
 use Rattle.dashboard.proofs.line.put_result.Statement.{statement}
 use Rattle.dashboard.proofs.line.put_result.Tie as tie
 

@@ -1,6 +1,6 @@
 -- `put_fixed` meets its promise: the sheet in a list is judged. Assumes nothing.
-use borrow.Author.Needs.{needs}
-use Rattle.dashboard.proofs.Reports.{no-labels-lie, fixed-few, fixed-labels, fixed-results, fixed-said}
+use Rattle.basis.specs.Prelude.{needs}
+use Rattle.dashboard.proofs.Inside.Reports.{no-labels-lie, fixed-few, fixed-labels, fixed-results, fixed-said}
 use Rattle.dashboard.proofs.report.put_fixed.Statement.{statement}
 use Rattle.dashboard.proofs.report.put_fixed.Tie as tie
 

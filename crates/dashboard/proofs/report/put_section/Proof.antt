@@ -1,6 +1,6 @@
 -- `put_section` meets its promise. Assumes nothing.
-use borrow.Author.Needs.{needs}
-use Rattle.dashboard.proofs.Reports.{section-said}
+use Rattle.basis.specs.Prelude.{needs}
+use Rattle.dashboard.proofs.Inside.Reports.{section-said}
 use Rattle.dashboard.proofs.report.put_section.Statement.{statement}
 use Rattle.dashboard.proofs.report.put_section.Tie as tie
 

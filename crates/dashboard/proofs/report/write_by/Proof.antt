@@ -1,6 +1,6 @@
 -- `write_by` meets its promise: the bytes are judged, and refused or not. Assumes nothing.
-use borrow.Author.Needs.{needs}
-use Rattle.dashboard.proofs.Reports.{few-lines, labels-there, labels-lie, results-there, verdict-refused, verdict-accepted}
+use Rattle.basis.specs.Prelude.{needs}
+use Rattle.dashboard.proofs.Inside.Reports.{few-lines, labels-there, labels-lie, results-there, verdict-refused, verdict-accepted}
 use Rattle.dashboard.proofs.report.write_by.Statement.{statement}
 use Rattle.dashboard.proofs.report.write_by.Tie as tie
 

@@ -1,11 +1,8 @@
 -- `write_reference` meets its promise. The invariant: what is said so far is the sections passed. Assumes nothing.
-use Prim.Native.Nat.{_≤_, _-_}
-use mathlib.Core.Path.{_≡_}
-use borrow.Author.Needs.{needs}
-use lib.ListN.{length}
+use Rattle.basis.specs.Prelude.{_≤_, _-_, _≡_, needs, length}
 use Rattle.dashboard.specs.Texts.{fixedCount, sections}
 use Rattle.page.specs.Pages.{said}
-use Rattle.dashboard.proofs.Reports.{no-sections, one-section, reference-written}
+use Rattle.dashboard.proofs.Inside.Reports.{no-sections, one-section, reference-written}
 use Rattle.dashboard.proofs.report.write_reference.Statement.{statement}
 use Rattle.dashboard.proofs.report.write_reference.Tie as tie
 

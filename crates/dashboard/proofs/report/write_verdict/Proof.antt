@@ -1,6 +1,6 @@
 -- `write_verdict` meets its promise: there is room in small lists, or in those for every row. Assumes nothing.
-use borrow.Author.Needs.{needs}
-use Rattle.dashboard.proofs.Reports.{room-for-few, room-for-any}
+use Rattle.basis.specs.Prelude.{needs}
+use Rattle.dashboard.proofs.Inside.Reports.{room-for-few, room-for-any}
 use Rattle.dashboard.proofs.report.write_verdict.Statement.{statement}
 use Rattle.dashboard.proofs.report.write_verdict.Tie as tie
 

@@ -1,5 +1,5 @@
 -- `input_buffer` meets its promise: its size is computed from the limits. Assumes nothing.
-use mathlib.Core.Path.{refl}
+use Rattle.basis.specs.Prelude.{refl}
 use Rattle.numbers.specs.Numbers.{spelt, width}
 use Rattle.reader.specs.Longest.{longestRow, longestSheet}
 use Rattle.dashboard.specs.Longest.{inputSize}

@@ -1,6 +1,6 @@
 -- `cell_of` meets its promise. Assumes nothing.
-use borrow.Author.Needs.{needs}
-use Rattle.exports.proofs.BoxAnswers.{even-cell, odd-cell}
+use Rattle.basis.specs.Prelude.{needs}
+use Rattle.exports.proofs.Inside.BoxAnswers.{even-cell, odd-cell}
 use Rattle.exports.proofs.boxes.cell_of.Statement.{statement}
 use Rattle.exports.proofs.boxes.cell_of.Tie as tie
 

@@ -1,6 +1,6 @@
 -- `giachimu_box` meets its promise: the checks before the run, and what the box's own loop answers. Assumes nothing.
-use borrow.Author.Needs.{needs}
-use Rattle.exports.proofs.BoxAnswers.{records-fit, box-has-no-room, box-answered, box-not-legal}
+use Rattle.basis.specs.Prelude.{needs}
+use Rattle.exports.proofs.Inside.BoxAnswers.{records-fit, box-has-no-room, box-answered, box-not-legal}
 use Rattle.exports.proofs.boxes.giachimu_box.Statement.{statement}
 use Rattle.exports.proofs.boxes.giachimu_box.Tie as tie
 

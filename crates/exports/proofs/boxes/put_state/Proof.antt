@@ -1,11 +1,8 @@
 -- `put_state` meets its promise: the places so far are filled. Assumes nothing.
-use borrow.Author.Needs.{needs}
-use Prim.Native.Nat.{_≤_, _-_}
-use mathlib.Core.Path.{_≡_}
-use lib.ListN.{length}
+use Rattle.basis.specs.Prelude.{needs, _≤_, _-_, _≡_, length}
 use Rattle.basis.specs.Upto.{upto}
-use Rattle.basis.proofs.Upto.{upto-none, upto-set}
-use Rattle.sheet.proofs.FilledLists.{fill-done}
+use Rattle.basis.proofs.Inside.Upto.{upto-none, upto-set}
+use Rattle.sheet.proofs.Inside.FilledLists.{fill-done}
 use Rattle.states.specs.Values.{held}
 use Rattle.exports.specs.Further.{stateCell}
 use Rattle.exports.proofs.boxes.put_state.Statement.{statement}

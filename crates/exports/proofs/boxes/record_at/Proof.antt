@@ -1,7 +1,7 @@
 -- `record_at` meets its promise. Assumes nothing.
-use borrow.Author.Needs.{needs}
-use Rattle.sheet.proofs.Cells.{unmapped}
-use Rattle.exports.proofs.BoxAnswers.{record-past}
+use Rattle.basis.specs.Prelude.{needs}
+use Rattle.sheet.proofs.Inside.Cells.{unmapped}
+use Rattle.exports.proofs.Inside.BoxAnswers.{record-past}
 use Rattle.exports.proofs.boxes.record_at.Statement.{statement}
 use Rattle.exports.proofs.boxes.record_at.Tie as tie
 

@@ -1,6 +1,6 @@
 -- `giachimu_fresh` meets its promise. Assumes nothing.
-use borrow.Author.Needs.{needs}
-use Rattle.exports.proofs.Calls.{fresh-answered}
+use Rattle.basis.specs.Prelude.{needs}
+use Rattle.exports.proofs.Inside.Calls.{fresh-answered}
 use Rattle.exports.proofs.machines.giachimu_fresh.Statement.{statement}
 use Rattle.exports.proofs.machines.giachimu_fresh.Tie as tie
 

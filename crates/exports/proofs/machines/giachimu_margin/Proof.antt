@@ -1,6 +1,6 @@
 -- `giachimu_margin` meets its promise. Assumes nothing.
-use borrow.Author.Needs.{needs}
-use Rattle.exports.proofs.Calls.{margin-refused, margin-none, margin-some}
+use Rattle.basis.specs.Prelude.{needs}
+use Rattle.exports.proofs.Inside.Calls.{margin-refused, margin-none, margin-some}
 use Rattle.exports.proofs.machines.giachimu_margin.Statement.{statement}
 use Rattle.exports.proofs.machines.giachimu_margin.Tie as tie
 

@@ -1,6 +1,6 @@
 -- `giachimu_run` meets its promise. Assumes nothing.
-use borrow.Author.Needs.{needs}
-use Rattle.exports.proofs.Calls.{run-answered}
+use Rattle.basis.specs.Prelude.{needs}
+use Rattle.exports.proofs.Inside.Calls.{run-answered}
 use Rattle.exports.proofs.machines.giachimu_run.Statement.{statement}
 use Rattle.exports.proofs.machines.giachimu_run.Tie as tie
 

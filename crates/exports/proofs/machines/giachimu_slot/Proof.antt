@@ -1,6 +1,6 @@
 -- `giachimu_slot` meets its promise. Assumes nothing.
-use borrow.Author.Needs.{needs}
-use Rattle.exports.proofs.Calls.{slot-answered}
+use Rattle.basis.specs.Prelude.{needs}
+use Rattle.exports.proofs.Inside.Calls.{slot-answered}
 use Rattle.exports.proofs.machines.giachimu_slot.Statement.{statement}
 use Rattle.exports.proofs.machines.giachimu_slot.Tie as tie
 

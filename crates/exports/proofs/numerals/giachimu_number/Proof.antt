@@ -1,6 +1,6 @@
 -- `giachimu_number` meets its promise. Assumes nothing.
-use borrow.Author.Needs.{needs}
-use Rattle.exports.proofs.NumberAnswers.{number-refused, number-is}
+use Rattle.basis.specs.Prelude.{needs}
+use Rattle.exports.proofs.Inside.NumberAnswers.{number-refused, number-is}
 use Rattle.exports.proofs.numerals.giachimu_number.Statement.{statement}
 use Rattle.exports.proofs.numerals.giachimu_number.Tie as tie
 

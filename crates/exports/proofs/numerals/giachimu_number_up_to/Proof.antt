@@ -1,6 +1,6 @@
 -- `giachimu_number_up_to` meets its promise. Assumes nothing.
-use borrow.Author.Needs.{needs}
-use Rattle.exports.proofs.NumberAnswers.{up-to-refused, up-to-is}
+use Rattle.basis.specs.Prelude.{needs}
+use Rattle.exports.proofs.Inside.NumberAnswers.{up-to-refused, up-to-is}
 use Rattle.exports.proofs.numerals.giachimu_number_up_to.Statement.{statement}
 use Rattle.exports.proofs.numerals.giachimu_number_up_to.Tie as tie
 

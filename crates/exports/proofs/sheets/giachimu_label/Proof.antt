@@ -1,6 +1,6 @@
 -- `giachimu_label` meets its promise: the part that the reader has written for the row. Assumes nothing.
-use borrow.Author.Needs.{needs}
-use Rattle.exports.proofs.Fields.{label-refused, label-past, start-fits, start-scaled, start-inside, long-fits, long-scaled, long-inside, label-there}
+use Rattle.basis.specs.Prelude.{needs}
+use Rattle.exports.proofs.Inside.Fields.{label-refused, label-past, start-fits, start-scaled, start-inside, long-fits, long-scaled, long-inside, label-there}
 use Rattle.exports.proofs.sheets.giachimu_label.Statement.{statement}
 use Rattle.exports.proofs.sheets.giachimu_label.Tie as tie
 

@@ -1,6 +1,6 @@
 -- `giachimu_read` meets its promise: what the reader has written, and zeros past it. Assumes nothing.
-use borrow.Author.Needs.{needs}
-use Rattle.exports.proofs.Fields.{rows-fit, places-fit, fields-refused, fields-are-read}
+use Rattle.basis.specs.Prelude.{needs}
+use Rattle.exports.proofs.Inside.Fields.{rows-fit, places-fit, fields-refused, fields-are-read}
 use Rattle.exports.proofs.sheets.giachimu_read.Statement.{statement}
 use Rattle.exports.proofs.sheets.giachimu_read.Tie as tie
 

@@ -1,10 +1,6 @@
 -- `copy` meets its promise: the bytes so far are copied. Assumes nothing.
-use borrow.Author.Needs.{needs}
-use Prim.Native.Nat.{_≤_, _-_}
-use mathlib.Core.Path.{_≡_}
-use mathlib.Core.List.{_++_}
-use lib.ListN.{length, take, drop}
-use Rattle.exports.proofs.Copies.{byte-copied, all-copied}
+use Rattle.basis.specs.Prelude.{needs, _≤_, _-_, _≡_, _++_, length, take, drop}
+use Rattle.exports.proofs.Inside.Copies.{byte-copied, all-copied}
 use Rattle.exports.proofs.verdicts.copy.Statement.{statement}
 use Rattle.exports.proofs.verdicts.copy.Tie as tie
 

@@ -1,6 +1,6 @@
 -- `giachimu_bounds` meets its promise: what `bounds_on` has judged is told. Assumes nothing.
-use borrow.Author.Needs.{needs}
-use Rattle.exports.proofs.Bounds.{bounds-refused, bounds-are-told}
+use Rattle.basis.specs.Prelude.{needs}
+use Rattle.exports.proofs.Inside.Bounds.{bounds-refused, bounds-are-told}
 use Rattle.exports.proofs.verdicts.giachimu_bounds.Statement.{statement}
 use Rattle.exports.proofs.verdicts.giachimu_bounds.Tie as tie
 

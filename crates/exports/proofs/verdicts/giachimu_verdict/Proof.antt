@@ -1,7 +1,7 @@
 -- `giachimu_verdict` meets its promise: the text is whole in a buffer with room for any, and is copied from its own where it fits. Assumes nothing.
-use borrow.Author.Needs.{needs}
+use Rattle.basis.specs.Prelude.{needs}
 use Rattle.dashboard.proofs.Buffers.{written-in-room, written-part}
-use Rattle.exports.proofs.Texts.{text-is-written, part-fits-text, text-needs-room, text-is-copied}
+use Rattle.exports.proofs.Inside.Texts.{text-is-written, part-fits-text, text-needs-room, text-is-copied}
 use Rattle.exports.proofs.verdicts.giachimu_verdict.Statement.{statement}
 use Rattle.exports.proofs.verdicts.giachimu_verdict.Tie as tie
 

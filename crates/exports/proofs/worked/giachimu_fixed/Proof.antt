@@ -1,6 +1,6 @@
 -- `giachimu_fixed` meets its promise: a worked sheet has few rows, and is written where there is room. Assumes nothing.
-use borrow.Author.Needs.{needs}
-use Rattle.exports.proofs.NumberAnswers.{fixed-rows-fit, fixed-places-fit, fixed-has-no-room, fixed-is-written}
+use Rattle.basis.specs.Prelude.{needs}
+use Rattle.exports.proofs.Inside.NumberAnswers.{fixed-rows-fit, fixed-places-fit, fixed-has-no-room, fixed-is-written}
 use Rattle.exports.proofs.worked.giachimu_fixed.Statement.{statement}
 use Rattle.exports.proofs.worked.giachimu_fixed.Tie as tie
 

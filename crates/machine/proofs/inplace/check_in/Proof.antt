@@ -1,8 +1,8 @@
 -- `check_in` meets its promise. Assumes nothing.
-use borrow.Author.Needs.{needs}
-use Rattle.basis.proofs.Tests.{tests}
+use Rattle.basis.specs.Prelude.{needs}
+use Rattle.basis.proofs.Inside.Tests.{tests}
 use Rattle.records.specs.Checks.{checkRow}
-use Rattle.machine.proofs.ChecksInPlace.{check-in-there}
+use Rattle.machine.proofs.Inside.ChecksInPlace.{check-in-there}
 use Rattle.machine.proofs.inplace.check_in.Statement.{statement}
 use Rattle.machine.proofs.inplace.check_in.Tie as tie
 

@@ -1,9 +1,5 @@
 -- `check_releases_in` meets its promise. Assumes nothing.
-use borrow.Author.Needs.{needs}
-use Prim.Native.Nat.{_≤_, _-_}
-use mathlib.Core.Path.{_≡_, refl}
-use mathlib.Core.Bool.{true}
-use lib.ListN.{length}
+use Rattle.basis.specs.Prelude.{needs, _≤_, _-_, _≡_, refl, true, length}
 use Rattle.basis.specs.Limits.{mostRows}
 use Rattle.basis.specs.Refusals.{accepted, firstOf}
 use Rattle.sheet.specs.Legal.{legal}
@@ -12,10 +8,10 @@ use Rattle.sheet.proofs.Ranges.{legal-sheet-long}
 use Rattle.machine.specs.States.{legalState}
 use Rattle.machine.specs.Checks.{checkAt}
 use Rattle.machine.specs.Lists.{stateLong, stateIn}
-use Rattle.machine.proofs.LegalChecks.{legal-in-fits}
+use Rattle.machine.proofs.Inside.LegalChecks.{legal-in-fits}
 use Rattle.machine.proofs.LegalLists.{kept-long}
-use Rattle.machine.proofs.ChecksInPlace.{check-done}
-use Rattle.machine.proofs.ChecksInPlace.{check-in-more, check-in-found}
+use Rattle.machine.proofs.Inside.ChecksInPlace.{check-done}
+use Rattle.machine.proofs.Inside.ChecksInPlace.{check-in-more, check-in-found}
 use Rattle.machine.proofs.inplace.check_releases_in.Statement.{statement}
 use Rattle.machine.proofs.inplace.check_releases_in.Tie as tie
 

@@ -1,6 +1,6 @@
 -- `check_run_in` meets its promise. Assumes nothing.
-use borrow.Author.Needs.{needs}
-use Rattle.machine.proofs.Checks.{some-row, run-refused, run-11, run-15, run-in-order}
+use Rattle.basis.specs.Prelude.{needs}
+use Rattle.machine.proofs.Inside.Checks.{some-row, run-refused, run-11, run-15, run-in-order}
 use Rattle.machine.proofs.inplace.check_run_in.Statement.{statement}
 use Rattle.machine.proofs.inplace.check_run_in.Tie as tie
 

@@ -1,7 +1,7 @@
 -- `check_slot_in` meets its promise. Assumes nothing.
-use borrow.Author.Needs.{needs}
-use Rattle.machine.proofs.Checks.{slot-refused, slot-11, slot-15, slot-rows}
-use Rattle.machine.proofs.ChecksInPlace.{checked-sheet, checked-state}
+use Rattle.basis.specs.Prelude.{needs}
+use Rattle.machine.proofs.Inside.Checks.{slot-refused, slot-11, slot-15, slot-rows}
+use Rattle.machine.proofs.Inside.ChecksInPlace.{checked-sheet, checked-state}
 use Rattle.machine.proofs.inplace.check_slot_in.Statement.{statement}
 use Rattle.machine.proofs.inplace.check_slot_in.Tie as tie
 

@@ -1,6 +1,6 @@
 -- `check_state_in` meets its promise. Assumes nothing.
-use borrow.Author.Needs.{needs}
-use Rattle.machine.proofs.ChecksInPlace.{so-legal, in-order, in-16, in-10}
+use Rattle.basis.specs.Prelude.{needs}
+use Rattle.machine.proofs.Inside.ChecksInPlace.{so-legal, in-order, in-16, in-10}
 use Rattle.machine.proofs.inplace.check_state_in.Statement.{statement}
 use Rattle.machine.proofs.inplace.check_state_in.Tie as tie
 

@@ -1,7 +1,7 @@
 -- `run_on` meets its promise. Assumes nothing.
-use borrow.Author.Needs.{needs}
-use Rattle.machine.proofs.Answers.{run-sheet, run-state, run-rows, run-list, run-buffer}
-use Rattle.machine.proofs.RunsInPlace.{run-in-refused, run-in-done}
+use Rattle.basis.specs.Prelude.{needs}
+use Rattle.machine.proofs.Inside.Answers.{run-sheet, run-state, run-rows, run-list, run-buffer}
+use Rattle.machine.proofs.Inside.RunsInPlace.{run-in-refused, run-in-done}
 use Rattle.machine.proofs.inplace.run_on.Statement.{statement}
 use Rattle.machine.proofs.inplace.run_on.Tie as tie
 

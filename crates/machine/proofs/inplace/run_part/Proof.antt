@@ -1,16 +1,12 @@
 -- `run_part` meets its promise. Assumes nothing.
-use borrow.Author.Needs.{needs}
-use Prim.Native.Nat.{_*_, _-_, _≤_}
-use mathlib.Core.Path.{_≡_, refl}
-use mathlib.Core.Bool.{true}
-use lib.ListN.{length}
+use Rattle.basis.specs.Prelude.{needs, _*_, _-_, _≤_, _≡_, refl, true, length}
 use Rattle.basis.specs.Refusals.{accepted}
 use Rattle.sheet.specs.Legal.{legal}
 use Rattle.sheet.specs.Lists.{sheetIn}
 use Rattle.machine.specs.States.{legalState}
 use Rattle.machine.specs.Answers.{runAnswer, course}
 use Rattle.machine.specs.Lists.{stateIn}
-use Rattle.machine.proofs.Courses.{room-for, goes-on, stops, ends}
+use Rattle.machine.proofs.Inside.Courses.{room-for, goes-on, stops, ends}
 use Rattle.machine.proofs.inplace.run_part.Statement.{statement}
 use Rattle.machine.proofs.inplace.run_part.Tie as tie
 

@@ -1,6 +1,6 @@
 -- `slot_part` meets its promise. Assumes nothing.
-use borrow.Author.Needs.{needs}
-use Rattle.machine.proofs.Courses.{slot-at-refused}
+use Rattle.basis.specs.Prelude.{needs}
+use Rattle.machine.proofs.Inside.Courses.{slot-at-refused}
 use Rattle.machine.proofs.SlotsInPlace.{entries-hold, codes-hold, part-accepted, part-legal}
 use Rattle.machine.proofs.inplace.slot_part.Statement.{statement}
 use Rattle.machine.proofs.inplace.slot_part.Tie as tie

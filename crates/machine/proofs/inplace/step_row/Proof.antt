@@ -1,5 +1,5 @@
 -- `step_row` meets its promise. Assumes nothing.
-use borrow.Author.Needs.{needs}
+use Rattle.basis.specs.Prelude.{needs}
 use Rattle.machine.proofs.SlotsInPlace.{row-stepped}
 use Rattle.machine.proofs.inplace.step_row.Statement.{statement}
 use Rattle.machine.proofs.inplace.step_row.Tie as tie

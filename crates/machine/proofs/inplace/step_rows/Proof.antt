@@ -1,9 +1,5 @@
 -- `step_rows` meets its promise. Assumes nothing.
-use borrow.Author.Needs.{needs}
-use Prim.Native.Nat.{_≤_, _-_}
-use mathlib.Core.Path.{_≡_, refl}
-use mathlib.Core.Bool.{true}
-use lib.ListN.{length}
+use Rattle.basis.specs.Prelude.{needs, _≤_, _-_, _≡_, refl, true, length}
 use Rattle.basis.specs.Limits.{mostRows}
 use Rattle.basis.specs.Upto.{upto}
 use Rattle.sheet.specs.Legal.{legal}
@@ -13,9 +9,9 @@ use Rattle.machine.specs.States.{legalState}
 use Rattle.machine.specs.Slot.{free, next, code}
 use Rattle.machine.specs.Answers.{given}
 use Rattle.machine.specs.Lists.{stateLong, stateIn, putTo}
-use Rattle.machine.proofs.LegalChecks.{legal-in-fits}
+use Rattle.machine.proofs.Inside.LegalChecks.{legal-in-fits}
 use Rattle.machine.proofs.LegalLists.{kept-long}
-use Rattle.machine.proofs.RecordLists.{put-none}
+use Rattle.machine.proofs.Inside.RecordLists.{put-none}
 use Rattle.machine.proofs.SlotsInPlace.{all-free, free-moves, list-moves, codes-move, moves-done, codes-done}
 use Rattle.machine.proofs.inplace.step_rows.Statement.{statement}
 use Rattle.machine.proofs.inplace.step_rows.Tie as tie

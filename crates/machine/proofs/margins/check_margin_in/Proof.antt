@@ -1,6 +1,6 @@
 -- `check_margin_in` meets its promise. Assumes nothing.
-use borrow.Author.Needs.{needs}
-use Rattle.machine.proofs.Checks.{margin-refused, margin-14, margin-in-order}
+use Rattle.basis.specs.Prelude.{needs}
+use Rattle.machine.proofs.Inside.Checks.{margin-refused, margin-14, margin-in-order}
 use Rattle.machine.proofs.margins.check_margin_in.Statement.{statement}
 use Rattle.machine.proofs.margins.check_margin_in.Tie as tie
 

@@ -1,6 +1,6 @@
 -- `margin_of` meets its promise. Assumes nothing.
-use borrow.Author.Needs.{needs}
-use Rattle.machine.proofs.MarginAnswers.{margin-fits, margin-none, margin-some}
+use Rattle.basis.specs.Prelude.{needs}
+use Rattle.machine.proofs.Inside.MarginAnswers.{margin-fits, margin-none, margin-some}
 use Rattle.machine.proofs.margins.margin_of.Statement.{statement}
 use Rattle.machine.proofs.margins.margin_of.Tie as tie
 

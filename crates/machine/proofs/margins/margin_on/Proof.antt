@@ -1,6 +1,6 @@
 -- `margin_on` meets its promise. Assumes nothing.
-use borrow.Author.Needs.{needs}
-use Rattle.machine.proofs.MarginAnswers.{row-in-array, margin-row-there, margin-record-there, small-deadline, listed-since, listed-remaining, margin-is-refused, listed-margin}
+use Rattle.basis.specs.Prelude.{needs}
+use Rattle.machine.proofs.Inside.MarginAnswers.{row-in-array, margin-row-there, margin-record-there, small-deadline, listed-since, listed-remaining, margin-is-refused, listed-margin}
 use Rattle.machine.proofs.margins.margin_on.Statement.{statement}
 use Rattle.machine.proofs.margins.margin_on.Tie as tie
 

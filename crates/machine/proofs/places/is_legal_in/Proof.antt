@@ -1,16 +1,12 @@
 -- `is_legal_in` meets its promise. Assumes nothing.
-use borrow.Author.Needs.{needs}
-use Prim.Native.Nat.{_≤_, _-_}
-use mathlib.Core.Path.{_≡_, refl}
-use mathlib.Core.Bool.{true}
-use lib.ListN.{length}
+use Rattle.basis.specs.Prelude.{needs, _≤_, _-_, _≡_, refl, true, length}
 use Rattle.basis.specs.Limits.{mostRows}
 use Rattle.basis.specs.Words.{allOf}
 use Rattle.sheet.specs.Legal.{legal}
 use Rattle.sheet.specs.Lists.{sheetIn, sheetLong}
 use Rattle.sheet.proofs.Ranges.{legal-sheet-long}
 use Rattle.machine.specs.Lists.{stateLong}
-use Rattle.machine.proofs.LegalChecks.{legalIn, record-scaled, legal-in-short, legal-in-fits, legal-in-more, legal-in-fails, legal-in-done}
+use Rattle.machine.proofs.Inside.LegalChecks.{legalIn, record-scaled, legal-in-short, legal-in-fits, legal-in-more, legal-in-fails, legal-in-done}
 use Rattle.machine.proofs.places.is_legal_in.Statement.{statement}
 use Rattle.machine.proofs.places.is_legal_in.Tie as tie
 

@@ -1,12 +1,8 @@
 -- `is_zero_from` meets its promise. Assumes nothing.
-use borrow.Author.Needs.{needs}
-use Prim.Native.Nat.{_≤_, _-_}
-use mathlib.Core.Path.{_≡_}
-use mathlib.Core.Bool.{true}
-use lib.ListN.{length}
+use Rattle.basis.specs.Prelude.{needs, _≤_, _-_, _≡_, true, length}
 use Rattle.basis.specs.Words.{allOf}
 use Rattle.machine.specs.Lists.{zeroAt}
-use Rattle.machine.proofs.Zeros.{zero-none, zero-fails, zero-fails-here, zero-fails-next, zero-two, zero-last, zero-done}
+use Rattle.machine.proofs.Inside.Zeros.{zero-none, zero-fails, zero-fails-here, zero-fails-next, zero-two, zero-last, zero-done}
 use Rattle.machine.proofs.places.is_zero_from.Statement.{statement}
 use Rattle.machine.proofs.places.is_zero_from.Tie as tie
 

@@ -1,6 +1,6 @@
 -- `put_record` meets its promise. Assumes nothing.
-use borrow.Author.Needs.{needs}
-use Rattle.machine.proofs.RecordLists.{inside-next, record-put}
+use Rattle.basis.specs.Prelude.{needs}
+use Rattle.machine.proofs.Inside.RecordLists.{inside-next, record-put}
 use Rattle.machine.proofs.places.put_record.Statement.{statement}
 use Rattle.machine.proofs.places.put_record.Tie as tie
 

@@ -1,6 +1,6 @@
 -- `record_in` meets its promise. Assumes nothing.
-use borrow.Author.Needs.{needs}
-use Rattle.machine.proofs.RecordLists.{record-read}
+use Rattle.basis.specs.Prelude.{needs}
+use Rattle.machine.proofs.Inside.RecordLists.{record-read}
 use Rattle.machine.proofs.places.record_in.Statement.{statement}
 use Rattle.machine.proofs.places.record_in.Tie as tie
 

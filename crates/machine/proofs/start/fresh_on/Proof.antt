@@ -1,7 +1,7 @@
 -- `fresh_on` meets its promise. Assumes nothing.
-use borrow.Author.Needs.{needs}
-use Rattle.machine.proofs.ChecksInPlace.{so-legal}
-use Rattle.machine.proofs.FreshLists.{fresh-scaled, cleared-long, fresh-on-10, fresh-on-15, fresh-on-written}
+use Rattle.basis.specs.Prelude.{needs}
+use Rattle.machine.proofs.Inside.ChecksInPlace.{so-legal}
+use Rattle.machine.proofs.Inside.FreshLists.{fresh-scaled, cleared-long, fresh-on-10, fresh-on-15, fresh-on-written}
 use Rattle.machine.proofs.start.fresh_on.Statement.{statement}
 use Rattle.machine.proofs.start.fresh_on.Tie as tie
 

@@ -1,17 +1,14 @@
 -- `put_fresh` meets its promise: the rows so far are fresh. Assumes nothing.
-use borrow.Author.Needs.{needs}
-use Prim.Native.Nat.{_≤_, _-_}
-use mathlib.Core.Path.{_≡_}
-use lib.ListN.{length}
+use Rattle.basis.specs.Prelude.{needs, _≤_, _-_, _≡_, length}
 use Rattle.basis.specs.Limits.{mostRows}
 use Rattle.sheet.specs.Lists.{sheetIn, sheetLong}
 use Rattle.sheet.proofs.Ranges.{legal-sheet-long}
 use Rattle.machine.specs.States.{freshAt}
 use Rattle.machine.specs.Lists.{stateLong, putTo}
-use Rattle.machine.proofs.LegalChecks.{legal-in-fits}
-use Rattle.machine.proofs.RecordLists.{put-none}
+use Rattle.machine.proofs.Inside.LegalChecks.{legal-in-fits}
+use Rattle.machine.proofs.Inside.RecordLists.{put-none}
 use Rattle.machine.proofs.SlotsInPlace.{moves-done}
-use Rattle.machine.proofs.FreshLists.{fresh-more}
+use Rattle.machine.proofs.Inside.FreshLists.{fresh-more}
 use Rattle.machine.proofs.start.put_fresh.Statement.{statement}
 use Rattle.machine.proofs.start.put_fresh.Tie as tie
 

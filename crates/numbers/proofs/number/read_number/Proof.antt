@@ -1,12 +1,8 @@
-use borrow.Author.Needs.{needs}
-use native.Mathlib.Omega.{arith}
-use Prim.Native.Nat.{ℕ, _+_, _-_, _*_, _^_, _≤_, _<_}
-use lib.ListN.{getD}
+use Rattle.basis.specs.Prelude.{needs, arith, ℕ, _+_, _-_, _*_, _^_, _≤_, _<_, getD, _≡_, refl, sym, ap, _∙_}
 use denote.Ref.{now}
-use mathlib.Core.Path.{_≡_, refl, sym, ap, _∙_}
 use Rattle.basis.specs.Limits.{mostGroups}
 use Rattle.numbers.specs.Numbers.{groups, number}
-use Rattle.numbers.proofs.Groups.{ends, over, low, last, again, scaled, scaled-none, room-more, room-one, digit-room}
+use Rattle.numbers.proofs.Inside.Groups.{ends, over, low, last, again, scaled, scaled-none, room-more, room-one, digit-room}
 use Rattle.numbers.proofs.number.read_number.Statement.{statement}
 use Rattle.numbers.proofs.number.read_number.Tie as tie
 

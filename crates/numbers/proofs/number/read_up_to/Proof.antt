@@ -1,6 +1,4 @@
-use borrow.Author.Needs.{needs}
-use mathlib.Core.Path.{sym, ap, _∙_}
-use borrow.Author.Tests.{eq-eqb, ne-eqb, le-leb, lt-leb}
+use Rattle.basis.specs.Prelude.{needs, sym, ap, _∙_, eq-eqb, ne-eqb, le-leb, lt-leb}
 use Rattle.numbers.specs.Numbers.{step, upToBy}
 use Rattle.numbers.proofs.number.read_up_to.Statement.{statement}
 use Rattle.numbers.proofs.number.read_up_to.Tie as tie

@@ -1,6 +1,5 @@
 -- `put_digits` meets its promise, by recursion on the number: one digit, or those before the last and the last. Assumes nothing.
-use Prim.Native.Nat.{ℕ, _<_}
-use borrow.Author.Needs.{needs}
+use Rattle.basis.specs.Prelude.{ℕ, _<_, needs}
 use borrow.Fn.Kinds.{In}
 use borrow.Fn.PlainCycle.{Measures, is, falls, and}
 use Rattle.page.proofs.Digits.{digit-said, digits-said}

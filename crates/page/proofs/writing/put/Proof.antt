@@ -1,6 +1,6 @@
 -- `put` meets its promise: there is room, or there is none. Assumes nothing.
-use borrow.Author.Needs.{needs}
-use Rattle.page.proofs.Pages.{room, full}
+use Rattle.basis.specs.Prelude.{needs}
+use Rattle.page.proofs.Inside.Pages.{room, full}
 use Rattle.page.proofs.writing.put.Statement.{statement}
 use Rattle.page.proofs.writing.put.Tie as tie
 

@@ -1,10 +1,7 @@
 -- `put_all` meets its promise. The invariant: what is said so far is the bytes passed. Assumes nothing.
-use borrow.Author.Needs.{needs}
-use Prim.Native.Nat.{_+_, _-_, _≤_}
-use mathlib.Core.Path.{_≡_}
-use lib.ListN.{length, take}
+use Rattle.basis.specs.Prelude.{needs, _+_, _-_, _≤_, _≡_, length, take}
 use Rattle.page.specs.Pages.{said}
-use Rattle.page.proofs.Pages.{none-said, byte-inside, byte-put, all-said}
+use Rattle.page.proofs.Inside.Pages.{none-said, byte-inside, byte-put, all-said}
 use Rattle.page.proofs.writing.put_all.Statement.{statement}
 use Rattle.page.proofs.writing.put_all.Tie as tie
 

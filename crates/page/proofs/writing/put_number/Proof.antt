@@ -1,5 +1,5 @@
 -- `put_number` meets its promise. Assumes nothing.
-use borrow.Author.Needs.{needs}
+use Rattle.basis.specs.Prelude.{needs}
 use Rattle.page.proofs.Digits.{digit-said}
 use Rattle.page.proofs.writing.put_number.Statement.{statement}
 use Rattle.page.proofs.writing.put_number.Tie as tie

@@ -1,6 +1,6 @@
 -- `read_head` meets its promise: each way out is a law of `head`. Assumes nothing.
-use borrow.Author.Needs.{needs}
-use Rattle.reader.proofs.Heads.{head-unmarked, head-no-processors, head-no-count, head-whole}
+use Rattle.basis.specs.Prelude.{needs}
+use Rattle.reader.proofs.Inside.Heads.{head-unmarked, head-no-processors, head-no-count, head-whole}
 use Rattle.reader.proofs.head.read_head.Statement.{statement}
 use Rattle.reader.proofs.head.read_head.Tie as tie
 

@@ -1,9 +1,7 @@
 -- `copy` meets its promise: the first i numbers are copied. Assumes nothing.
-use borrow.Author.Needs.{needs}
-use Prim.Native.Nat.{_-_, _≤_}
-use mathlib.Core.Path.{_≡_}
+use Rattle.basis.specs.Prelude.{needs, _-_, _≤_, _≡_}
 use Rattle.basis.specs.Upto.{upto}
-use Rattle.basis.proofs.Upto.{upto-none, upto-set, upto-long, upto-room, upto-whole}
+use Rattle.basis.proofs.Inside.Upto.{upto-none, upto-set, upto-long, upto-room, upto-whole}
 use Rattle.sheet.specs.Lists.{numberAt}
 use Rattle.reader.proofs.into.copy.Statement.{statement}
 use Rattle.reader.proofs.into.copy.Tie as tie

@@ -1,6 +1,6 @@
 -- `hand_over` meets its promise: each way out is a law. Assumes nothing.
-use borrow.Author.Needs.{needs}
-use Rattle.reader.proofs.Handover.{no-room, no-room-for-labels, both-handed-over}
+use Rattle.basis.specs.Prelude.{needs}
+use Rattle.reader.proofs.Inside.Handover.{no-room, no-room-for-labels, both-handed-over}
 use Rattle.reader.proofs.into.hand_over.Statement.{statement}
 use Rattle.reader.proofs.into.hand_over.Tie as tie
 

@@ -1,6 +1,6 @@
 -- `read_body` meets its promise: the rows, nothing after them, and both lists handed over. Assumes nothing.
-use borrow.Author.Needs.{needs}
-use Rattle.reader.proofs.Handover.{few-rows, own-room, parts-room, own-inside, parts-inside, rows-refused, bytes-over, whole-read}
+use Rattle.basis.specs.Prelude.{needs}
+use Rattle.reader.proofs.Inside.Handover.{few-rows, own-room, parts-room, own-inside, parts-inside, rows-refused, bytes-over, whole-read}
 use Rattle.reader.proofs.into.read_body.Statement.{statement}
 use Rattle.reader.proofs.into.read_body.Tie as tie
 

@@ -1,6 +1,6 @@
 -- `read_into` meets its promise: what stands before the rows, then the rows. Assumes nothing.
-use borrow.Author.Needs.{needs}
-use Rattle.reader.proofs.Handover.{head-refused, head-told}
+use Rattle.basis.specs.Prelude.{needs}
+use Rattle.reader.proofs.Inside.Handover.{head-refused, head-told}
 use Rattle.reader.proofs.into.read_into.Statement.{statement}
 use Rattle.reader.proofs.into.read_into.Tie as tie
 

@@ -1,6 +1,6 @@
 -- `label` meets its promise: it shows the part. Assumes nothing.
-use borrow.Author.Needs.{needs}
-use Rattle.reader.proofs.LentParts.{part-fits, part-ends, part-shown}
+use Rattle.basis.specs.Prelude.{needs}
+use Rattle.reader.proofs.Inside.LentParts.{part-fits, part-ends, part-shown}
 use Rattle.reader.proofs.labels.label.Statement.{statement}
 use Rattle.reader.proofs.labels.label.Tie as tie
 

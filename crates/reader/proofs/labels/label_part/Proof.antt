@@ -1,6 +1,6 @@
 -- `label_part` meets its promise: the part in its own list, and none past the rows. Assumes nothing.
-use borrow.Author.Needs.{needs}
-use Rattle.reader.proofs.ZeroLists.{part-was-read, no-part}
+use Rattle.basis.specs.Prelude.{needs}
+use Rattle.reader.proofs.Inside.ZeroLists.{part-was-read, no-part}
 use Rattle.reader.proofs.labels.label_part.Statement.{statement}
 use Rattle.reader.proofs.labels.label_part.Tie as tie
 

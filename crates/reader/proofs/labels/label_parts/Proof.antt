@@ -1,13 +1,11 @@
 -- `label_parts` meets its promise: each part of its own list. Assumes nothing.
-use borrow.Author.Needs.{needs}
-use Prim.Native.Nat.{_-_, _≤_, _<_, ℕ}
-use mathlib.Core.Path.{_≡_}
+use Rattle.basis.specs.Prelude.{needs, _-_, _≤_, _<_, ℕ, _≡_}
 use Rattle.basis.specs.Limits.{mostRows}
 use Rattle.basis.specs.Upto.{upto}
-use Rattle.basis.proofs.Upto.{upto-none}
+use Rattle.basis.proofs.Inside.Upto.{upto-none}
 use Rattle.reader.specs.Answers.{labelIn, noParts}
-use Rattle.reader.specs.Steps.{partIn}
-use Rattle.reader.proofs.ZeroLists.{parts-were-read, one-part-more, all-parts}
+use Rattle.reader.specs.Inside.Steps.{partIn}
+use Rattle.reader.proofs.Inside.ZeroLists.{parts-were-read, one-part-more, all-parts}
 use Rattle.reader.proofs.labels.label_parts.Statement.{statement}
 use Rattle.reader.proofs.labels.label_parts.Tie as tie
 

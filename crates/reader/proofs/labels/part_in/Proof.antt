@@ -1,6 +1,6 @@
 -- `part_in` meets its promise. Assumes nothing.
-use borrow.Author.Needs.{needs}
-use Rattle.reader.proofs.PartLists.{part-read}
+use Rattle.basis.specs.Prelude.{needs}
+use Rattle.reader.proofs.Inside.PartLists.{part-read}
 use Rattle.reader.proofs.labels.part_in.Statement.{statement}
 use Rattle.reader.proofs.labels.part_in.Tie as tie
 

@@ -1,6 +1,6 @@
 -- `read_entry` meets its promise: a label, then the numbers. Assumes nothing.
-use borrow.Author.Needs.{needs}
-use Rattle.reader.proofs.Entries.{no-label, no-numbers, whole-entry, entry-part}
+use Rattle.basis.specs.Prelude.{needs}
+use Rattle.reader.proofs.Inside.Entries.{no-label, no-numbers, whole-entry, entry-part}
 use Rattle.reader.proofs.row.read_entry.Statement.{statement}
 use Rattle.reader.proofs.row.read_entry.Tie as tie
 

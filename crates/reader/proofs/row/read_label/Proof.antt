@@ -1,6 +1,6 @@
 -- `read_label` meets its promise: each way out is a law of `label`. Assumes nothing.
-use borrow.Author.Needs.{needs}
-use Rattle.reader.proofs.LabelReader.{label-no-length, label-ends, label-lies-at, label-too-long, label-bad-byte, label-whole}
+use Rattle.basis.specs.Prelude.{needs}
+use Rattle.reader.proofs.Inside.LabelReader.{label-no-length, label-ends, label-lies-at, label-too-long, label-bad-byte, label-whole}
 use Rattle.reader.proofs.row.read_label.Statement.{statement}
 use Rattle.reader.proofs.row.read_label.Tie as tie
 

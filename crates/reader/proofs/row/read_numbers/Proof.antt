@@ -1,6 +1,6 @@
 -- `read_numbers` meets its promise: each way out is a law. Assumes nothing.
-use borrow.Author.Needs.{needs}
-use Rattle.reader.proofs.Entries.{no-threads, no-separation, no-deadline, no-budget, whole-row}
+use Rattle.basis.specs.Prelude.{needs}
+use Rattle.reader.proofs.Inside.Entries.{no-threads, no-separation, no-deadline, no-budget, whole-row}
 use Rattle.reader.proofs.row.read_numbers.Statement.{statement}
 use Rattle.reader.proofs.row.read_numbers.Tie as tie
 

@@ -1,11 +1,9 @@
 -- `read_plain` meets its promise: what is left of the label decides. Assumes nothing.
-use borrow.Author.Needs.{needs}
-use Prim.Native.Nat.{_-_, _≤_}
-use mathlib.Core.Path.{_≡_, refl}
+use Rattle.basis.specs.Prelude.{needs, _-_, _≤_, _≡_, refl}
 use Rattle.basis.specs.Readers.{mapStep}
 use Rattle.reader.specs.Form.{plain}
-use Rattle.reader.specs.Steps.{nothing}
-use Rattle.reader.proofs.Plain.{plain-low, plain-high, plain-more, plain-all}
+use Rattle.reader.specs.Inside.Steps.{nothing}
+use Rattle.reader.proofs.Inside.Plain.{plain-low, plain-high, plain-more, plain-all}
 use Rattle.reader.proofs.row.read_plain.Statement.{statement}
 use Rattle.reader.proofs.row.read_plain.Tie as tie
 

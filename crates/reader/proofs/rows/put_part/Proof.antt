@@ -1,6 +1,6 @@
 -- `put_part` meets its promise. Assumes nothing.
-use borrow.Author.Needs.{needs}
-use Rattle.reader.proofs.RowLoop.{part-set, length-inside}
+use Rattle.basis.specs.Prelude.{needs}
+use Rattle.reader.proofs.Inside.RowLoop.{part-set, length-inside}
 use Rattle.reader.proofs.rows.put_part.Statement.{statement}
 use Rattle.reader.proofs.rows.put_part.Tie as tie
 

@@ -1,6 +1,6 @@
 -- `put_row` meets its promise. Assumes nothing.
-use borrow.Author.Needs.{needs}
-use Rattle.reader.proofs.RowLoop.{row-set, second-inside, third-inside, fourth-inside}
+use Rattle.basis.specs.Prelude.{needs}
+use Rattle.reader.proofs.Inside.RowLoop.{row-set, second-inside, third-inside, fourth-inside}
 use Rattle.reader.proofs.rows.put_row.Statement.{statement}
 use Rattle.reader.proofs.rows.put_row.Tie as tie
 

@@ -1,11 +1,9 @@
 -- `take_rows` meets its promise. The invariant: the rows passed are accepted, and stand in the lists with their labels. Assumes nothing.
-use borrow.Author.Needs.{needs}
-use Prim.Native.Nat.{_-_, _≤_}
-use mathlib.Core.Path.{_≡_}
+use Rattle.basis.specs.Prelude.{needs, _-_, _≤_, _≡_}
 use Rattle.basis.specs.Readers.{ok, mapStep}
 use Rattle.reader.specs.Form.{entries}
-use Rattle.reader.specs.Steps.{nothing, rowsIn, partsIn}
-use Rattle.reader.proofs.RowLoop.{none-passed, head-put, no-part-put, row-refused, one-passed, row-put, part-put, all-passed, rows-put, parts-put, rows-long, parts-long, row-room, part-room, count-inside}
+use Rattle.reader.specs.Inside.Steps.{nothing, rowsIn, partsIn}
+use Rattle.reader.proofs.Inside.RowLoop.{none-passed, head-put, no-part-put, row-refused, one-passed, row-put, part-put, all-passed, rows-put, parts-put, rows-long, parts-long, row-room, part-room, count-inside}
 use Rattle.reader.proofs.rows.take_rows.Statement.{statement}
 use Rattle.reader.proofs.rows.take_rows.Tie as tie
 

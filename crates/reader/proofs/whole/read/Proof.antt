@@ -1,6 +1,6 @@
 -- `read` meets its promise: the sheet of its own list. Assumes nothing.
-use borrow.Author.Needs.{needs}
-use Rattle.reader.proofs.ZeroLists.{sheet-was-read}
+use Rattle.basis.specs.Prelude.{needs}
+use Rattle.reader.proofs.Inside.ZeroLists.{sheet-was-read}
 use Rattle.reader.proofs.whole.read.Statement.{statement}
 use Rattle.reader.proofs.whole.read.Tie as tie
 

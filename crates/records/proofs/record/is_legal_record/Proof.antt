@@ -1,5 +1,5 @@
 -- `is_legal_record` meets its promise. Assumes nothing.
-use Rattle.basis.proofs.Tests.{tests}
+use Rattle.basis.proofs.Inside.Tests.{tests}
 use Rattle.records.specs.Records.{legalRecord}
 use Rattle.records.proofs.record.is_legal_record.Statement.{statement}
 use Rattle.records.proofs.record.is_legal_record.Tie as tie

@@ -1,5 +1,5 @@
 -- `check_row` meets its promise. Assumes nothing.
-use Rattle.basis.proofs.Tests.{tests}
+use Rattle.basis.proofs.Inside.Tests.{tests}
 use Rattle.records.specs.Checks.{checkRow}
 use Rattle.records.proofs.release.check_row.Statement.{statement}
 use Rattle.records.proofs.release.check_row.Tie as tie

@@ -1,5 +1,5 @@
 -- `judge` meets its promise. Assumes nothing.
-use Rattle.basis.proofs.Tests.{tests}
+use Rattle.basis.proofs.Inside.Tests.{tests}
 use Rattle.records.proofs.steps.judge.Statement.{statement}
 use Rattle.records.proofs.steps.judge.Tie as tie
 

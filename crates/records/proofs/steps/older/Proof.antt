@@ -1,6 +1,6 @@
 -- `older` meets its promise. Assumes nothing.
-use borrow.Author.Needs.{needs}
-use Rattle.basis.proofs.Tests.{tests}
+use Rattle.basis.specs.Prelude.{needs}
+use Rattle.basis.proofs.Inside.Tests.{tests}
 use Rattle.records.specs.Steps.{older}
 use Rattle.records.proofs.steps.older.Statement.{statement}
 use Rattle.records.proofs.steps.older.Tie as tie

@@ -1,6 +1,6 @@
 -- `count` is that of the sheet. Assumes nothing.
-use borrow.Author.Needs.{needs}
-use Rattle.sheet.proofs.Places.{count-handed}
+use Rattle.basis.specs.Prelude.{needs}
+use Rattle.sheet.proofs.Inside.Places.{count-handed}
 use Rattle.sheet.proofs.inside.count.Statement.{statement}
 use Rattle.sheet.proofs.inside.count.Tie as tie
 

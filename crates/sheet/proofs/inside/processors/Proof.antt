@@ -1,6 +1,6 @@
 -- `processors` are those of the sheet. Assumes nothing.
-use borrow.Author.Needs.{needs}
-use Rattle.sheet.proofs.Places.{processors-handed}
+use Rattle.basis.specs.Prelude.{needs}
+use Rattle.sheet.proofs.Inside.Places.{processors-handed}
 use Rattle.sheet.proofs.inside.processors.Statement.{statement}
 use Rattle.sheet.proofs.inside.processors.Tie as tie
 

@@ -1,5 +1,5 @@
 -- `is_legal` meets its promise: its head, its length and its rows decide. Assumes nothing.
-use borrow.Author.Needs.{needs}
+use Rattle.basis.specs.Prelude.{needs}
 use Rattle.sheet.proofs.Ranges.{rows-scaled, sheet-scaled, head-fits, ends-before-rows, rows-decide, head-fails}
 use Rattle.sheet.proofs.legal.is_legal.Statement.{statement}
 use Rattle.sheet.proofs.legal.is_legal.Tie as tie

@@ -1,4 +1,4 @@
-use Rattle.basis.proofs.Tests.{tests}
+use Rattle.basis.proofs.Inside.Tests.{tests}
 use Rattle.sheet.proofs.legal.is_legal_head.Statement.{statement}
 use Rattle.sheet.proofs.legal.is_legal_head.Tie as tie
 

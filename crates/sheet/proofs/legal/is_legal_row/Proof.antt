@@ -1,5 +1,5 @@
 use Rattle.sheet.specs.Legal.{legalRow}
-use Rattle.basis.proofs.Tests.{tests}
+use Rattle.basis.proofs.Inside.Tests.{tests}
 use Rattle.sheet.proofs.legal.is_legal_row.Statement.{statement}
 use Rattle.sheet.proofs.legal.is_legal_row.Tie as tie
 

@@ -1,8 +1,4 @@
-use borrow.Author.Needs.{needs}
-use Prim.Native.Nat.{_≤_, _-_}
-use mathlib.Core.Path.{_≡_, refl}
-use mathlib.Core.Bool.{true}
-use lib.ListN.{length}
+use Rattle.basis.specs.Prelude.{needs, _≤_, _-_, _≡_, refl, true, length}
 use Rattle.basis.specs.Limits.{mostRows}
 use Rattle.basis.specs.Words.{allOf}
 use Rattle.sheet.specs.Lists.{sheetIn, sheetLong, legalRows}

@@ -1,6 +1,6 @@
 -- `number_at` meets its promise. Assumes nothing.
-use borrow.Author.Needs.{needs}
-use Rattle.sheet.proofs.ListRows.{number-past}
+use Rattle.basis.specs.Prelude.{needs}
+use Rattle.sheet.proofs.Inside.ListRows.{number-past}
 use Rattle.sheet.proofs.reading.number_at.Statement.{statement}
 use Rattle.sheet.proofs.reading.number_at.Tie as tie
 

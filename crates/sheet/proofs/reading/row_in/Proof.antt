@@ -1,6 +1,6 @@
 -- `row_in` meets its promise. Assumes nothing.
-use borrow.Author.Needs.{needs}
-use Rattle.sheet.proofs.ListRows.{row-read}
+use Rattle.basis.specs.Prelude.{needs}
+use Rattle.sheet.proofs.Inside.ListRows.{row-read}
 use Rattle.sheet.proofs.reading.row_in.Statement.{statement}
 use Rattle.sheet.proofs.reading.row_in.Tie as tie
 

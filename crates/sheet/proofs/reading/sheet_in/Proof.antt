@@ -1,12 +1,10 @@
 -- `sheet_in` meets its promise: the rows so far are those of the list. Assumes nothing.
-use borrow.Author.Needs.{needs}
-use Prim.Native.Nat.{_≤_, _-_}
-use mathlib.Core.Path.{_≡_, refl}
+use Rattle.basis.specs.Prelude.{needs, _≤_, _-_, _≡_, refl}
 use Rattle.basis.specs.Limits.{mostRows}
 use Rattle.basis.specs.Upto.{upto}
 use Rattle.sheet.specs.Values.{noRows}
 use Rattle.sheet.specs.Lists.{rowIn}
-use Rattle.sheet.proofs.ListRows.{rows-more, sheet-read}
+use Rattle.sheet.proofs.Inside.ListRows.{rows-more, sheet-read}
 use Rattle.sheet.proofs.reading.sheet_in.Statement.{statement}
 use Rattle.sheet.proofs.reading.sheet_in.Tie as tie
 

@@ -1,6 +1,6 @@
 -- `cell_by` meets its promise. Assumes nothing.
-use borrow.Author.Needs.{needs}
-use Rattle.basis.proofs.Tests.{tests}
+use Rattle.basis.specs.Prelude.{needs}
+use Rattle.basis.proofs.Inside.Tests.{tests}
 use Rattle.sheet.specs.Lists.{cellBy}
 use Rattle.sheet.proofs.writing.cell_by.Statement.{statement}
 use Rattle.sheet.proofs.writing.cell_by.Tie as tie

@@ -1,11 +1,8 @@
 -- `clear_from` meets its promise: from the place on, those so far are zero. Assumes nothing.
-use borrow.Author.Needs.{needs}
-use Prim.Native.Nat.{_≤_, _-_}
-use mathlib.Core.Path.{_≡_}
-use lib.ListN.{length}
+use Rattle.basis.specs.Prelude.{needs, _≤_, _-_, _≡_, length}
 use Rattle.basis.specs.Upto.{upto}
 use Rattle.sheet.specs.Lists.{clearedCell}
-use Rattle.sheet.proofs.ClearedLists.{clear-none, clear-more, clear-done}
+use Rattle.sheet.proofs.Inside.ClearedLists.{clear-none, clear-more, clear-done}
 use Rattle.sheet.proofs.writing.clear_from.Statement.{statement}
 use Rattle.sheet.proofs.writing.clear_from.Tie as tie
 

@@ -1,13 +1,10 @@
 -- `put_sheet` meets its promise: the places so far are filled. Assumes nothing.
-use borrow.Author.Needs.{needs}
-use Prim.Native.Nat.{_≤_, _-_}
-use mathlib.Core.Path.{_≡_}
-use lib.ListN.{length}
+use Rattle.basis.specs.Prelude.{needs, _≤_, _-_, _≡_, length}
 use Rattle.basis.specs.Upto.{upto}
-use Rattle.basis.proofs.Upto.{upto-none}
+use Rattle.basis.proofs.Inside.Upto.{upto-none}
 use Rattle.sheet.specs.Lists.{sheetCell}
-use Rattle.sheet.proofs.FilledLists.{fill-done}
-use Rattle.sheet.proofs.Cells.{unmapped, row-there, cell-stored}
+use Rattle.sheet.proofs.Inside.FilledLists.{fill-done}
+use Rattle.sheet.proofs.Inside.Cells.{unmapped, row-there, cell-stored}
 use Rattle.sheet.proofs.writing.put_sheet.Statement.{statement}
 use Rattle.sheet.proofs.writing.put_sheet.Tie as tie
 

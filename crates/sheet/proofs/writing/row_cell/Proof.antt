@@ -1,5 +1,5 @@
 -- `row_cell` meets its promise. Assumes nothing.
-use Rattle.basis.proofs.Tests.{tests}
+use Rattle.basis.proofs.Inside.Tests.{tests}
 use Rattle.sheet.specs.Lists.{rowCell}
 use Rattle.sheet.proofs.writing.row_cell.Statement.{statement}
 use Rattle.sheet.proofs.writing.row_cell.Tie as tie

@@ -1,5 +1,5 @@
 -- `row_of` meets its promise. Assumes nothing.
-use Rattle.basis.proofs.Tests.{tests}
+use Rattle.basis.proofs.Inside.Tests.{tests}
 use Rattle.sheet.specs.Lists.{rowOf}
 use Rattle.sheet.proofs.writing.row_of.Statement.{statement}
 use Rattle.sheet.proofs.writing.row_of.Tie as tie

@@ -1,7 +1,7 @@
 -- `listed` meets its promise: the sheet comes back. Assumes nothing.
-use borrow.Author.Needs.{needs}
-use Rattle.sheet.proofs.Cells.{unmapped}
-use Rattle.states.proofs.ValueLists.{sheet-in-list}
+use Rattle.basis.specs.Prelude.{needs}
+use Rattle.sheet.proofs.Inside.Cells.{unmapped}
+use Rattle.states.proofs.Inside.ValueLists.{sheet-in-list}
 use Rattle.states.proofs.lists.listed.Statement.{statement}
 use Rattle.states.proofs.lists.listed.Tie as tie
 

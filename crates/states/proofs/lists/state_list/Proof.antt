@@ -1,15 +1,12 @@
 -- `state_list` meets its promise. Assumes nothing.
-use borrow.Author.Needs.{needs}
-use Prim.Native.Nat.{_≤_, _-_}
-use mathlib.Core.Path.{_≡_, refl}
-use lib.ListN.{length, replicate}
+use Rattle.basis.specs.Prelude.{needs, _≤_, _-_, _≡_, refl, length, replicate}
 use Rattle.basis.specs.Limits.{mostRows}
-use Rattle.sheet.proofs.Cells.{unmapped}
+use Rattle.sheet.proofs.Inside.Cells.{unmapped}
 use Rattle.machine.specs.States.{recordAt}
 use Rattle.machine.specs.Lists.{stateLong, putTo}
-use Rattle.machine.proofs.RecordLists.{put-none}
+use Rattle.machine.proofs.Inside.RecordLists.{put-none}
 use Rattle.states.specs.Values.{held}
-use Rattle.states.proofs.ValueLists.{list-more, both-stored, state-in-list}
+use Rattle.states.proofs.Inside.ValueLists.{list-more, both-stored, state-in-list}
 use Rattle.states.proofs.lists.state_list.Statement.{statement}
 use Rattle.states.proofs.lists.state_list.Tie as tie
 

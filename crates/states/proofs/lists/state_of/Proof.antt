@@ -1,12 +1,9 @@
 -- `state_of` meets its promise. Assumes nothing.
-use borrow.Author.Needs.{needs}
-use Prim.Native.Nat.{_≤_, _-_}
-use mathlib.Core.Path.{_≡_, refl}
-use lib.ListN.{length}
+use Rattle.basis.specs.Prelude.{needs, _≤_, _-_, _≡_, refl, length}
 use Rattle.basis.specs.Limits.{mostRows}
 use Rattle.basis.specs.Upto.{upto}
 use Rattle.machine.specs.Lists.{stateLong, recordIn}
-use Rattle.states.proofs.ValueLists.{records-more, records-done}
+use Rattle.states.proofs.Inside.ValueLists.{records-more, records-done}
 use Rattle.states.proofs.lists.state_of.Statement.{statement}
 use Rattle.states.proofs.lists.state_of.Tie as tie
 

@@ -1,6 +1,6 @@
 -- `fresh` meets its promise: the fresh state in a list of zeros is the fresh state. Assumes nothing.
-use borrow.Author.Needs.{needs}
-use Rattle.states.proofs.ValueLists.{fresh-by-list}
+use Rattle.basis.specs.Prelude.{needs}
+use Rattle.states.proofs.Inside.ValueLists.{fresh-by-list}
 use Rattle.states.proofs.start.fresh.Statement.{statement}
 use Rattle.states.proofs.start.fresh.Tie as tie
 

@@ -1,6 +1,6 @@
 -- `fixed_sheet` meets its promise: each way out is a sheet of the list. Assumes nothing.
-use borrow.Author.Needs.{needs}
-use Rattle.tables.proofs.SheetNumbers.{fixed-a, fixed-b, fixed-c, fixed-d, fixed-e, fixed-f, fixed-none}
+use Rattle.basis.specs.Prelude.{needs}
+use Rattle.tables.proofs.Inside.SheetNumbers.{fixed-a, fixed-b, fixed-c, fixed-d, fixed-e, fixed-f, fixed-none}
 use Rattle.tables.proofs.fixed.fixed_sheet.Statement.{statement}
 use Rattle.tables.proofs.fixed.fixed_sheet.Tie as tie
 

@@ -1,8 +1,5 @@
 -- `read_input` meets its promise. The invariant: the bytes read so far are in the buffer. Assumes nothing.
-use Prim.Native.Nat.{_≤_, _-_}
-use mathlib.Core.Path.{_≡_}
-use borrow.Author.Needs.{needs}
-use lib.ListN.{length}
+use Rattle.basis.specs.Prelude.{_≤_, _-_, _≡_, needs, length}
 use Rattle.verdict.proofs.input.read_input.Statement.{statement}
 use Rattle.verdict.proofs.input.read_input.Tie as tie
 

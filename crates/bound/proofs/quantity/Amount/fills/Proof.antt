@@ -1,5 +1,5 @@
 -- `fills` meets its promise, by multiplication. Assumes nothing.
-use borrow.Author.Needs.{needs}
+use Rattle.basis.specs.Prelude.{needs}
 use Rattle.bound.proofs.Durations.{fills-within, fills-most}
 use Rattle.bound.proofs.quantity.Amount.fills.Statement.{statement}
 use Rattle.bound.proofs.quantity.Amount.fills.Tie as tie

@@ -1,5 +1,5 @@
 -- `left` is what is left of a duration after whole periods: 32 bits hold both. Assumes nothing.
-use borrow.Author.Needs.{needs}
+use Rattle.basis.specs.Prelude.{needs}
 use Rattle.bound.proofs.Durations.{rest-fits}
 use Rattle.bound.proofs.quantity.Duration.left.Statement.{statement}
 use Rattle.bound.proofs.quantity.Duration.left.Tie as tie

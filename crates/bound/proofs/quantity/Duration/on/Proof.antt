@@ -1,5 +1,5 @@
 -- `on` meets its promise: the amount fits. Assumes nothing.
-use borrow.Author.Needs.{needs}
+use Rattle.basis.specs.Prelude.{needs}
 use Rattle.bound.proofs.Durations.{amount-fits}
 use Rattle.bound.proofs.quantity.Duration.on.Statement.{statement}
 use Rattle.bound.proofs.quantity.Duration.on.Tie as tie

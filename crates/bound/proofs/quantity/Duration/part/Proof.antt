@@ -1,5 +1,5 @@
 -- `part` meets its promise: what is in 256ths fits. Assumes nothing.
-use borrow.Author.Needs.{needs}
+use Rattle.basis.specs.Prelude.{needs}
 use Rattle.bound.proofs.Durations.{weighed-fits, part-fits}
 use Rattle.bound.proofs.quantity.Duration.part.Statement.{statement}
 use Rattle.bound.proofs.quantity.Duration.part.Tie as tie

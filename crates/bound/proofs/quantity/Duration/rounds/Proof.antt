@@ -1,5 +1,5 @@
 -- `rounds` is how many times a period goes into a duration: 32 bits hold both. Assumes nothing.
-use borrow.Author.Needs.{needs}
+use Rattle.basis.specs.Prelude.{needs}
 use Rattle.bound.proofs.Durations.{rounds-fit}
 use Rattle.bound.proofs.quantity.Duration.rounds.Statement.{statement}
 use Rattle.bound.proofs.quantity.Duration.rounds.Tie as tie

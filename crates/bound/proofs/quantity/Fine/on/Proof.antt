@@ -1,5 +1,5 @@
 -- `on` meets its promise: the amount fits. Assumes nothing.
-use borrow.Author.Needs.{needs}
+use Rattle.basis.specs.Prelude.{needs}
 use Rattle.bound.proofs.Durations.{fine-amount-fits}
 use Rattle.bound.proofs.quantity.Fine.on.Statement.{statement}
 use Rattle.bound.proofs.quantity.Fine.on.Tie as tie

@@ -1,6 +1,6 @@
 -- `aged` meets its promise. Assumes nothing.
-use borrow.Author.Needs.{needs}
-use Rattle.records.proofs.Records.{age-at, age-else}
+use Rattle.basis.specs.Prelude.{needs}
+use Rattle.records.proofs.Inside.Records.{age-at, age-else}
 use Rattle.records.proofs.record.RowState.aged.Statement.{statement}
 use Rattle.records.proofs.record.RowState.aged.Tie as tie
 

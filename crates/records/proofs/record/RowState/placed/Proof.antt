@@ -1,6 +1,6 @@
 -- `placed` meets its promise. Assumes nothing.
-use borrow.Author.Needs.{needs}
-use Rattle.basis.proofs.Tests.{tests}
+use Rattle.basis.specs.Prelude.{needs}
+use Rattle.basis.proofs.Inside.Tests.{tests}
 use Rattle.records.specs.Steps.{fits, freeBelow, worked}
 use Rattle.records.specs.Methods.{placedRow}
 use Rattle.records.proofs.record.RowState.placed.Statement.{statement}

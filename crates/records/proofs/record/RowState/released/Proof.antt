@@ -1,5 +1,5 @@
 -- `released` meets its promise. Assumes nothing.
-use Rattle.basis.proofs.Tests.{tests}
+use Rattle.basis.proofs.Inside.Tests.{tests}
 use Rattle.records.specs.Steps.{released}
 use Rattle.records.proofs.record.RowState.released.Statement.{statement}
 use Rattle.records.proofs.record.RowState.released.Tie as tie

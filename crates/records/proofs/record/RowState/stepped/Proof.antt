@@ -1,5 +1,5 @@
 -- `stepped` meets its promise. Assumes nothing.
-use borrow.Author.Needs.{needs}
+use Rattle.basis.specs.Prelude.{needs}
 use Rattle.records.proofs.RowSlots.{stepped-is}
 use Rattle.records.proofs.record.RowState.stepped.Statement.{statement}
 use Rattle.records.proofs.record.RowState.stepped.Tie as tie

@@ -1,13 +1,10 @@
 -- `aged` meets its promise: the rows so far are aged. Assumes nothing.
-use borrow.Author.Needs.{needs}
-use Prim.Native.Nat.{_≤_, _-_}
-use mathlib.Core.Path.{_≡_, refl}
-use lib.ListN.{length}
+use Rattle.basis.specs.Prelude.{needs, _≤_, _-_, _≡_, refl, length}
 use Rattle.basis.specs.Limits.{mostRows}
 use Rattle.basis.specs.Upto.{upto}
 use Rattle.states.specs.Values.{held}
-use Rattle.states.specs.Methods.{agedRecord, agedCode}
-use Rattle.states.proofs.StepLoops.{aged-rows, aged-codes, aged-done, aged-codes-done}
+use Rattle.states.specs.Inside.Methods.{agedRecord, agedCode}
+use Rattle.states.proofs.Inside.StepLoops.{aged-rows, aged-codes, aged-done, aged-codes-done}
 use Rattle.states.proofs.state.State.aged.Statement.{statement}
 use Rattle.states.proofs.state.State.aged.Tie as tie
 

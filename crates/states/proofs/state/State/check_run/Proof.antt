@@ -1,6 +1,6 @@
 -- `check_run` meets its promise: its checks are those of the lists. Assumes nothing.
-use borrow.Author.Needs.{needs}
-use Rattle.states.proofs.ValueLists.{run-check-by-list}
+use Rattle.basis.specs.Prelude.{needs}
+use Rattle.states.proofs.Inside.ValueLists.{run-check-by-list}
 use Rattle.states.proofs.state.State.check_run.Statement.{statement}
 use Rattle.states.proofs.state.State.check_run.Tie as tie
 

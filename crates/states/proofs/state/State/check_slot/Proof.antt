@@ -1,6 +1,6 @@
 -- `check_slot` meets its promise: its checks are those of the lists. Assumes nothing.
-use borrow.Author.Needs.{needs}
-use Rattle.states.proofs.ValueLists.{slot-check-by-list}
+use Rattle.basis.specs.Prelude.{needs}
+use Rattle.states.proofs.Inside.ValueLists.{slot-check-by-list}
 use Rattle.states.proofs.state.State.check_slot.Statement.{statement}
 use Rattle.states.proofs.state.State.check_slot.Tie as tie
 

@@ -1,6 +1,6 @@
 -- `margin` meets its promise. Assumes nothing.
-use borrow.Author.Needs.{needs}
-use Rattle.states.proofs.ValueLists.{margin-by-list}
+use Rattle.basis.specs.Prelude.{needs}
+use Rattle.states.proofs.Inside.ValueLists.{margin-by-list}
 use Rattle.states.proofs.state.State.margin.Statement.{statement}
 use Rattle.states.proofs.state.State.margin.Tie as tie
 

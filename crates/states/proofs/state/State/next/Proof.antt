@@ -1,6 +1,6 @@
 -- `next` meets its promise: releases, placement and ageing one after another are the slot. Assumes nothing.
-use borrow.Author.Needs.{needs}
-use Rattle.sheet.proofs.Cells.{unmapped}
+use Rattle.basis.specs.Prelude.{needs}
+use Rattle.sheet.proofs.Inside.Cells.{unmapped}
 use Rattle.states.proofs.StepsTogether.{next-state, next-codes}
 use Rattle.states.proofs.state.State.next.Statement.{statement}
 use Rattle.states.proofs.state.State.next.Tie as tie

@@ -1,16 +1,13 @@
 -- `placed` meets its promise: the rows so far are placed, and what they leave free is free. Assumes nothing.
-use borrow.Author.Needs.{needs}
-use Prim.Native.Nat.{_≤_, _-_}
-use mathlib.Core.Path.{_≡_, refl}
-use lib.ListN.{length}
+use Rattle.basis.specs.Prelude.{needs, _≤_, _-_, _≡_, refl, length}
 use Rattle.basis.specs.Limits.{mostRows}
 use Rattle.basis.specs.Upto.{upto}
 use Rattle.sheet.specs.Legal.{rowAt}
 use Rattle.machine.specs.States.{recordAt}
 use Rattle.machine.specs.Slot.{freeAt}
 use Rattle.states.specs.Values.{held}
-use Rattle.states.specs.Methods.{placedRecord, placedCode}
-use Rattle.states.proofs.StepLoops.{placed-free, placed-rows, placed-codes, placed-done, placed-codes-done}
+use Rattle.states.specs.Inside.Methods.{placedRecord, placedCode}
+use Rattle.states.proofs.Inside.StepLoops.{placed-free, placed-rows, placed-codes, placed-done, placed-codes-done}
 use Rattle.states.proofs.state.State.placed.Statement.{statement}
 use Rattle.states.proofs.state.State.placed.Tie as tie
 

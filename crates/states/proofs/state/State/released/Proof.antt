@@ -1,13 +1,10 @@
 -- `released` meets its promise: the rows so far have their releases. Assumes nothing.
-use borrow.Author.Needs.{needs}
-use Prim.Native.Nat.{_≤_, _-_}
-use mathlib.Core.Path.{_≡_, refl}
-use lib.ListN.{length}
+use Rattle.basis.specs.Prelude.{needs, _≤_, _-_, _≡_, refl, length}
 use Rattle.basis.specs.Limits.{mostRows}
 use Rattle.basis.specs.Upto.{upto}
 use Rattle.states.specs.Values.{held}
-use Rattle.states.specs.Methods.{releasedAt}
-use Rattle.states.proofs.StepLoops.{released-more, released-done}
+use Rattle.states.specs.Inside.Methods.{releasedAt}
+use Rattle.states.proofs.Inside.StepLoops.{released-more, released-done}
 use Rattle.states.proofs.state.State.released.Statement.{statement}
 use Rattle.states.proofs.state.State.released.Tie as tie
 

@@ -1,6 +1,6 @@
 -- `run` meets its promise. Assumes nothing.
-use borrow.Author.Needs.{needs}
-use Rattle.states.proofs.ValueLists.{run-by-list}
+use Rattle.basis.specs.Prelude.{needs}
+use Rattle.states.proofs.Inside.ValueLists.{run-by-list}
 use Rattle.states.proofs.state.State.run.Statement.{statement}
 use Rattle.states.proofs.state.State.run.Tie as tie
 

@@ -1,6 +1,6 @@
 -- `slot` meets its promise. Assumes nothing.
-use borrow.Author.Needs.{needs}
-use Rattle.machine.proofs.Answers.{rows-in-state, rows-in-list, rows-in-buffer, slot-is-refused, slot-is-accepted}
+use Rattle.basis.specs.Prelude.{needs}
+use Rattle.machine.proofs.Inside.Answers.{rows-in-state, rows-in-list, rows-in-buffer, slot-is-refused, slot-is-accepted}
 use Rattle.states.proofs.state.State.slot.Statement.{statement}
 use Rattle.states.proofs.state.State.slot.Tie as tie
 

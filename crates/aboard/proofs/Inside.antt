@@ -1,0 +1,2 @@
+pub mod BoxLoop
+pub mod Lending

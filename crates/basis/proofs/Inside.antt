@@ -1,0 +1,9 @@
+pub mod FirstRefusal
+pub mod Lists
+pub mod Pairs
+pub mod Steps
+pub mod Sums
+pub mod Tests
+pub mod Upto
+pub mod Words
+pub mod Workload

@@ -1,0 +1,3 @@
+pub mod Boards
+pub mod Lists
+pub mod Reports

@@ -1,0 +1,42 @@
+-- What `giachimu_bounds` answers at each way out, where `bounds_on` has judged the sheet in the list.
+-- Assumes nothing.
+use Rattle.basis.specs.Prelude.{ℕ, _≡_, sym, ap, _∙_, Bool, false, List, length}
+use Rattle.basis.specs.Refusals.{Outcome, outcome, orElse, roomFor, handed}
+use Rattle.basis.specs.declared.refusal.Refusal.the-variants.{Accepted, Refused}
+use Rattle.basis.proofs.Refusals.{handed-outcome, handed-found, handed-done}
+use Rattle.sheet.specs.Lists.{filled, sheetIn}
+use Rattle.bound.specs.Bound.{boundsOf}
+use Rattle.bound.specs.Lists.{resultsLong, resultCell, resultsOn, boundsOn}
+use Rattle.bound.specs.declared.results.Judgement.{Judgement}
+use Rattle.exports.specs.Answers.{flag, resultsIn, boundsIn}
+
+-- what `bounds_on` answers
+abbrev Given : Type 0
+Given = Outcome × (Bool × List ℕ)
+
+module _ (sheet list : List ℕ) (r : Judgement) (after : List ℕ) (e : (outcome (r .refusal), (r .holds, after)) ≡ boundsOn sheet list) (found : ℕ) (t : ℕ × ℕ) where
+  -- 10, then the room for the results
+  told-by : Outcome
+  told-by = orElse (boundsOf (sheetIn sheet) .0) (roomFor (resultsLong (sheetIn sheet .count)) (length list))
+
+  done : Bool × List ℕ
+  done = (boundsOf (sheetIn sheet) .1, filled (resultCell (boundsOf (sheetIn sheet) .2)) list)
+
+  given : (outcome (r .refusal), (r .holds, after)) ≡ handed told-by done (false, list)
+  unfolding boundsOn resultsOn told-by done
+  given = e
+
+  outcome-is : outcome (r .refusal) ≡ told-by
+  outcome-is = ap (λ (x : Given). x .0) given ∙ handed-outcome done (false, list) told-by
+
+  pub bounds-refused : (k p : ℕ) → r .refusal ≡ Refused k p → t ≡ (k, p) → (t, (found, after)) ≡ boundsIn sheet (found, list)
+  unfolding boundsIn resultsIn told-by
+  bounds-refused k p q f =
+      let kept = ap (λ (x : Given). x .1) given ∙ handed-found done (false, list) told-by k p (sym (ap (λ (x : Given). x .0) given) ∙ ap outcome q) in
+      rw (f, sym outcome-is ∙ ap outcome q) (ap (λ (x : Bool × List ℕ). ((k, p), (found, x .1))) kept)
+
+  pub bounds-are-told : r .refusal ≡ Accepted → (v : ℕ) → v ≡ flag (r .holds) → t ≡ (0, 0) → (t, (v, after)) ≡ boundsIn sheet (found, list)
+  unfolding boundsIn resultsIn told-by done
+  bounds-are-told q v ev f =
+      let are = ap (λ (x : Given). x .1) given ∙ handed-done done (false, list) told-by (sym (ap (λ (x : Given). x .0) given) ∙ ap outcome q) .1 in
+      rw (f, ev, sym outcome-is ∙ ap outcome q) (ap (λ (x : Bool × List ℕ). ((0, 0), (flag (x .0), x .1))) are)

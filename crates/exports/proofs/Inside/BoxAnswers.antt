@@ -1,0 +1,57 @@
+-- What the call of the box's own loop answers at each way out, and the list of a state that it writes.
+-- Assumes nothing.
+use Rattle.basis.specs.Prelude.{ℕ, _*_, _/_, _%_, _≤_, _<_, _≡_, sym, ap, _∙_, Bool, true, false, List, arith, length, List·getD-eq-default, lt-leb, le-leb, eq-eqb, ne-eqb, w64, Fits}
+use Rattle.basis.specs.Limits.{mostRows}
+use Rattle.basis.specs.Refusals.{outcome}
+use Rattle.basis.specs.Upto.{pairCell}
+use Rattle.sheet.specs.Legal.{legal}
+use Rattle.sheet.specs.Lists.{filled, sheetIn}
+use Rattle.sheet.specs.declared.row.Sheet.{Sheet}
+use Rattle.sheet.proofs.Legality.{legal-is}
+use Rattle.records.specs.declared.record.RowState.{RowState}
+use Rattle.states.specs.declared.runs.Ran.{Ran}
+use Rattle.states.specs.Values.{held, ran}
+use Rattle.records.specs.Records.{noRecord}
+use Rattle.machine.specs.States.{State, recordAt}
+use Rattle.machine.specs.Lists.{stateLong}
+use Rattle.machine.specs.Answers.{RunAnswer, fresh, run}
+use Rattle.exports.specs.Answers.{told}
+use Rattle.exports.specs.Further.{stateCell, courseTold, boxOf, boxOn}
+
+-- `record_at`
+pub record-past : (t : State) (k : ℕ) → length (t .rows) ≡ mostRows → mostRows ≤ k → noRecord ≡ recordAt t k
+record-past t k long b = sym (List·getD-eq-default (t .rows) noRecord {n = k} (rw long b))
+
+-- `cell_of`
+module _ (t : State) (i : ℕ) (s : RowState) (e : s ≡ recordAt t (i / 2)) where
+  pub even-cell : i % 2 ≡ 0 → s .remaining ≡ stateCell t i
+  unfolding pairCell
+  even-cell z = rw (eq-eqb (i % 2) 0 z) (ap (λ (x : RowState). x .remaining) e)
+
+  pub odd-cell : (i % 2 ≡ 0 → ⊥) → s .since ≡ stateCell t i
+  unfolding pairCell
+  odd-cell z = rw (ne-eqb (i % 2) 0 z) (ap (λ (x : RowState). x .since) e)
+
+-- `giachimu_box`
+module _ (s list rel cs : List ℕ) (b : Bool) (eb : b ≡ legal (sheetIn s)) where
+  pub box-not-legal : b ≡ false → (t : ℕ × ℕ) → t ≡ (10, 0) → (t, (0, (list, cs))) ≡ boxOn s list rel cs
+  unfolding boxOn boxOf
+  box-not-legal q t f = rw (f, sym eb ∙ q)
+
+  module _ (q : b ≡ true) (n : ℕ) (en : n ≡ sheetIn s .count) where
+    few : n ≤ mostRows
+    few = rw en (legal-is (sheetIn s) (sym eb ∙ q) .most-rows)
+
+    pub records-fit : Fits w64 (n * 2)
+    records-fit = record { fits = omega (arith, few) }
+
+    pub box-has-no-room : length list < n * 2 → (t : ℕ × ℕ) → t ≡ (15, 0) → (t, (0, (list, cs))) ≡ boxOn s list rel cs
+    unfolding boxOn boxOf
+    box-has-no-room m t f = rw (f, sym eb ∙ q, lt-leb (stateLong (sheetIn s .count)) (length list) (omega (arith, en)))
+
+    pub box-answered : n * 2 ≤ length list → (h : Sheet) → h ≡ sheetIn s → (r : Ran) (ds : List ℕ) → ran r ds ≡ run h (fresh h .state) rel cs
+        → (after : List ℕ) → after ≡ filled (stateCell (held (r .state))) list → (t : ℕ × ℕ) → t ≡ told (outcome (r .refusal)) → (t, (r .done, (after, ds))) ≡ boxOn s list rel cs
+    unfolding boxOn boxOf
+    box-answered m h eh r ds er after ea t f =
+        let whole : ran r ds ≡ run (sheetIn s) (fresh (sheetIn s) .state) rel cs = er ∙ ap (λ (x : Sheet). run x (fresh x .state) rel cs) eh in
+        rw (f, ea, sym eb ∙ q, le-leb (stateLong (sheetIn s .count)) (length list) (omega (arith, en))) (ap (λ (c : RunAnswer State). courseTold c list) whole)

@@ -1,0 +1,111 @@
+-- What `giachimu_read` and `giachimu_label` answer at each way out, where the reader has answered r and written into lists.
+-- Assumes nothing.
+use Rattle.basis.specs.Prelude.{ℕ, _+_, _*_, _≤_, _<_, _≡_, sym, ap, ap₂, _∙_, List, arith, length, lt-ltb, le-ltb, le-leb, w64, Fits}
+use Rattle.basis.specs.Limits.{mostRows}
+use Rattle.basis.specs.Refusals.{Outcome, accepted, outcome, orElse, roomFor}
+use Rattle.basis.specs.declared.refusal.Refusal.{Refusal}
+use Rattle.basis.specs.declared.refusal.Refusal.the-variants.{Accepted, Refused}
+use Rattle.basis.proofs.Refusals.{handed-outcome, or-nothing}
+use Rattle.sheet.specs.Lists.{numberAt, filled, sheetIn, sheetCell, sheetLong, clearedCell}
+use Rattle.sheet.proofs.Inside.Cells.{cell-past}
+use Rattle.sheet.proofs.Inside.ClearedLists.{cleared-is-filled}
+use Rattle.sheet.proofs.Inside.FilledLists.{zeros, zeros-long}
+use Rattle.reader.specs.Answers.{reading, labelIn}
+use Rattle.reader.specs.Lists.{labelsLong, intoLists, readInto}
+use Rattle.reader.specs.Inside.Steps.{partIn}
+use Rattle.reader.specs.declared.row.Part.{Part}
+use Rattle.reader.proofs.LegalSheets.{accepted-is-legal}
+use Rattle.reader.proofs.LentLists.{outcome-is-the-readers, list-kept, reader-accepts, list-has-room, list-written, count-read, parts-written}
+use Rattle.reader.proofs.Inside.ZeroLists.{Lists, lists, rows-few}
+use Rattle.exports.specs.Answers.{fieldsIn, readIn, labelAnswer}
+
+-- `giachimu_read`, with a list of labels that has room for every row
+module _ (s list : List ℕ) (r : Refusal) (l b : List ℕ) (e : lists (outcome r) l b ≡ readInto s list (zeros (labelsLong mostRows))) where
+  room : Outcome
+  room = roomFor (sheetLong (reading s .1 .count)) (length list)
+
+  -- the reader's refusals, then the room for the sheet
+  read-outcome : outcome r ≡ orElse (reading s .0) room
+  unfolding readInto intoLists room
+  read-outcome =
+      let labels : Outcome = roomFor (labelsLong (reading s .1 .count)) (length (zeros (labelsLong mostRows))) in
+      let enough : labels ≡ accepted = simp (le-leb (labelsLong (reading s .1 .count)) (length (zeros (labelsLong mostRows))) (omega (arith, rows-few s, zeros-long (labelsLong mostRows)))) in
+      ap (λ (x : Lists). x .0) e ∙ handed-outcome _ _ (orElse (reading s .0) (orElse room labels)) ∙ ap (λ (x : Outcome). orElse (reading s .0) (orElse room x)) enough
+      ∙ ap (λ (x : Outcome). orElse (reading s .0) x) (or-nothing room)
+
+  pub fields-refused : (k p : ℕ) → r ≡ Refused k p → (t : ℕ × ℕ) → t ≡ (k, p) → (t, l) ≡ readIn s list
+  unfolding readIn fieldsIn room
+  fields-refused k p q t f =
+      rw (f, sym read-outcome ∙ ap outcome q) (ap (λ (x : List ℕ). ((k, p), x)) (list-kept s list _ (outcome r) l b e k p (ap outcome q)))
+
+  module _ (q : r ≡ Accepted) (n : ℕ) (en : n ≡ sheetIn l .count) where
+    rows-are : n ≡ reading s .1 .count
+    rows-are = en ∙ count-read s list _ (outcome r) l b e (ap outcome q)
+
+    pub rows-fit : Fits w64 (n * 4)
+    rows-fit = record { fits = omega (arith, rows-are, rows-few s) }
+
+    pub places-fit : (more : ℕ) → more ≤ 64 → Fits w64 (n * 4 + more)
+    places-fit more m = record { fits = omega (arith, rows-are, rows-few s) }
+
+    pub fields-are-read : (after : List ℕ) → after ≡ filled (clearedCell (n * 4 + 2) l) l → (t : ℕ × ℕ) → t ≡ (0, 0) → (t, after) ≡ readIn s list
+    unfolding readIn fieldsIn room
+    fields-are-read after g t f =
+        let yes = ap outcome q in
+        let past = accepted-is-legal s (reader-accepts s list _ (outcome r) l b e yes) .1 in
+        let whole : after ≡ filled (sheetCell (reading s .1)) list =
+        g ∙ ap (λ (k : ℕ). filled (clearedCell (k * 4 + 2) l) l) rows-are
+        ∙ cleared-is-filled (sheetCell (reading s .1)) (sheetLong (reading s .1 .count)) list l (list-written s list _ (outcome r) l b e yes) (list-has-room s list _ (outcome r) l b e yes)
+        (cell-past (reading s .1) (reading s .1 .count) past) in
+        rw (f, sym read-outcome ∙ yes) (ap (λ (x : List ℕ). ((0, 0), x)) whole)
+
+-- `giachimu_label`, with lists that have room for every row
+module _ (s : List ℕ) (r : Refusal) (l b : List ℕ) (e : lists (outcome r) l b ≡ readInto s (zeros (sheetLong mostRows)) (zeros (labelsLong mostRows))) where
+  outcome-is : outcome r ≡ reading s .0
+  outcome-is =
+      ap (λ (x : Lists). x .0) e
+      ∙ outcome-is-the-readers s _ _ (omega (arith, rows-few s, zeros-long (sheetLong mostRows))) (omega (arith, rows-few s, zeros-long (labelsLong mostRows)))
+
+  module _ (row : ℕ) (found t : ℕ × ℕ) where
+    pub label-refused : (k p : ℕ) → r ≡ Refused k p → t ≡ (k, p) → (t, found) ≡ labelAnswer s row found
+    unfolding labelAnswer
+    label-refused k p q f = rw (f, sym outcome-is ∙ ap outcome q)
+
+  module _ (q : r ≡ Accepted) (n : ℕ) (en : n ≡ sheetIn l .count) (row : ℕ) where
+    count-is : n ≡ reading s .1 .count
+    count-is = en ∙ count-read s _ _ (outcome r) l b e (ap outcome q)
+
+    pub label-past : (found t : ℕ × ℕ) → n ≤ row → t ≡ (14, 0) → (t, found) ≡ labelAnswer s row found
+    unfolding labelAnswer
+    label-past found t m f = rw (f, sym outcome-is ∙ ap outcome q, le-ltb row (reading s .1 .count) (omega (arith, count-is)))
+
+    module _ (m : row < n) where
+      few : row < mostRows
+      few = omega (arith, count-is, rows-few s)
+
+      pub start-fits : Fits w64 (row * 2)
+      start-fits = record { fits = omega (arith, few) }
+
+      pub start-scaled : Fits w64 (row * 2 * 8)
+      start-scaled = record { fits = omega (arith, few) }
+
+      pub start-inside : row * 2 < labelsLong mostRows
+      start-inside = omega (arith, few)
+
+      -- one place more
+      module _ (more : ℕ) (most : more ≤ 1) where
+        pub long-fits : Fits w64 (row * 2 + more)
+        long-fits = record { fits = omega (arith, few) }
+
+        pub long-scaled : Fits w64 ((row * 2 + more) * 8)
+        long-scaled = record { fits = omega (arith, few) }
+
+        pub long-inside : row * 2 + more < labelsLong mostRows
+        long-inside = omega (arith, few)
+
+      pub label-there : (found t : ℕ × ℕ) → t ≡ (0, 0) → (t, (numberAt b (row * 2), numberAt b (row * 2 + 1))) ≡ labelAnswer s row found
+      unfolding labelAnswer partIn
+      label-there found t f =
+          let is : partIn b row ≡ labelIn s row = parts-written s _ _ (outcome r) l b e (ap outcome q) row (omega (arith, count-is)) in
+          rw (f, sym outcome-is ∙ ap outcome q, lt-ltb row (reading s .1 .count) (omega (arith, count-is)))
+          (ap₂ (λ (x y : ℕ). ((0, 0), (x, y))) (ap (λ (z : Part). z .start) is) (ap (λ (z : Part). z .long) is))

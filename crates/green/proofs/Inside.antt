@@ -1,0 +1,6 @@
+pub mod Chains
+pub mod Codes
+pub mod Ends
+pub mod Invariant
+pub mod Potential
+pub mod Tallies

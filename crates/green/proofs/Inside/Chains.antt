@@ -1,0 +1,96 @@
+-- Accepted slots one after another, each from the state that the one before it left; and that those of the first n rows are in time where these have bounds.
+-- Assumes nothing.
+use Rattle.basis.specs.Prelude.{ℕ, zero, suc, _+_, _≤_, _<_, _≡_, refl, sym, ap, _∙_, _⊎_, inl, inr, ⊎-elim, List, [], _∷_, _++_, arith, getD}
+use Rattle.basis.specs.Refusals.{accepted}
+use Rattle.sheet.specs.Legal.{rowAt, Legal}
+use Rattle.sheet.specs.declared.row.Sheet.{Sheet}
+use Rattle.machine.specs.States.{State, recordAt}
+use Rattle.records.specs.declared.record.RowState.{RowState}
+use Rattle.machine.specs.Slot.{begun, runs, reached, code}
+use Rattle.machine.specs.Checks.{checkReleases}
+use Rattle.machine.specs.Answers.{given, nextState}
+use Rattle.records.proofs.Inside.Codes.{four-says}
+use Rattle.machine.proofs.Inside.Legals.{LegalState}
+use Rattle.records.proofs.Inside.Records.{ended-else}
+use Rattle.green.specs.Inside.Model.{age, Reached, slot}
+use Rattle.green.specs.Calls.{Done}
+use Rattle.green.specs.Demand.{Bounded}
+use Rattle.green.proofs.Sheets.{rowsOf, ranges, safe}
+use Rattle.green.proofs.Soundness.{slot-within-bound}
+use Rattle.green.proofs.Slots.{momentOf, ran, slot-is, reached-remaining, reached-since, next-record, next-since}
+use Rattle.green.proofs.Inside.Codes.{finished-code, going-code}
+
+-- an accepted slot from a state: what it was checked for, and the codes that it wrote
+pub record Slotted (h : Sheet) (t : State) (d : Done) : Type 0 where
+  pub state : LegalState h t
+  pub fine : checkReleases h t (d .releases) ≡ accepted
+  pub wrote : (k : ℕ) → k < h .count → getD (d .codes) k 0 ≡ code (given h t (d .releases)) k
+
+-- slots one after another, from a state to a state
+pub data Chain (h : Sheet) : State → List Done → State → Type 0 where
+  none : {t : State} → Chain h t [] t
+  more : {t u : State} {d : Done} {ds : List Done} → Slotted h t d → Chain h (nextState h t (d .releases)) ds u → Chain h t (d ∷ ds) u
+
+pub chain-append : (h : Sheet) {t u v : State} {ds es : List Done} → Chain h t ds u → Chain h u es v → Chain h t (ds ++ es) v
+chain-append h none c = c
+chain-append h (more s b) c = more s (chain-append h b c)
+
+module _ (h : Sheet) (legal : Legal h) (n : ℕ) (up : Bounded h n) where
+  abbrev pub bounds : ℕ → ℕ
+  bounds k = rowsOf h n .R k
+
+  -- one slot, from a state that slots lead to
+  module _ (t : State) (d : Done) (r : Reached (rowsOf h n) (momentOf t)) (s : Slotted h t d) where
+    pub leads : Reached (rowsOf h n) (momentOf (nextState h t (d .releases)))
+    leads = slot (λ k. getD (d .releases) k 0) (ran h t (d .releases) (s .state) (s .fine)) r (slot-is h t (d .releases) (s .state) (s .fine) n (up .within))
+
+    module _ (k : ℕ) (l : k < n) where
+      there : k < h .count
+      there = omega (arith, up .within)
+
+      abbrev left : ℕ
+      left = reached (given h t (d .releases)) k .remaining
+
+      abbrev old : ℕ
+      old = reached (given h t (d .releases)) k .since
+
+      -- what is left before anything is dropped
+      in-bound : 1 ≤ left → old + left ≤ bounds k
+      in-bound x =
+          omega (
+            arith,
+            slot-within-bound (rowsOf h n) (ranges h legal n up) (safe h legal n up) _ _ r (slot-is h t (d .releases) (s .state) (s .fine) n (up .within)) k l
+                (omega (arith, reached-remaining h t (d .releases) (s .state) (s .fine) k)),
+            reached-remaining h t (d .releases) (s .state) (s .fine) k,
+            next-since h t (d .releases) (s .state) (s .fine) k there,
+          )
+
+      -- no code 4
+      pub not-missed : getD (d .codes) k 0 ≡ 4 → ⊥
+      unfolding given
+      not-missed e =
+          let (_, some, late) = four-says (rowAt h k) (runs (given h t (d .releases)) k) (begun (given h t (d .releases)) k) (reached (given h t (d .releases)) k) (sym (s .wrote k there) ∙ e) in
+          omega (arith, in-bound some, ranges h legal n up k l)
+
+      -- a job finishes in this slot, or goes on: it waited or ran, and is a slot older
+      pub record GoesOn : Type 0 where
+        pub ran-or-waited : (getD (d .codes) k 0 ≡ 1) ⊎ (getD (d .codes) k 0 ≡ 2)
+        pub some : 1 ≤ recordAt (nextState h t (d .releases)) k .remaining
+        pub older : recordAt (nextState h t (d .releases)) k .since ≡ age (getD (d .releases) k 0) (recordAt t k .since) + 1
+
+      pub step : 1 ≤ begun (given h t (d .releases)) k .remaining → (getD (d .codes) k 0 ≡ 3) ⊎ GoesOn
+      unfolding given
+      step x = go left refl
+        where
+          go : (y : ℕ) → left ≡ y → (getD (d .codes) k 0 ≡ 3) ⊎ GoesOn
+          go zero e = inl (s .wrote k there ∙ finished-code (rowAt h k) (runs (given h t (d .releases)) k) (begun (given h t (d .releases)) k) (reached (given h t (d .releases)) k) x e)
+          go (suc y) e =
+              let b = in-bound (omega arith) in
+              let early : old ≡ rowAt h k .deadline → ⊥ = λ f. omega (arith, ranges h legal n up k l) in
+              let r′ = next-record h t (d .releases) (s .state) (s .fine) k there in
+              let c = going-code (rowAt h k) (runs (given h t (d .releases)) k) (begun (given h t (d .releases)) k) (reached (given h t (d .releases)) k) x (omega arith) early in
+              inr (record {
+                ran-or-waited = ⊎-elim (λ f. inl (s .wrote k there ∙ f)) (λ f. inr (s .wrote k there ∙ f)) c;
+                some = omega (arith, ap (λ (z : RowState). z .remaining) r′, ended-else (rowAt h k) (reached (given h t (d .releases)) k) early);
+                older = omega (arith, next-since h t (d .releases) (s .state) (s .fine) k there, reached-since h t (d .releases) (s .state) (s .fine) k there, ranges h legal n up k l);
+              })

@@ -1,0 +1,14 @@
+pub mod Answers
+pub mod Checks
+pub mod ChecksInPlace
+pub mod Courses
+pub mod Differences
+pub mod FreshLists
+pub mod Jobs
+pub mod LegalChecks
+pub mod LegalSlots
+pub mod Legals
+pub mod MarginAnswers
+pub mod RecordLists
+pub mod RunsInPlace
+pub mod Zeros

@@ -1,0 +1,73 @@
+-- The checks in place: of a sheet and a state, and of the releases, in the words of the loop over them.
+-- Assumes nothing.
+use Rattle.basis.specs.Prelude.{ℕ, _+_, _≤_, _<_, _≡_, sym, ap, ap₂, _∙_, Bool, true, false, List, getD, arith}
+use Rattle.basis.specs.Refusals.{Outcome, accepted, refused, outcome, firstOf}
+use Rattle.basis.specs.declared.refusal.Refusal.{Refusal}
+use Rattle.basis.specs.declared.refusal.Refusal.the-variants.{Accepted, Refused}
+use Rattle.sheet.specs.Legal.{rowAt, legal}
+use Rattle.sheet.specs.declared.row.Row.{Row}
+use Rattle.sheet.specs.declared.row.Sheet.{Sheet}
+use Rattle.records.specs.declared.record.RowState.{RowState}
+use Rattle.machine.specs.States.{State, recordAt, legalState}
+use Rattle.records.specs.Checks.{checkRow}
+use Rattle.machine.specs.Checks.{checkAt, checkReleases, checkState}
+use Rattle.machine.specs.Lists.{recordIn, stateIn}
+use Rattle.machine.proofs.Inside.Checks.{ready}
+use Rattle.machine.proofs.LegalLists.{kept-record}
+use Rattle.basis.proofs.Inside.FirstRefusal.{first-more, first-found}
+
+-- the loop over the releases
+module _ (h : Sheet) (t : State) (rel : List ℕ) (i : ℕ) (so-far : firstOf i (checkAt h t rel) ≡ accepted) where
+  check-more : (c : Refusal) → outcome c ≡ checkRow (rowAt h i) (recordAt t i) (getD rel i 0) i → c ≡ Accepted → firstOf (i + 1) (checkAt h t rel) ≡ accepted
+  check-more c ec e = first-more i (checkAt h t rel) so-far (sym ec ∙ ap outcome e)
+
+  check-found : (n : ℕ) (c : Refusal) (a b : ℕ) → n ≡ h .count → i < n → outcome c ≡ checkRow (rowAt h i) (recordAt t i) (getD rel i 0) i → c ≡ Refused a b → refused a b ≡ checkReleases h t rel
+  unfolding checkReleases
+  check-found n c a b en l ec e = sym (first-found (h .count) i (checkAt h t rel) a b (omega arith) so-far (sym ec ∙ ap outcome e))
+
+  pub check-done : (n : ℕ) → n ≡ h .count → i ≤ n → n ≤ i → accepted ≡ checkReleases h t rel
+  unfolding checkReleases
+  check-done n en a b = let e : i ≡ h .count = omega arith in sym (rw e at so-far)
+
+-- `check_in`
+pub check-in-there : (h : Sheet) (l : List ℕ) (release k : ℕ) (row : Row) (s : RowState) → row ≡ rowAt h k → s ≡ recordIn l k → (o : Outcome) → o ≡ checkRow row s release k
+    → o ≡ checkRow (rowAt h k) (recordIn l k) release k
+check-in-there h l release k row s er es o e = e ∙ ap₂ (λ (r : Row) (x : RowState). checkRow r x release k) er es
+
+-- `check_releases_in`
+module _ (h : Sheet) (l rel : List ℕ) (fine : legal h ≡ true) (kept : legalState h (stateIn l) ≡ true) (i : ℕ) (so-far : firstOf i (checkAt h (stateIn l) rel) ≡ accepted)
+    (n : ℕ) (en : n ≡ h .count) (below : i < n) (c : Refusal) (ec : outcome c ≡ checkRow (rowAt h i) (recordIn l i) (getD rel i 0) i) where
+  in-state : outcome c ≡ checkRow (rowAt h i) (recordAt (stateIn l) i) (getD rel i 0) i
+  in-state = ec ∙ ap (λ (s : RowState). checkRow (rowAt h i) s (getD rel i 0) i) (kept-record h l fine kept i (omega arith))
+
+  pub check-in-more : c ≡ Accepted → firstOf (i + 1) (checkAt h (stateIn l) rel) ≡ accepted
+  check-in-more e = check-more h (stateIn l) rel i so-far c in-state e
+
+  pub check-in-found : (a b : ℕ) → c ≡ Refused a b → refused a b ≡ checkReleases h (stateIn l) rel
+  check-in-found a b e = check-found h (stateIn l) rel i so-far n c a b en below in-state e
+
+-- `check_state_in`
+module _ (h : Sheet) (t : State) (fine : Bool) (e : fine ≡ legal h) where
+  pub in-10 : fine ≡ false → refused 10 0 ≡ checkState h t
+  unfolding checkState
+  in-10 f = rw (sym e ∙ f)
+
+  module _ (y : fine ≡ true) (also : Bool) (g : also ≡ legalState h t) where
+    pub in-16 : also ≡ false → refused 16 0 ≡ checkState h t
+    unfolding checkState
+    in-16 f = rw (sym e ∙ y, sym g ∙ f)
+
+    pub in-order : also ≡ true → accepted ≡ checkState h t
+    unfolding checkState
+    in-order f = rw (sym e ∙ y, sym g ∙ f)
+
+pub so-legal : (h : Sheet) (fine : Bool) → fine ≡ legal h → fine ≡ true → legal h ≡ true
+so-legal h fine e y = sym e ∙ y
+
+-- what a check of the sheet and the state has shown
+module _ (h : Sheet) (t : State) (c : Refusal) (e : outcome c ≡ checkState h t) (f : c ≡ Accepted) where
+  pub checked-sheet : legal h ≡ true
+  checked-sheet = ready h t (sym e ∙ ap outcome f) .sheet-legal
+
+  pub checked-state : legalState h t ≡ true
+  checked-state = ready h t (sym e ∙ ap outcome f) .state-legal

@@ -1,0 +1,63 @@
+-- The fresh state in a list: a turn of the loop that writes it, and each way out.
+-- Assumes nothing.
+use Rattle.basis.specs.Prelude.{ℕ, _+_, _*_, _≤_, _<_, _≡_, refl, sym, ap, ap₂, _∙_, Bool, true, false, List, length, length-replicate, arith, le-leb, lt-leb, w64, Fits}
+use Rattle.basis.specs.Limits.{mostRows}
+use Rattle.basis.specs.Refusals.{accepted, refused}
+use Rattle.basis.proofs.Inside.Upto.{upto-none, upto-below}
+use Rattle.sheet.specs.Legal.{rowAt, legal}
+use Rattle.sheet.specs.declared.row.Row.{Row}
+use Rattle.sheet.specs.declared.row.Sheet.{Sheet}
+use Rattle.sheet.proofs.Legality.{legal-is}
+use Rattle.sheet.specs.Lists.{filled, clearedCell}
+use Rattle.sheet.proofs.Inside.ClearedLists.{cleared-is-filled}
+use Rattle.sheet.proofs.Inside.FilledLists.{length-filled}
+use Rattle.records.specs.declared.record.RowState.{RowState}
+use Rattle.records.specs.Records.{noRecord}
+use Rattle.machine.specs.States.{noState, recordAt, freshAt, freshState}
+use Rattle.machine.specs.Answers.{freshAnswer, fresh}
+use Rattle.machine.specs.Lists.{recordWide, stateLong, putRecord, putTo, putState, cleared, freshOn}
+use Rattle.machine.proofs.Inside.RecordLists.{put-more, put-agree}
+
+-- the fresh records are those of the fresh state
+pub fresh-put : (h : Sheet) (l : List ℕ) → legal h ≡ true → putTo (h .count) (freshAt h) l ≡ putState (h .count) (freshState h) l
+unfolding putState freshState
+fresh-put h l fine =
+    put-agree (h .count) (freshAt h) (recordAt (freshState h)) l
+    (λ k b. sym (upto-below (h .count) (freshAt h) (noState .rows) noRecord k b (omega (arith, legal-is h fine .most-rows, length-replicate mostRows noRecord))))
+
+-- a list that is made zero from its start on
+all-cleared : (l l₁ : List ℕ) → l₁ ≡ filled (clearedCell 0 l) l → l₁ ≡ cleared l
+all-cleared l l₁ e = e ∙ cleared-is-filled (λ i. 0) 0 l l (upto-none (λ i. 0) l) (omega arith) (λ i b. refl)
+
+-- `put_fresh`
+abbrev freshRow : Row → RowState
+freshRow row = record { remaining = 0; since = row .separation }
+
+pub fresh-more : (h : Sheet) (l l₀ l′ : List ℕ) (i : ℕ) (row : Row) → l ≡ putTo i (freshAt h) l₀ → row ≡ rowAt h i → l′ ≡ putRecord l i (freshRow row) → l′ ≡ putTo (i + 1) (freshAt h) l₀
+fresh-more h l l₀ l′ i row so-far er e = e ∙ put-more i (freshAt h) l l₀ (freshRow row) so-far (ap freshRow er)
+
+-- `fresh_on`
+module _ (h : Sheet) (l : List ℕ) (fine : Bool) (e : fine ≡ legal h) where
+  pub fresh-on-10 : fine ≡ false → freshAnswer (refused 10 0) l ≡ freshOn h l
+  unfolding freshOn fresh
+  fresh-on-10 f = rw (sym e ∙ f)
+
+  module _ (f : fine ≡ true) (n : ℕ) (en : n ≡ h .count) where
+    yes : legal h ≡ true
+    yes = sym e ∙ f
+
+    pub fresh-scaled : Fits w64 (n * recordWide)
+    fresh-scaled = record { fits = omega (arith, legal-is h yes .most-rows) }
+
+    pub fresh-on-15 : length l < stateLong n → freshAnswer (refused 15 0) l ≡ freshOn h l
+    unfolding freshOn fresh
+    fresh-on-15 b = rw (yes, lt-leb (stateLong (h .count)) (length l) (omega arith))
+
+    pub cleared-long : (l₁ : List ℕ) → stateLong n ≤ length l → l₁ ≡ filled (clearedCell 0 l) l → stateLong n ≤ length l₁
+    cleared-long l₁ b c = omega (arith, ap length c, length-filled (clearedCell 0 l) l)
+
+    pub fresh-on-written : (l₁ l₂ : List ℕ) → stateLong n ≤ length l → l₁ ≡ filled (clearedCell 0 l) l → l₂ ≡ putTo n (freshAt h) l₁ → freshAnswer accepted l₂ ≡ freshOn h l
+    unfolding freshOn fresh
+    fresh-on-written l₁ l₂ b c d =
+        let w : l₂ ≡ putState (h .count) (freshState h) (cleared l) = d ∙ ap₂ (λ (m : ℕ) (x : List ℕ). putTo m (freshAt h) x) en (all-cleared l l₁ c) ∙ fresh-put h (cleared l) yes in
+        rw (yes, le-leb (stateLong (h .count)) (length l) (omega arith), w)

@@ -1,0 +1,77 @@
+-- The check in place that the state in a list is legal: a turn of its loop, and each way out.
+-- Assumes nothing.
+use Rattle.basis.specs.Prelude.{ℕ, _+_, _*_, _≤_, _<_, _≡_, sym, ap, ap₂, _∙_, Bool, true, false, List, ⊎-elim, length, List·getD-eq-default, arith, lt-ltb, le-ltb, eq-eqb, eqb-true, w64, Fits}
+use Rattle.basis.specs.Limits.{mostRows}
+use Rattle.basis.specs.Words.{allOf}
+use Rattle.basis.proofs.Inside.Words.{lt-or-le, all-one-more, all-at, all-true, true-not-false}
+use Rattle.sheet.specs.Legal.{rowAt, legal}
+use Rattle.sheet.specs.declared.row.Row.{Row}
+use Rattle.sheet.specs.declared.row.Sheet.{Sheet}
+use Rattle.sheet.proofs.Legality.{legal-is}
+use Rattle.sheet.specs.Lists.{numberAt}
+use Rattle.sheet.proofs.Ranges.{not-so}
+use Rattle.records.specs.declared.record.RowState.{RowState}
+use Rattle.machine.specs.States.{recordAt, legalState}
+use Rattle.records.specs.Records.{isZero, legalRecord}
+use Rattle.machine.specs.Lists.{recordWide, recordIn, stateLong, zeroAt, zeroFrom, spareIsZero, stateIn}
+use Rattle.machine.proofs.Inside.Legals.{legal-record-is, legal-record-says, legal-state-is, legal-state-says}
+use Rattle.machine.proofs.Inside.RecordLists.{record-in-state}
+use Rattle.machine.proofs.LegalLists.{few, kept-record, kept-zeros, missing-records-are-refused}
+
+-- the records of a list's rows so far are legal
+unfoldable pub legalIn : Sheet → List ℕ → ℕ → Bool
+legalIn h l k = legalRecord (rowAt h k) (recordIn l k)
+
+-- a record of zeros
+zero-pair : (l : List ℕ) (k : ℕ) → numberAt l (k * recordWide) ≡ 0 → numberAt l (k * recordWide + 1) ≡ 0 → isZero (recordIn l k) ≡ true
+unfolding isZero recordIn
+zero-pair l k y z = rw (eq-eqb (numberAt l (k * recordWide)) 0 y, eq-eqb (numberAt l (k * recordWide + 1)) 0 z)
+
+-- `is_legal_in`
+pub record-scaled : (h : Sheet) (n : ℕ) → legal h ≡ true → n ≡ h .count → Fits w64 (n * recordWide)
+record-scaled h n fine en = record { fits = omega (arith, legal-is h fine .most-rows) }
+
+module _ (h : Sheet) (l : List ℕ) (fine : legal h ≡ true) (n : ℕ) (en : n ≡ h .count) where
+  pub legal-in-fits : n ≤ mostRows
+  legal-in-fits = omega (arith, legal-is h fine .most-rows)
+
+  pub legal-in-short : length l < stateLong n → false ≡ legalState h (stateIn l)
+  legal-in-short a = sym (missing-records-are-refused h l fine (omega arith))
+
+  module _ (i : ℕ) (so-far : true ≡ allOf i (legalIn h l)) where
+    module _ (row : Row) (er : row ≡ rowAt h i) (s : RowState) (es : s ≡ recordIn l i) (b : Bool) (eb : b ≡ legalRecord row s) where
+      legal-here : b ≡ legalIn h l i
+      unfolding legalIn
+      legal-here = eb ∙ ap₂ legalRecord er es
+
+      pub legal-in-more : b ≡ true → true ≡ allOf (i + 1) (legalIn h l)
+      legal-in-more e = sym (all-one-more i (legalIn h l) ∙ rw (sym so-far) (sym legal-here ∙ e))
+
+      pub legal-in-fails : i < n → b ≡ false → false ≡ legalState h (stateIn l)
+      unfolding legalIn
+      legal-in-fails a e = sym (not-so (legalState h (stateIn l)) (λ k. never k))
+        where
+          never : legalState h (stateIn l) ≡ true → ⊥
+          never k =
+              let r = legal-state-is h (stateIn l) (few h l fine) k .rows i (omega arith) in
+              let t = legal-record-says (rowAt h i) (recordAt (stateIn l) i) r in
+              let u = ap (legalRecord (rowAt h i)) (kept-record h l fine k i (omega arith)) in
+              true-not-false (sym t ∙ sym u ∙ sym legal-here ∙ e)
+
+    zeros-decide : n ≤ i → i ≤ n → (r : Bool) → zeroFrom (stateLong (h .count)) l ≡ r → r ≡ legalState h (stateIn l)
+    unfolding zeroFrom zeroAt isZero legalIn
+    zeros-decide a b false e = sym (not-so (legalState h (stateIn l)) (λ k. true-not-false (sym (kept-zeros h l fine k) ∙ e)))
+    zeros-decide a b true e =
+        let zero : (j : ℕ) → stateLong (h .count) ≤ j → numberAt l j ≡ 0 = λ j m. ⊎-elim
+        (λ y. eqb-true (numberAt l j) 0 (rw (le-ltb j (stateLong (h .count)) m) at (all-at (length l) (zeroAt (stateLong (h .count)) l) e j y)))
+        (λ y. List·getD-eq-default l 0 {n = j} y) (lt-or-le j (length l)) in
+        let spare : spareIsZero l ≡ true = all-true (length l) (zeroAt (stateLong mostRows) l)
+        (λ j y. ⊎-elim (λ m. rw (lt-ltb j (stateLong mostRows) m)) (λ m. rw (le-ltb j (stateLong mostRows) m, eq-eqb (numberAt l j) 0 (zero j (omega (arith, few h l fine))))) (lt-or-le j (stateLong mostRows))) in
+        sym (legal-state-says h (stateIn l) (few h l fine) (record {
+          rows = λ k m. rw (record-in-state l k spare (omega (arith, few h l fine)))
+              (legal-record-is (rowAt h k) (recordIn l k) (all-at i (legalIn h l) (sym so-far) k (omega arith)));
+          past = λ k m y. rw (record-in-state l k spare y) (zero-pair l k (zero (k * recordWide) (omega arith)) (zero (k * recordWide + 1) (omega arith)));
+        }))
+
+    pub legal-in-done : n ≤ i → i ≤ n → (long : ℕ) → long ≡ stateLong n → (r : Bool) → r ≡ zeroFrom long l → r ≡ legalState h (stateIn l)
+    legal-in-done a b long el r e = zeros-decide a b r (sym (e ∙ ap (λ (m : ℕ). zeroFrom m l) (el ∙ ap stateLong en)))

@@ -1,0 +1,182 @@
+-- Records of a state's list, as they are read and written in place.
+-- Assumes nothing.
+use Rattle.basis.specs.Prelude.{ℕ, zero, suc, _+_, _*_, _≤_, _<_, _≡_, refl, sym, ap, ap₂, _∙_, true, false, List, ⊎-elim, length, set, length-set, getD-set-same, getD-set-other, ext-getD, arith, le-refl, eq-or-lt-of-le, add-one, lt-ltb, le-ltb, eq-eqb}
+use Rattle.basis.specs.Limits.{mostRows}
+use Rattle.basis.specs.Upto.{upto}
+use Rattle.basis.proofs.Inside.Words.{lt-or-le, all-same, all-true}
+use Rattle.basis.proofs.Inside.Upto.{upto-below, upto-past, length-upto}
+use Rattle.basis.proofs.Inside.Lists.{getD-all}
+use Rattle.sheet.specs.Lists.{numberAt}
+use Rattle.sheet.proofs.Inside.FilledLists.{filled-read}
+use Rattle.records.specs.declared.record.RowState.{RowState}
+use Rattle.records.specs.Records.{noRecord}
+use Rattle.machine.specs.States.{noState, stateOf, recordAt}
+use Rattle.machine.specs.Lists.{recordWide, recordIn, stateLong, zeroAt, zeroFrom, spareIsZero, stateIn, putRecord, putTo, cleared}
+
+-- `record_in`
+pub record-read : (l : List ℕ) (k : ℕ) → _≡_ {A = RowState} (record { remaining = numberAt l (k * recordWide); since = numberAt l (k * recordWide + 1) }) (recordIn l k)
+unfolding recordIn
+record-read l k = refl
+
+-- `put_record`
+pub inside-next : (l : List ℕ) (k v : ℕ) → stateLong (k + 1) ≤ length l → k * recordWide + 1 < length (set l (k * recordWide) v)
+inside-next l k v r = simp length-set (omega arith)
+
+pub record-put : (l : List ℕ) (k : ℕ) (s : RowState) → set (set l (k * recordWide) (s .remaining)) (k * recordWide + 1) (s .since) ≡ putRecord l k s
+unfolding putRecord
+record-put l k s = refl
+
+-- one record that is written, read
+module _ (l : List ℕ) (k : ℕ) (s : RowState) where
+  pub length-put : length (putRecord l k s) ≡ length l
+  unfolding putRecord
+  length-put = simp length-set refl
+
+  -- another number is as it was
+  put-other : (i : ℕ) → (i ≡ k * recordWide → ⊥) → (i ≡ k * recordWide + 1 → ⊥) → numberAt (putRecord l k s) i ≡ numberAt l i
+  unfolding putRecord
+  put-other i a b =
+      getD-set-other (set l (k * recordWide) (s .remaining)) (k * recordWide + 1) i (s .since) 0 b ∙ getD-set-other l (k * recordWide) i (s .remaining) 0 a
+
+  put-here : stateLong (k + 1) ≤ length l → recordIn (putRecord l k s) k ≡ s
+  unfolding putRecord recordIn
+  put-here r =
+      let a : numberAt (set (set l (k * recordWide) (s .remaining)) (k * recordWide + 1) (s .since)) (k * recordWide) ≡ s .remaining =
+      getD-set-other (set l (k * recordWide) (s .remaining)) (k * recordWide + 1) (k * recordWide) (s .since) 0 (λ e. omega arith) ∙ getD-set-same l (k * recordWide) (s .remaining) 0 (omega arith) in
+      let b : numberAt (set (set l (k * recordWide) (s .remaining)) (k * recordWide + 1) (s .since)) (k * recordWide + 1) ≡ s .since =
+      getD-set-same (set l (k * recordWide) (s .remaining)) (k * recordWide + 1) (s .since) 0 (simp length-set (omega arith)) in
+      λ i. record { remaining = a i; since = b i }
+
+  put-elsewhere : (j : ℕ) → (j ≡ k → ⊥) → recordIn (putRecord l k s) j ≡ recordIn l j
+  unfolding recordIn
+  put-elsewhere j d =
+      let a = put-other (j * recordWide) (λ e. d (omega arith)) (λ e. omega arith) in
+      let b = put-other (j * recordWide + 1) (λ e. omega arith) (λ e. d (omega arith)) in
+      λ i. record { remaining = a i; since = b i }
+
+-- the first n records that are written, read
+module _ (f : ℕ → RowState) (l : List ℕ) where
+  pub put-none : l ≡ putTo 0 f l
+  unfolding putTo
+  put-none = refl
+
+  pub length-put-to : (n : ℕ) → length (putTo n f l) ≡ length l
+  unfolding putTo
+  length-put-to zero = refl
+  length-put-to (suc n) = length-put (putTo n f l) n (f n) ∙ length-put-to n
+
+  pub put-past : (n i : ℕ) → stateLong n ≤ i → numberAt (putTo n f l) i ≡ numberAt l i
+  unfolding putTo
+  put-past zero i h = refl
+  put-past (suc n) i h = put-other (putTo n f l) n (f n) i (λ e. omega arith) (λ e. omega arith) ∙ put-past n i (omega arith)
+
+  pub put-record-past : (n k : ℕ) → n ≤ k → recordIn (putTo n f l) k ≡ recordIn l k
+  unfolding recordIn
+  put-record-past n k h =
+      let a = put-past n (k * recordWide) (omega arith) in
+      let b = put-past n (k * recordWide + 1) (omega arith) in
+      λ i. record { remaining = a i; since = b i }
+
+  pub put-record-below : (n k : ℕ) → k < n → stateLong n ≤ length l → recordIn (putTo n f l) k ≡ f k
+  unfolding putTo
+  put-record-below zero k h r = absurd (omega arith)
+  put-record-below (suc n) k h r =
+      ⊎-elim (λ e. rw e (put-here (putTo n f l) n (f n) (rw length-put-to (omega arith))))
+      (λ m. put-elsewhere (putTo n f l) n (f n) k (λ e. omega arith) ∙ put-record-below n k m (omega arith))
+      (eq-or-lt-of-le {n = k} {m = n} (omega arith))
+
+-- a turn: the store of what f says of i makes one record more
+pub put-more : (i : ℕ) (f : ℕ → RowState) (l l₀ : List ℕ) (s : RowState) → l ≡ putTo i f l₀ → s ≡ f i → putRecord l i s ≡ putTo (i + 1) f l₀
+unfolding putTo
+put-more i f l l₀ s e k = rw (add-one, e, k)
+
+-- record k of the state that a list hands over is record k of the list
+pub record-in-state : (l : List ℕ) (k : ℕ) → spareIsZero l ≡ true → k < mostRows → recordAt (stateIn l) k ≡ recordIn l k
+unfolding stateIn
+record-in-state l k e h = rw e (upto-below mostRows (recordIn l) (noState .rows) noRecord k h (le-refl mostRows))
+
+-- and it is zero where a number past the last record there is room for is not
+pub record-of-none : (l : List ℕ) (k : ℕ) → spareIsZero l ≡ false → recordAt (stateIn l) k ≡ noRecord
+unfolding stateIn
+record-of-none l k e = rw e (getD-all mostRows k noRecord)
+
+-- a list with room for every record and no more has no spare number
+pub spare-of-full : (l : List ℕ) → length l ≡ stateLong mostRows → spareIsZero l ≡ true
+unfolding zeroFrom zeroAt
+spare-of-full l long = all-true (length l) (zeroAt (stateLong mostRows) l) (λ i b. rw (lt-ltb i (stateLong mostRows) (omega (arith, long))))
+
+pub state-rows-long : (l : List ℕ) → spareIsZero l ≡ true → length (stateIn l .rows) ≡ mostRows
+unfolding stateIn
+state-rows-long l e = rw e (length-upto mostRows (recordIn l) (noState .rows))
+
+-- the state of a list whose first n records are written
+module _ (n : ℕ) (f : ℕ → RowState) (l : List ℕ) (spare : spareIsZero l ≡ true) (few : n ≤ mostRows) (room : stateLong n ≤ length l) where
+  spare-put : spareIsZero (putTo n f l) ≡ true
+  unfolding zeroFrom zeroAt
+  spare-put =
+      rw (length-put-to f l n)
+      (all-same (length l) (zeroAt (stateLong mostRows) (putTo n f l)) (zeroAt (stateLong mostRows) l)
+      (λ i b. ⊎-elim (λ a. rw (lt-ltb i (stateLong mostRows) a)) (λ a. rw (put-past f l n i (omega arith))) (lt-or-le i (stateLong mostRows)))
+      ∙ spare)
+
+  pub state-put : stateIn (putTo n f l) ≡ stateOf (upto n f (stateIn l .rows))
+  unfolding stateIn
+  state-put =
+      rw (spare-put, spare)
+      (ap stateOf
+      (ext-getD noRecord (upto mostRows (recordIn (putTo n f l)) (noState .rows)) (upto n f (upto mostRows (recordIn l) (noState .rows)))
+      (length-upto mostRows (recordIn (putTo n f l)) (noState .rows) ∙ sym (length-upto n f (upto mostRows (recordIn l) (noState .rows)) ∙ length-upto mostRows (recordIn l) (noState .rows)))
+      (λ i b. let there : i < mostRows = rw (length-upto mostRows (recordIn (putTo n f l)) (noState .rows)) at b in
+      upto-below mostRows (recordIn (putTo n f l)) (noState .rows) noRecord i there (le-refl mostRows)
+      ∙ ⊎-elim
+      (λ a. put-record-below f l n i a room ∙ sym (upto-below n f (upto mostRows (recordIn l) (noState .rows)) noRecord i a (rw (length-upto mostRows (recordIn l) (noState .rows)) few)))
+      (λ a. put-record-past f l n i a ∙ sym (upto-past n f (upto mostRows (recordIn l) (noState .rows)) noRecord i a ∙ upto-below mostRows (recordIn l) (noState .rows) noRecord i there (le-refl mostRows)))
+      (lt-or-le i n))))
+
+-- the same records make the same list
+pub put-agree : (n : ℕ) (f g : ℕ → RowState) (l : List ℕ) → ((k : ℕ) → k < n → f k ≡ g k) → putTo n f l ≡ putTo n g l
+unfolding putTo
+put-agree zero f g l e = refl
+put-agree (suc n) f g l e = ap₂ (λ (x : List ℕ) (s : RowState). putRecord x n s) (put-agree n f g l (λ k b. e k (omega arith))) (e n (omega arith))
+
+-- a list's own records, put into another list, are its own numbers
+pub put-own : (l l₀ : List ℕ) (n i : ℕ) → i < stateLong n → stateLong n ≤ length l₀ → numberAt (putTo n (recordIn l) l₀) i ≡ numberAt l i
+unfolding putTo recordIn
+put-own l l₀ zero i b r = absurd (omega arith)
+put-own l l₀ (suc n) i b r = ⊎-elim (λ a. below a (put-own l l₀ n i a (omega arith))) here (lt-or-le i (stateLong n))
+  where
+    below : i < stateLong n → numberAt (putTo n (recordIn l) l₀) i ≡ numberAt l i → numberAt (putTo (suc n) (recordIn l) l₀) i ≡ numberAt l i
+    below a so = put-other (putTo n (recordIn l) l₀) n (recordIn l n) i (λ e. omega arith) (λ e. omega arith) ∙ so
+
+    same : recordIn (putTo (suc n) (recordIn l) l₀) n ≡ recordIn l n
+    same = put-record-below (recordIn l) l₀ (suc n) n (omega arith) r
+
+    here : stateLong n ≤ i → numberAt (putTo (suc n) (recordIn l) l₀) i ≡ numberAt l i
+    here a = ⊎-elim
+        (λ m. let e : i ≡ n * recordWide = omega arith in rw e (ap (λ (s : RowState). s .remaining) same))
+        (λ m. let e : i ≡ n * recordWide + 1 = omega arith in rw e (ap (λ (s : RowState). s .since) same))
+        (lt-or-le i (n * recordWide + 1))
+
+-- a list of zeros hands over the state of zeros
+module _ (l : List ℕ) (none : (i : ℕ) → numberAt l i ≡ 0) where
+  pub zeros-spare : spareIsZero l ≡ true
+  unfolding zeroFrom zeroAt
+  zeros-spare =
+      all-true (length l) (zeroAt (stateLong mostRows) l)
+      (λ i b. ⊎-elim (λ a. rw (lt-ltb i (stateLong mostRows) a)) (λ a. rw (le-ltb i (stateLong mostRows) a, eq-eqb (numberAt l i) 0 (none i))) (lt-or-le i (stateLong mostRows)))
+
+  zeros-record : (k : ℕ) → recordIn l k ≡ noRecord
+  unfolding recordIn
+  zeros-record k = λ i. record { remaining = none (k * recordWide) i; since = none (k * recordWide + 1) i }
+
+  pub zeros-state : stateIn l ≡ noState
+  unfolding stateIn
+  zeros-state =
+      rw zeros-spare
+      (ap stateOf
+      (ext-getD noRecord (upto mostRows (recordIn l) (noState .rows)) (noState .rows) (length-upto mostRows (recordIn l) (noState .rows))
+      (λ k b. let there : k < mostRows = rw (length-upto mostRows (recordIn l) (noState .rows)) at b in
+      upto-below mostRows (recordIn l) (noState .rows) noRecord k there (le-refl mostRows) ∙ zeros-record k ∙ sym (getD-all mostRows k noRecord))))
+
+pub cleared-none : (l : List ℕ) (i : ℕ) → numberAt (cleared l) i ≡ 0
+cleared-none l i = filled-read (λ i. 0) l i (λ b. refl)

@@ -1,0 +1,68 @@
+-- Laws of `groups`: a turn of it, by the tests that a reader makes; what a value scaled and added to is.
+use Rattle.basis.specs.Prelude.{ℕ, zero, suc, _+_, _-_, _*_, _^_, _≤_, _<_, _≡_, refl, sym, ap, _∙_, List, arith, not-suc-le-zero, mul-assoc, add-mul, mul-le-mul-left, mul-le-mul-right, one-le-pow, pow-succ', length, getD, lt-ltb, le-ltb}
+use Rattle.basis.specs.Readers.{Step, ok, refuse, after}
+use Rattle.numbers.specs.Numbers.{groups}
+
+pub one-less : (g : ℕ) → suc g - 1 ≡ g
+one-less g = omega arith
+
+-- a turn, by the tests on the way
+pub ends : (g first least : ℕ) (s : List ℕ) (at : ℕ) → 0 < g → length s ≤ at → groups g first least s at ≡ refuse 2 (length s)
+unfolding groups
+ends zero first least s at pos h = absurd (not-suc-le-zero pos)
+ends (suc g) first least s at pos h = simp (le-ltb at (length s) h)
+
+pub low : (g first least : ℕ) (s : List ℕ) (at : ℕ) → 0 < g → at < length s → getD s at 0 < 128 → getD s at 0 < least
+    → groups g first least s at ≡ refuse 3 first
+unfolding groups
+low zero first least s at pos h b l = absurd (not-suc-le-zero pos)
+low (suc g) first least s at pos h b l = simp (lt-ltb _ _ h, lt-ltb _ _ b, lt-ltb _ _ l)
+
+pub last : (g first least : ℕ) (s : List ℕ) (at : ℕ) → 0 < g → at < length s → getD s at 0 < 128 → least ≤ getD s at 0
+    → groups g first least s at ≡ ok (getD s at 0) (at + 1)
+unfolding groups
+last zero first least s at pos h b l = absurd (not-suc-le-zero pos)
+last (suc g) first least s at pos h b l = simp (lt-ltb _ _ h, lt-ltb _ _ b, le-ltb _ _ l)
+
+pub more : (g first least : ℕ) (s : List ℕ) (at : ℕ) → 0 < g → at < length s → 128 ≤ getD s at 0
+    → groups g first least s at ≡ after (groups (g - 1) first 1 s (at + 1)) (λ v n. ok (getD s at 0 - 128 + 128 * v) n)
+unfolding groups
+more zero first least s at pos h b = absurd (not-suc-le-zero pos)
+more (suc g) first least s at pos h b = simp (lt-ltb _ _ h, le-ltb _ _ b, one-less g)
+
+pub over : (g first least : ℕ) (s : List ℕ) (at : ℕ) → g ≤ 0 → groups g first least s at ≡ refuse 3 first
+unfolding groups
+over zero first least s at none = refl
+over (suc g) first least s at none = absurd (not-suc-le-zero none)
+
+-- what was read before, and the weight of what is still to be read
+abbrev pub scaled : ℕ → ℕ → Step ℕ → Step ℕ
+scaled v w (ok u n) = ok (v + u * w) n
+scaled v w (refuse k p) = refuse k p
+
+pub scaled-none : (x : Step ℕ) → x ≡ scaled 0 1 x
+scaled-none (ok u n) = ap (λ (k : ℕ). ok k n) (omega arith)
+scaled-none (refuse k p) = refl
+
+pub scaled-more : (v w d : ℕ) (x : Step ℕ) → scaled v w (after x (λ u n. ok (d + 128 * u) n)) ≡ scaled (v + d * w) (w * 128) x
+scaled-more v w d (ok u n) =
+    ap (λ (k : ℕ). ok k n) (omega (arith, add-mul d (128 * u) w, mul-assoc 128 u w, mul-assoc u w 128))
+scaled-more v w d (refuse k p) = refl
+
+pub again : (v w g first least : ℕ) (s : List ℕ) (at : ℕ) → 0 < g → at < length s → 128 ≤ getD s at 0
+    → scaled v w (groups g first least s at) ≡ scaled (v + (getD s at 0 - 128) * w) (w * 128) (groups (g - 1) first 1 s (at + 1))
+again v w g first least s at pos h b =
+    ap (scaled v w) (more g first least s at pos h b) ∙ scaled-more v w (getD s at 0 - 128) (groups (g - 1) first 1 s (at + 1))
+
+-- one group more has room where the groups left have it
+pub room-more : (w left : ℕ) → 0 < left → w * 128 * 128 ^ (left - 1) ≡ w * 128 ^ left
+room-more w zero pos = absurd (not-suc-le-zero pos)
+room-more w (suc left) pos = rw (one-less left, pow-succ' 128 left) (mul-assoc w 128 (128 ^ left))
+
+pub room-one : (w left : ℕ) → 0 < left → w * 128 ≤ w * 128 ^ left
+room-one w zero pos = absurd (not-suc-le-zero pos)
+room-one w (suc left) pos =
+    mul-le-mul-left w (omega (arith, pow-succ' 128 left, one-le-pow left 128 (omega arith)))
+
+pub digit-room : (v w d : ℕ) → v < w → d < 128 → v + d * w < w * 128
+digit-room v w d h l = let e : d * w ≤ 127 * w = mul-le-mul-right w (omega arith) in omega arith

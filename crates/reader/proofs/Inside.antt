@@ -1,0 +1,11 @@
+pub mod Entries
+pub mod Handover
+pub mod Heads
+pub mod LabelPlaces
+pub mod LabelReader
+pub mod LentParts
+pub mod PartLists
+pub mod Plain
+pub mod RowLoop
+pub mod ShortestSheet
+pub mod ZeroLists

@@ -1,0 +1,23 @@
+-- Where labels lie, read from a list.
+-- Assumes nothing.
+use Rattle.basis.specs.Prelude.{ℕ, _+_, _*_, _≤_, _<_, _≡_, refl, ap, ap₂, _∙_, List, length}
+use Rattle.basis.specs.Upto.{upto}
+use Rattle.basis.proofs.Inside.Pairs.{first-read, second-read}
+use Rattle.sheet.specs.Lists.{numberAt}
+use Rattle.reader.specs.Answers.{labelIn}
+use Rattle.reader.specs.Lists.{labelsLong, labelCell}
+use Rattle.reader.specs.Inside.Steps.{partIn}
+use Rattle.reader.specs.declared.row.Part.{Part}
+
+-- `part_in`
+pub part-read : (b : List ℕ) (k : ℕ) → _≡_ {A = Part} (record { start = numberAt b (k * 2); long = numberAt b (k * 2 + 1) }) (partIn b k)
+unfolding partIn
+part-read b k = refl
+
+-- a part that was written
+pub part-there : (s b labels : List ℕ) (n k : ℕ) → b ≡ upto (labelsLong n) (labelCell s) labels → labelsLong n ≤ length labels → k < n → partIn b k ≡ labelIn s k
+unfolding partIn
+part-there s b labels n k e r h =
+    ap₂ (λ (x y : ℕ). record { start = x; long = y })
+    (ap (λ (z : List ℕ). numberAt z (k * 2)) e ∙ first-read (λ j. labelIn s j .start) (λ j. labelIn s j .long) k n labels h r)
+    (ap (λ (z : List ℕ). numberAt z (k * 2 + 1)) e ∙ second-read (λ j. labelIn s j .start) (λ j. labelIn s j .long) k n labels h r)

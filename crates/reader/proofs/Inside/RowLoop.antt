@@ -1,0 +1,145 @@
+-- The loop over the rows: what its lists have, a row more, and its ends.
+-- Assumes nothing.
+use Rattle.basis.specs.Prelude.{ℕ, zero, suc, _+_, _*_, _-_, _≤_, _<_, _≡_, refl, sym, ap, subst, _∙_, List, _∷_, arith, le-antisymm, length, set, length-set}
+use Rattle.basis.specs.Limits.{longestLabel, mostRows}
+use Rattle.basis.specs.Upto.{upto}
+use Rattle.basis.specs.Readers.{Step, ok, refuse, mapStep}
+use Rattle.basis.proofs.Inside.Pairs.{pair-stored}
+use Rattle.basis.proofs.Inside.Steps.{got, ok-same, after-ok, map-step-ok, map-step-no, map-step-after}
+use Rattle.basis.proofs.Inside.Upto.{length-upto, upto-over}
+use Rattle.numbers.specs.Numbers.{upTo}
+use Rattle.sheet.specs.Lists.{listCell, sheetLong}
+use Rattle.sheet.specs.declared.row.Row.{Row}
+use Rattle.sheet.proofs.Inside.Stores.{head-stored, row-stored}
+use Rattle.reader.specs.Form.{Entry, entryRow, entry, entriesBy, entries}
+use Rattle.reader.specs.Answers.{partAfter}
+use Rattle.reader.specs.Lists.{labelsLong}
+use Rattle.reader.specs.Inside.Steps.{entryStep, EntryAt, nothing, rowFrom, rowGot, rowAfter, labelFrom, labelAfter, putRow, putPart, rowsIn, partsIn}
+use Rattle.reader.specs.declared.row.Part.{Part}
+use Rattle.reader.specs.declared.row.EntryRead.{EntryRead}
+use Rattle.reader.specs.declared.row.EntryRead.the-variants as entry-variants
+
+-- what follows the first i rows is read as if it began there
+split : (m i k : ℕ) (s : List ℕ) (at : ℕ) (es : List Entry) (next : ℕ) → entries m i s at ≡ ok es next → mapStep nothing (entries m (i + k) s at) ≡ mapStep nothing (entries m k s next)
+unfolding entriesBy
+split m zero k s at es next e =
+    let z : 0 + k ≡ k = omega arith in
+    ap (λ (j : ℕ). mapStep nothing (entries m j s at)) z ∙ ap (λ (j : ℕ). mapStep nothing (entries m k s j)) (ok-same e .1)
+split m (suc i) k s at es next e =
+    after-ok (entry m s at) _ e λ x q e₁ e₂.
+    after-ok (entries m i s q) _ e₂ λ gs l e₃ e₄.
+    let z : suc i + k ≡ suc (i + k) = omega arith in
+    ap (λ (j : ℕ). mapStep nothing (entries m j s at)) z
+    ∙ simp e₁ (map-step-after nothing (λ (zs : List Entry). x ∷ zs) (entries m (i + k) s q))
+    ∙ split m i k s q gs l e₃ ∙ ap (λ (j : ℕ). mapStep nothing (entries m k s j)) (ok-same e₄ .1)
+
+-- before the first row
+pub none-passed : (m : ℕ) (s : List ℕ) (at : ℕ) → mapStep nothing (entries m 0 s at) ≡ ok tt at
+unfolding entriesBy mapStep
+none-passed m s at = refl
+
+-- a list after its first two numbers were stored
+abbrev begunList : ℕ → ℕ → List ℕ → List ℕ
+begunList m n l = set (set l 0 m) 1 n
+
+begun-is : (m n : ℕ) (s : List ℕ) (at : ℕ) (l : List ℕ) → begunList m n l ≡ rowsIn m n s at 0 l
+unfolding rowsIn
+begun-is m n s at l = head-stored m n (rowAfter m s at) l
+
+rows-over : (m n : ℕ) (s : List ℕ) (at i : ℕ) (l : List ℕ) → sheetLong i ≤ length l → rowsIn m n s at i (begunList m n l) ≡ rowsIn m n s at i l
+unfolding rowsIn
+rows-over m n s at i l r = ap (λ (z : List ℕ). upto (sheetLong i) (listCell m n (rowAfter m s at)) z) (begun-is m n s at l) ∙ upto-over (sheetLong i) (sheetLong 0) _ _ l 0 (omega arith) r
+
+pub head-put : (m n : ℕ) (s : List ℕ) (at : ℕ) (l : List ℕ) → sheetLong n ≤ length l → begunList m n l ≡ rowsIn m n s at 0 (begunList m n l)
+head-put m n s at l r = begun-is m n s at l ∙ sym (rows-over m n s at 0 l (omega arith))
+
+pub no-part-put : (m : ℕ) (s : List ℕ) (at : ℕ) (b : List ℕ) → b ≡ partsIn m s at 0 b
+unfolding partsIn upto
+no-part-put m s at b = refl
+
+-- the loop over n rows, which has passed i of them
+module _ (m n : ℕ) (s : List ℕ) (at i next : ℕ) (so-far : mapStep nothing (entries m i s at) ≡ ok tt next) where
+  left : (k j : ℕ) → i + k ≡ j → mapStep nothing (entries m j s at) ≡ mapStep nothing (entries m k s next)
+  left k j e = let (es, q, _) = map-step-ok nothing (entries m i s at) so-far in ap (λ (z : ℕ). mapStep nothing (entries m z s at)) (sym e) ∙ split m i k s at es next q
+
+  module _ (x : EntryRead) (q : entryStep x ≡ mapStep entryRow (entry m s next)) where
+    -- a row is refused
+    pub row-refused : i < n → (k p : ℕ) → x ≡ entry-variants.Refused k p → refuse k p ≡ mapStep nothing (entries m n s at)
+    unfolding entriesBy mapStep
+    row-refused h k p g = sym (left (suc (n - (i + 1))) n (omega arith) ∙ simp (map-step-no entryRow (entry m s next) (got entryStep q g)))
+
+    module _ (r : Row) (p : Part) (e : ℕ) (g : x ≡ entry-variants.Is r p e) where
+      -- a row more is passed
+      pub one-passed : mapStep nothing (entries m (i + 1) s at) ≡ ok tt e
+      unfolding entriesBy mapStep
+      one-passed = left 1 (i + 1) refl ∙ simp (map-step-ok entryRow (entry m s next) (got entryStep q g) .1)
+
+      -- and stands in the list
+      pub row-put : (l l₀ : List ℕ) → l ≡ rowsIn m n s at i l₀ → (l′ : List ℕ) → l′ ≡ putRow l i r → l′ ≡ rowsIn m n s at (i + 1) l₀
+      unfolding rowsIn putRow rowAfter rowFrom
+      row-put l l₀ el l′ e′ =
+          let (es, q₀, _) = map-step-ok nothing (entries m i s at) so-far in
+          let (en, q₁, er) = map-step-ok entryRow (entry m s next) (got entryStep q g) in
+          e′ ∙ row-stored m n (rowAfter m s at) i l l₀ el r (sym (simp (q₀, q₁) er))
+
+      -- and where its label lies
+      pub part-put : EntryAt s next x → (b b₀ : List ℕ) → b ≡ partsIn m s at i b₀ → (b′ : List ℕ) → b′ ≡ putPart b i p → b′ ≡ partsIn m s at (i + 1) b₀
+      unfolding partsIn putPart labelAfter labelFrom
+      part-put lies b b₀ eb b′ e′ =
+          let (es, q₀, _) = map-step-ok nothing (entries m i s at) so-far in
+          let this : p ≡ labelAfter m s at i = subst (EntryAt s next) g lies ∙ sym (simp q₀) in
+          e′ ∙ pair-stored (λ k. labelAfter m s at k .start) (λ k. labelAfter m s at k .long) i b b₀ eb (p .start) (p .long) (ap (λ (z : Part). z .start) this) (ap (λ (z : Part). z .long) this)
+
+  -- the last row is passed
+  module _ (h : i ≤ n) (g : n ≤ i) where
+    pub all-passed : ok tt next ≡ mapStep nothing (entries m n s at)
+    all-passed = sym (ap (λ (j : ℕ). mapStep nothing (entries m j s at)) (le-antisymm g h) ∙ so-far)
+
+    pub rows-put : (l l₀ : List ℕ) → sheetLong n ≤ length l₀ → l ≡ rowsIn m n s at i (begunList m n l₀) → l ≡ rowsIn m n s at n l₀
+    rows-put l l₀ r e = e ∙ ap (λ (j : ℕ). rowsIn m n s at j (begunList m n l₀)) (le-antisymm h g) ∙ rows-over m n s at n l₀ r
+
+    pub parts-put : (b b₀ : List ℕ) → b ≡ partsIn m s at i b₀ → b ≡ partsIn m s at n b₀
+    parts-put b b₀ e = e ∙ ap (λ (j : ℕ). partsIn m s at j b₀) (le-antisymm h g)
+
+-- the lists are as long as they were
+pub rows-long : (m n : ℕ) (s : List ℕ) (at i : ℕ) (l l₀ : List ℕ) → l ≡ rowsIn m n s at i (begunList m n l₀) → length l ≡ length l₀
+unfolding rowsIn
+rows-long m n s at i l l₀ e = ap length e ∙ length-upto (sheetLong i) _ (begunList m n l₀) ∙ simp length-set refl
+
+pub parts-long : (m : ℕ) (s : List ℕ) (at i : ℕ) (b b₀ : List ℕ) → b ≡ partsIn m s at i b₀ → length b ≡ length b₀
+unfolding partsIn
+parts-long m s at i b b₀ e = ap length e ∙ length-upto (labelsLong i) _ b₀
+
+-- there is room for a row more
+pub row-room : (m n : ℕ) (s : List ℕ) (at i : ℕ) (l l₀ : List ℕ) → l ≡ rowsIn m n s at i (begunList m n l₀) → i < n → sheetLong n ≤ length l₀ → sheetLong (i + 1) ≤ length l
+row-room m n s at i l l₀ e h r = omega (arith, rows-long m n s at i l l₀ e)
+
+pub part-room : (m n : ℕ) (s : List ℕ) (at i : ℕ) (b b₀ : List ℕ) → b ≡ partsIn m s at i b₀ → i < n → labelsLong n ≤ length b₀ → labelsLong (i + 1) ≤ length b
+part-room m n s at i b b₀ e h r = omega (arith, parts-long m s at i b b₀ e)
+
+-- `put_row` and `put_part`
+pub row-set : (l : List ℕ) (k : ℕ) (row : Row)
+    → set (set (set (set l (k * 4 + 2) (row .threads)) (k * 4 + 3) (row .separation)) (k * 4 + 4) (row .deadline)) (k * 4 + 5) (row .budget) ≡ putRow l k row
+unfolding putRow
+row-set l k row = refl
+
+pub part-set : (b : List ℕ) (k : ℕ) (p : Part) → set (set b (k * 2) (p .start)) (k * 2 + 1) (p .long) ≡ putPart b k p
+unfolding putPart
+part-set b k p = refl
+
+-- the later stores of one row are inside
+module _ (l : List ℕ) (k : ℕ) (r : sheetLong (k + 1) ≤ length l) where
+  pub second-inside : (a : ℕ) → k * 4 + 3 < length (set l (k * 4 + 2) a)
+  second-inside a = simp length-set (omega arith)
+
+  pub third-inside : (a b : ℕ) → k * 4 + 4 < length (set (set l (k * 4 + 2) a) (k * 4 + 3) b)
+  third-inside a b = simp length-set (omega arith)
+
+  pub fourth-inside : (a b d : ℕ) → k * 4 + 5 < length (set (set (set l (k * 4 + 2) a) (k * 4 + 3) b) (k * 4 + 4) d)
+  fourth-inside a b d = simp length-set (omega arith)
+
+pub length-inside : (l : List ℕ) (k : ℕ) → labelsLong (k + 1) ≤ length l → (a : ℕ) → k * 2 + 1 < length (set l (k * 2) a)
+length-inside l k r a = simp length-set (omega arith)
+
+pub count-inside : (l : List ℕ) (n : ℕ) → sheetLong n ≤ length l → (a : ℕ) → 1 < length (set l 0 a)
+count-inside l n r a = simp length-set (omega arith)

@@ -1,0 +1,6 @@
+pub mod Cells
+pub mod ClearedLists
+pub mod FilledLists
+pub mod ListRows
+pub mod Places
+pub mod Stores

@@ -1,0 +1,84 @@
+-- A sheet that is put into a list, and what is answered of the sheet in a list.
+-- Assumes nothing.
+use Rattle.basis.specs.Prelude.{ℕ, _+_, _*_, _≤_, _≡_, refl, sym, ap, ap₂, _∙_, List, length, set, replicate, length-set, ext-getD, arith, le-refl}
+use Rattle.basis.specs.Limits.{mostRows}
+use Rattle.basis.specs.Refusals.{Outcome, outcome}
+use Rattle.basis.specs.declared.refusal.Refusal.{Refusal}
+use Rattle.basis.specs.Upto.{upto}
+use Rattle.basis.proofs.Inside.Upto.{upto-set, upto-below, length-upto}
+use Rattle.sheet.specs.declared.row.Sheet.{Sheet}
+use Rattle.sheet.specs.Lists.{filled, sheetIn, sheetCell, sheetLong}
+use Rattle.sheet.proofs.RoundTrip.{whole-sheet-comes-back}
+use Rattle.records.specs.declared.record.RowState.{RowState}
+use Rattle.machine.specs.States.{State, noState, stateOf, recordAt}
+use Rattle.states.specs.declared.state.State.{State as Value}
+use Rattle.states.specs.Values.{held}
+use Rattle.machine.specs.declared.places.Done.{Done}
+use Rattle.records.specs.Records.{noRecord}
+use Rattle.machine.specs.Lists.{recordWide, recordIn, stateLong, stateIn, putRecord, putTo, freshOn, runIn, ranIn}
+use Rattle.machine.proofs.Inside.RecordLists.{put-more, state-put, spare-of-full, state-rows-long}
+use Rattle.machine.specs.Checks.{checkSlot, checkRun}
+use Rattle.machine.specs.Answers.{FreshAnswer, freshAnswer, runAnswer, fresh, run, MarginAnswer, margin}
+use Rattle.machine.proofs.StatesAfter.{fresh-of-zeros, run-listed-back}
+
+-- `listed`
+pub sheet-in-list : (h : Sheet) (l l₀ : List ℕ) → l ≡ filled (sheetCell h) l₀ → length (h .rows) ≡ mostRows → sheetLong mostRows ≤ length l₀ → sheetIn l ≡ h
+sheet-in-list h l l₀ e long room = ap sheetIn e ∙ whole-sheet-comes-back h l₀ long room
+
+-- each call by value, by its call on lists: `fresh`
+module _ (h : Sheet) (s : List ℕ) (eh : sheetIn s ≡ h) where
+  pub fresh-by-list : (r : Refusal) (l′ : List ℕ) → freshAnswer (outcome r) l′ ≡ freshOn (sheetIn s) (replicate (stateLong mostRows) 0) → (u : State) → u ≡ stateIn l′ → freshAnswer (outcome r) u ≡ fresh h
+  fresh-by-list r l′ f u eu =
+      ap (freshAnswer (outcome r)) eu
+      ∙ ap (λ (x : FreshAnswer (List ℕ)). freshAnswer (x .outcome) (stateIn (x .state))) f
+      ∙ fresh-of-zeros (sheetIn s)
+      ∙ ap fresh eh
+
+  -- a run, a margin, and the checks of a slot and of a run
+  module _ (l : List ℕ) (t : State) (et : stateIn l ≡ t) where
+    pub run-by-list : (rel cs : List ℕ) (r : Done) (l′ ds : List ℕ) → ranIn r l′ ds ≡ runIn (sheetIn s) l rel cs → (u : State) → u ≡ stateIn l′
+        → runAnswer (r .done) (outcome (r .refusal)) u ds ≡ run h t rel cs
+    run-by-list rel cs r l′ ds f u eu =
+        ap (λ (x : State). ranIn r x ds) eu ∙ run-listed-back (sheetIn s) l rel cs r l′ ds f ∙ ap₂ (λ (g : Sheet) (x : State). run g x rel cs) eh et
+
+    pub margin-by-list : (k : ℕ) (x : MarginAnswer) → x ≡ margin (sheetIn s) (stateIn l) k → x ≡ margin h t k
+    margin-by-list k x f = f ∙ ap₂ (λ (g : Sheet) (y : State). margin g y k) eh et
+
+    pub slot-check-by-list : (rel : List ℕ) (room : ℕ) (x : Outcome) → x ≡ checkSlot (sheetIn s) (stateIn l) rel room → x ≡ checkSlot h t rel room
+    slot-check-by-list rel room x f = f ∙ ap₂ (λ (g : Sheet) (y : State). checkSlot g y rel room) eh et
+
+    pub run-check-by-list : (rel : List ℕ) (room : ℕ) (x : Outcome) → x ≡ checkRun (sheetIn s) (stateIn l) rel room → x ≡ checkRun h t rel room
+    run-check-by-list rel room x f = f ∙ ap₂ (λ (g : Sheet) (y : State). checkRun g y rel room) eh et
+
+-- `state_list`
+pub state-in-list : (t : Value) (l l₀ : List ℕ) (i : ℕ) → i ≤ mostRows → mostRows ≤ i → l ≡ putTo i (recordAt (held t)) l₀ → l₀ ≡ replicate (stateLong mostRows) 0 → length (t .rows) ≡ mostRows → stateIn l ≡ held t
+state-in-list t l l₀ i a b e z long =
+    let q : i ≡ mostRows = omega arith in
+    let whole : stateIn l ≡ stateOf (upto mostRows (recordAt (held t)) (stateIn (replicate (stateLong mostRows) 0) .rows)) =
+    ap stateIn (e ∙ ap₂ (λ (k : ℕ) (x : List ℕ). putTo k (recordAt (held t)) x) q z)
+    ∙ state-put mostRows (recordAt (held t)) (replicate (stateLong mostRows) 0) (spare-of-full (replicate (stateLong mostRows) 0) refl) (le-refl mostRows) (le-refl (stateLong mostRows)) in
+    let rows : length (stateIn (replicate (stateLong mostRows) 0) .rows) ≡ mostRows = state-rows-long (replicate (stateLong mostRows) 0) (spare-of-full (replicate (stateLong mostRows) 0) refl) in
+    whole ∙ ap stateOf (ext-getD noRecord (upto mostRows (recordAt (held t)) (stateIn (replicate (stateLong mostRows) 0) .rows)) (t .rows)
+    (length-upto mostRows (recordAt (held t)) (stateIn (replicate (stateLong mostRows) 0) .rows) ∙ rows ∙ sym long)
+    (λ k m. upto-below mostRows (recordAt (held t)) (stateIn (replicate (stateLong mostRows) 0) .rows) noRecord k
+    (omega (arith, m, length-upto mostRows (recordAt (held t)) (stateIn (replicate (stateLong mostRows) 0) .rows), rows)) (omega (arith, rows))))
+
+pub list-more : (t : Value) (l l₀ : List ℕ) (i : ℕ) → l ≡ putTo i (recordAt (held t)) l₀
+    → set (set l (i * recordWide) (recordAt (held t) i .remaining)) (i * recordWide + 1) (recordAt (held t) i .since) ≡ putTo (i + 1) (recordAt (held t)) l₀
+unfolding putRecord
+list-more t l l₀ i e = put-more i (recordAt (held t)) l l₀ (recordAt (held t) i) e refl
+
+pub both-stored : (l : List ℕ) (i v w : ℕ) → length l ≡ stateLong mostRows → length (set (set l (i * recordWide) v) (i * recordWide + 1) w) ≡ stateLong mostRows
+both-stored l i v w e = simp length-set e
+
+-- `state_of`
+module _ (l : List ℕ) (t₀ t : Value) (i : ℕ) (so-far : t .rows ≡ upto i (recordIn l) (t₀ .rows)) where
+  pub records-more : (s : RowState) → s ≡ recordIn l i → set (t .rows) i s ≡ upto (i + 1) (recordIn l) (t₀ .rows)
+  records-more s e = upto-set i (recordIn l) (t .rows) (t₀ .rows) s so-far e
+
+  pub records-done : held t₀ ≡ noState → i ≤ mostRows → mostRows ≤ i → length l ≡ stateLong mostRows → held t ≡ stateIn l
+  unfolding stateIn
+  records-done z a b long =
+      let e : i ≡ mostRows = omega arith in
+      let z′ : t₀ .rows ≡ noState .rows = ap (λ (x : State). x .rows) z in
+      rw (spare-of-full l long) (ap stateOf (rw (e, z′) at so-far))
