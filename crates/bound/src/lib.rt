@@ -1,10 +1,10 @@
 // The bound of each row of a sheet.
 mod bytes;
-mod inside;
 mod judge;
 mod pace;
 mod quantity;
 mod results;
+mod row;
 mod search;
 mod share;
 mod start;

@@ -6,8 +6,8 @@ ghost use Rattle.sheet.specs.Lists.{sheetIn};
 ghost use Rattle.bound.specs.Test.{C};
 ghost use Rattle.bound.specs.Inside.Ready.{heldIn, Lent, Ready, Above};
 ghost use Rattle.bound.specs.Inside.Skipping.{carriedOf, Starts};
-use crate::inside::row_inside;
 use crate::quantity::Duration;
+use crate::row::row_inside;
 use sheet::Row;
 use sheet::processors;
 

@@ -7,10 +7,10 @@ ghost use Rattle.sheet.specs.Lists.{sheetIn};
 ghost use Rattle.bound.specs.Quantities.{widestSeparation, on, less};
 ghost use Rattle.bound.specs.Test.{q, X, x, W, durationOf, amounts, room};
 ghost use Rattle.bound.specs.Inside.Ready.{heldIn, Long, Lent, Ready, Length, Above, Spans};
-use crate::inside::row_inside;
-use crate::inside::row_looked_at;
 use crate::quantity::Amount;
 use crate::quantity::Duration;
+use crate::row::row_inside;
+use crate::row::row_looked_at;
 use sheet::Row;
 use sheet::processors;
 

@@ -1,12 +1,12 @@
 // A sheet: its rows, the check of its ranges, and the list of plain numbers that hands it over: processors, rows n, and then of each row threads, separation, deadline and budget.
-mod inside;
+mod fields;
 mod legal;
 mod reading;
 mod row;
 mod writing;
 
-pub use inside::count;
-pub use inside::processors;
+pub use fields::count;
+pub use fields::processors;
 pub use legal::is_legal;
 pub use reading::number_at;
 pub use reading::sheet_in;

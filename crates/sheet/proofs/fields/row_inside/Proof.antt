@@ -1,8 +1,8 @@
 -- `row_inside` is the row of the sheet. Assumes nothing.
 use Rattle.basis.specs.Prelude.{needs}
 use Rattle.sheet.proofs.Inside.Places.{numbers-handed}
-use Rattle.sheet.proofs.inside.row_inside.Statement.{statement}
-use Rattle.sheet.proofs.inside.row_inside.Tie as tie
+use Rattle.sheet.proofs.fields.row_inside.Statement.{statement}
+use Rattle.sheet.proofs.fields.row_inside.Tie as tie
 
 pub row-inside-spec : {M : Type 1} → statement M
 row-inside-spec =

@@ -1,8 +1,8 @@
 -- `row_inside` is the row of the sheet. Assumes nothing.
 use Rattle.basis.specs.Prelude.{needs}
 use Rattle.sheet.proofs.Inside.Places.{numbers-handed}
-use Rattle.bound.proofs.inside.row_inside.Statement.{statement}
-use Rattle.bound.proofs.inside.row_inside.Tie as tie
+use Rattle.bound.proofs.row.row_inside.Statement.{statement}
+use Rattle.bound.proofs.row.row_inside.Tie as tie
 
 returns : tie.Need-returns
 returns c = search numbers-handed
