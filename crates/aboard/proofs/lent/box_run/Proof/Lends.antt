@@ -73,12 +73,12 @@ module _ {M : Type 1} (𝓤 : URA M) (H : Heap 𝓤) (A : Atoms 𝓤) (W : Given
       qed W (tokens ∷ ‵ stateOwn ∷ ‵ (releasesOwn κ₁ list) ∷ ‵ (codesOwn v) ∷ []) ∵ nothing ! $ move ! (4 ∷ 0 ∷ []) $ fjoin ! $ move ! (3 ∷ 0 ∷ []) $ fjoin ! $
       owned ! Sh.the-row (Is Sh.the-row) (LL.makes Sh.the-type Sh′.the-plain 𝓤 H A) h _ g $ fjoin ! $ move ! (2 ∷ 0 ∷ []) $ fjoin ! $ move ! (1 ∷ 0 ∷ []) $ join ! $ frame ! $ done !
 
-  abbrev pub Told : Answer → Type 0
-  Told x = slottedIn (x .0) (stateOf x) (codesOf x) ≡ slot h (held (state .now)) (list .now) (codes .now)
+  abbrev pub Promised : Answer → Type 0
+  Promised x = slottedIn (x .0) (stateOf x) (codesOf x) ≡ slot h (held (state .now)) (list .now) (codes .now)
 
   -- [the tokens; the answer; the last values]
-  abbrev pub told : Val → Answer → Item 𝓤
-  told w x = tokens ⊛ ‵ (Re.the-row .own (x .0) (w ∷ [])) ⊛ ‵ (lasts slot-in.ended (α ∷ [], (κ₁, (β ∷ [], tt))) (state, (h, (list, (codes, tt)))) (x .1))
+  abbrev pub comesBack : Val → Answer → Item 𝓤
+  comesBack w x = tokens ⊛ ‵ (Re.the-row .own (x .0) (w ∷ [])) ⊛ ‵ (lasts slot-in.ended (α ∷ [], (κ₁, (β ∷ [], tt))) (state, (h, (list, (codes, tt)))) (x .1))
 
-  pub gives-slot : (v w : Val) → ent 𝓤 (SlotIn 𝓤 H A mem run .post (to-slot v) w) (H .⇛ (ex 𝓤 (λ (x : Answer). guard 𝓤 (Told x) (mean 𝓤 H A (told w x)))))
-  gives-slot v w = answers 𝓤 H A W (mean 𝓤 H A tokens) (λ (r : Refusal). sem 𝓤 H A (Re.the-row .own r (w ∷ []))) (lasts slot-in.ended (α ∷ [], (κ₁, (β ∷ [], tt))) (state, (h, (list, (codes, tt))))) (λ r (ws : Last). Told (r, ws))
+  pub gives-slot : (v w : Val) → ent 𝓤 (SlotIn 𝓤 H A mem run .post (to-slot v) w) (H .⇛ (ex 𝓤 (λ (x : Answer). guard 𝓤 (Promised x) (mean 𝓤 H A (comesBack w x)))))
+  gives-slot v w = answers 𝓤 H A W (mean 𝓤 H A tokens) (λ (r : Refusal). sem 𝓤 H A (Re.the-row .own r (w ∷ []))) (lasts slot-in.ended (α ∷ [], (κ₁, (β ∷ [], tt))) (state, (h, (list, (codes, tt))))) (λ r (ws : Last). Promised (r, ws))
