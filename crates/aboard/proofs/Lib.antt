@@ -1,5 +1,5 @@
 pub mod BoxLoop
-pub mod Lending
+pub mod Walks
 pub mod RefusedSlots
 pub mod Same
 pub mod Wrong

@@ -4,7 +4,7 @@ pub mod BoxAnswers
 pub mod Calls
 pub mod Copies
 pub mod Fields
-pub mod Following
+pub mod ListCalls
 pub mod Refusals
 pub mod Meaning
 pub mod NumberAnswers

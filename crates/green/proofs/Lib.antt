@@ -14,4 +14,4 @@ pub mod Slots
 pub mod Soundness
 pub mod Tallies
 pub mod Wrong
-pub mod Shut
+pub mod WrongAnswers

@@ -65,7 +65,7 @@ use Rattle.aboard.proofs.lent.box_run.Statement as stated
 use Rattle.aboard.proofs.lent.box_run.Code as code
 use Rattle.aboard.proofs.lent.box_run.Code.Mir as mir-code
 use Rattle.aboard.proofs.BoxLoop.{Begins, begins, box-begins}
-use Rattle.aboard.proofs.Lending.{shv, IsSheet}
+use Rattle.aboard.proofs.Walks.{shv, IsSheet}
 use Rattle.aboard.proofs.lent.box_run.Proof.Calls.{Passed, lv, releasesOwn, Begin, Entries, IsAccepted, to-begin, goes-begin, gives-begin}
 use Rattle.aboard.proofs.lent.box_run.Proof.Lends.{SlotIn}
 use Rattle.aboard.proofs.lent.box_run.Proof.Locals.{bev, En, HeadOf, Turn, Nearer, nearer-wf, by-number}

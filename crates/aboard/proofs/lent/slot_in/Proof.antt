@@ -59,7 +59,7 @@ use Rattle.aboard.proofs.lent.slot_in.Key.{name as #slot-in}
 use Rattle.aboard.proofs.lent.slot_in as slot-in
 use Rattle.aboard.proofs.lent.slot_in.Statement as stated
 use Rattle.aboard.proofs.lent.slot_in.Code as code
-use Rattle.aboard.proofs.Lending.{stv, shv, rev, IsSheet, IsRefusal}
+use Rattle.aboard.proofs.Walks.{stv, shv, rev, IsSheet, IsRefusal}
 use Rattle.aboard.proofs.lent.slot_in.Proof.Called.{BySlot, Passed, lv, Answer, codesOf, tokens, to-slot, goes-slot, Promised, comesBack, gives-slot}
 mod Called
 

@@ -41,7 +41,7 @@ use Rattle.aboard.specs.Lent.{beginningOf, beginning}
 use Rattle.aboard.proofs.lent.Begun as Be
 use Rattle.aboard.proofs.lent.begin as begin
 use Rattle.aboard.proofs.lent.entries as entries
-use Rattle.aboard.proofs.Lending.{shv, rev, IsSheet, IsRefusal, answers-only}
+use Rattle.aboard.proofs.Walks.{shv, rev, IsSheet, IsRefusal, answers-only}
 
 -- what the loop is passed: the lifetimes of the releases and of the codes, a share of each one's token, the sheet, the releases and the codes
 pub record Passed : Type 0 where

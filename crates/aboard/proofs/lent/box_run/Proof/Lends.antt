@@ -34,7 +34,7 @@ use Rattle.states.specs.Values.{held}
 use Rattle.aboard.specs.Lent.{slottedIn}
 use Rattle.states.proofs.state.State as St
 use Rattle.aboard.proofs.lent.slot_in as slot-in
-use Rattle.aboard.proofs.Lending.{shv, IsSheet, answers}
+use Rattle.aboard.proofs.Walks.{shv, IsSheet, answers}
 use Rattle.aboard.proofs.lent.box_run.Proof.Calls.{Passed, lv, releasesOwn}
 
 abbrev pub SlotIn : {M : Type 1} (𝓤 : URA M) (H : Heap 𝓤) (A : Atoms 𝓤) (mem : Memory → SProp 𝓤) (run : Routine → Fun 𝓤) → Contract 𝓤

@@ -45,7 +45,7 @@ use Rattle.aboard.proofs.lent.Begun as Be
 use Rattle.aboard.proofs.lent.entries.Symbol.{name as #entries}
 use Rattle.aboard.proofs.lent.slot_in.Symbol.{name as #slot-in}
 use Rattle.aboard.proofs.BoxLoop.{Begins, Place, place-of, slot-at-is}
-use Rattle.aboard.proofs.Lending.{stv, IsSheet, IsState, codesAt, bare, lends-state, state-back, lends-codes}
+use Rattle.aboard.proofs.Walks.{stv, IsSheet, IsState, codesAt, bare, lends-state, state-back, lends-codes}
 use Rattle.aboard.proofs.lent.box_run.Code.Mir as mir-code
 use Rattle.aboard.proofs.lent.box_run.Proof.Calls.{Passed, releasesOwn, Entries, IsAccepted, to-entries, goes-entries, gives-entries}
 use Rattle.aboard.proofs.lent.box_run.Proof.Lends.{SlotIn, Answer, stateOf, codesOf, Promised, comesBack, to-slot, goes-slot, gives-slot}

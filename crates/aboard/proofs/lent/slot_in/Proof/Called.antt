@@ -31,7 +31,7 @@ use Rattle.machine.specs.Answers.{slot as the-slot}
 use Rattle.states.proofs.state.State as St
 use Rattle.states.proofs.slots.Slotted as Sl
 use Rattle.states.proofs.state.State.slot as slot
-use Rattle.aboard.proofs.Lending.{stv, shv, answers}
+use Rattle.aboard.proofs.Walks.{stv, shv, answers}
 
 abbrev pub BySlot : {M : Type 1} (𝓤 : URA M) (H : Heap 𝓤) (A : Atoms 𝓤) (mem : Memory → SProp 𝓤) (run : Routine → Fun 𝓤) → Contract 𝓤
 BySlot 𝓤 H A mem run = tripleOf 𝓤 H A slot.signature (slot.spec 𝓤 H A mem run)
