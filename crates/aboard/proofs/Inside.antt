@@ -1,2 +1,2 @@
 pub mod BoxLoop
-pub mod Lending
+pub mod Walks

@@ -1,5 +1,5 @@
 pub mod Back
-pub mod Following
+pub mod ListCalls
 pub mod Refusals
 pub mod Meaning
 pub mod Same

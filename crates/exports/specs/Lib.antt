@@ -1,5 +1,5 @@
 pub mod Answers
-pub mod Following
+pub mod ListCalls
 pub mod Further
 pub mod Wrong
 pub mod WrongFurther

@@ -8,5 +8,5 @@ pub mod Sheets
 pub mod Slots
 pub mod Soundness
 pub mod Wrong
-pub mod Shut
+pub mod WrongAnswers
 pub mod Inside

@@ -56,8 +56,8 @@ use Rattle.aboard.proofs.lent.slot_in.Key.{name as #slot-in}
 use Rattle.aboard.proofs.lent.slot_in as slot-in
 use Rattle.aboard.proofs.lent.slot_in.Statement as stated
 use Rattle.aboard.proofs.lent.slot_in.Code as code
-use Rattle.aboard.proofs.Inside.Lending.{stv, shv, rev, IsSheet, IsRefusal}
-use Rattle.aboard.proofs.lent.slot_in.Proof.Called.{BySlot, Passed, lv, Answer, codesOf, tokens, to-slot, goes-slot, Told, told, gives-slot}
+use Rattle.aboard.proofs.Inside.Walks.{stv, shv, rev, IsSheet, IsRefusal}
+use Rattle.aboard.proofs.lent.slot_in.Proof.Called.{BySlot, Passed, lv, Answer, codesOf, tokens, to-slot, goes-slot, Promised, comesBack, gives-slot}
 mod Called
 
 abbrev stayed : Stays (slot-in.ended .signature .params) (slot-in.ended .kept)
@@ -109,7 +109,7 @@ module _ {M : Type 1} (𝓤 : URA M) (H : Heap 𝓤) (A : Atoms 𝓤) (W : Given
         move ! (5 ∷ 1 ∷ 6 ∷ []) $ use3 W (raw (BySlot 𝓤 H A mem run .pre (to-slot 𝓤 H A W mem run p))) (goes-slot 𝓤 H A W mem run p) $
         -- [what the callee asks; the state's cell; the open borrow; obs; auth; _8; …]
         calls-at ! fm (BySlot 𝓤 H A mem run) known (to-slot 𝓤 H A W mem run p) (and-then ! (load ! (from ! (stop !)) (look ! 9 refl)) (and-then ! (load ! (from ! (stop !)) (look ! 17 refl)) (and-then ! (load ! (from ! (stop !)) (look ! 15 refl)) (and-then ! (load ! (from ! (stop !)) (look ! 5 refl)) (no-more !))))) (λ w.
-        use1 W (later (some (λ (x : Answer). given (Told 𝓤 H A W mem run p x) (told 𝓤 H A W mem run p w x)))) (gives-slot 𝓤 H A W mem run p w) $ await ! tt $ pick ! (λ x. learn ! (λ e. split3 ! $ move ! (2 ∷ []) $
+        use1 W (later (some (λ (x : Answer). given (Promised 𝓤 H A W mem run p x) (comesBack 𝓤 H A W mem run p w x)))) (gives-slot 𝓤 H A W mem run p w) $ await ! tt $ pick ! (λ x. learn ! (λ e. split3 ! $ move ! (2 ∷ []) $
         fsplit ! $ drop ! $ fsplit ! $ drop ! $ fsplit ! $ drop ! $ fsplit ! $ fsplit ! $ move ! (1 ∷ []) $ feqL ! (λ l. move ! (3 ∷ 2 ∷ 0 ∷ 1 ∷ []) $
         -- [the answer; the tokens; the codes' last list; true; the state's cell; the open borrow; obs; auth; _8; …]
         peeks ! Sl.the-row (Is Sl.the-row) (shows 𝓤 H A Sl.the-row) (x .0) (w ∷ []) (λ is.

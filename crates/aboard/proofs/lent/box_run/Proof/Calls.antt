@@ -1,4 +1,4 @@
--- The calls of the box's own loop but for the slot: what each asks for, of what the loop has, and what it has told once it has returned.
+-- The calls of the box's own loop but for the slot: what each asks for, of what the loop has, and what it has comesBack once it has returned.
 -- Assumes `Given`.
 use Rattle.basis.specs.Prelude.{_≡_, refl, ℕ, _+_, _≤_, _<_, _^_, Bool, List, [], _∷_}
 use lib.ListN.{length, take, drop as drop-list}
@@ -38,7 +38,7 @@ use Rattle.aboard.specs.Lent.{beginningOf, beginning}
 use Rattle.aboard.proofs.lent.Begun as Be
 use Rattle.aboard.proofs.lent.begin as begin
 use Rattle.aboard.proofs.lent.entries as entries
-use Rattle.aboard.proofs.Inside.Lending.{shv, rev, IsSheet, IsRefusal, answers-only}
+use Rattle.aboard.proofs.Inside.Walks.{shv, rev, IsSheet, IsRefusal, answers-only}
 
 -- what the loop is passed: the lifetimes of the releases and of the codes, a share of each one's token, the sheet, the releases and the codes
 pub record Passed : Type 0 where

@@ -35,7 +35,7 @@ use Rattle.aboard.specs.Lent.{slottedIn}
 use Rattle.aboard.proofs.lent.Begun as Be
 use Rattle.aboard.proofs.lent.Begun.Laws as Be′
 use Rattle.aboard.proofs.Inside.BoxLoop.{Begins, box-goes-on, box-stops, box-ends}
-use Rattle.aboard.proofs.Inside.Lending.{IsState, IsRefusal}
+use Rattle.aboard.proofs.Inside.Walks.{IsState, IsRefusal}
 use Rattle.aboard.proofs.lent.box_run.Code.Mir as mir-code
 use Rattle.aboard.proofs.lent.box_run.Proof.Calls.{Passed, IsAccepted, to-accepted, goes-accepted, gives-accepted}
 use Rattle.aboard.proofs.lent.box_run.Proof.Locals.{bev, Turn, Nearer, En, Head, HeadOf}

@@ -41,10 +41,10 @@ use Rattle.aboard.proofs.lent.Begun as Be
 use Rattle.aboard.proofs.lent.entries.Symbol.{name as #entries}
 use Rattle.aboard.proofs.lent.slot_in.Symbol.{name as #slot-in}
 use Rattle.aboard.proofs.Inside.BoxLoop.{Begins, Place, place-of, slot-at-is}
-use Rattle.aboard.proofs.Inside.Lending.{stv, IsSheet, IsState, codesAt, bare, lends-state, state-back, lends-codes}
+use Rattle.aboard.proofs.Inside.Walks.{stv, IsSheet, IsState, codesAt, bare, lends-state, state-back, lends-codes}
 use Rattle.aboard.proofs.lent.box_run.Code.Mir as mir-code
 use Rattle.aboard.proofs.lent.box_run.Proof.Calls.{Passed, releasesOwn, Entries, IsAccepted, to-entries, goes-entries, gives-entries}
-use Rattle.aboard.proofs.lent.box_run.Proof.Lends.{SlotIn, Answer, stateOf, codesOf, Told, told, to-slot, goes-slot, gives-slot}
+use Rattle.aboard.proofs.lent.box_run.Proof.Lends.{SlotIn, Answer, stateOf, codesOf, Promised, comesBack, to-slot, goes-slot, gives-slot}
 use Rattle.aboard.proofs.lent.box_run.Proof.Locals.{bev, word, Turn, En, HeadOf}
 use Rattle.aboard.proofs.lent.box_run.Proof.Judges.{Turned, no-slot, judges}
 
@@ -118,7 +118,7 @@ module _ {M : Type 1} (𝓤 : URA M) (H : Heap 𝓤) (A : Atoms 𝓤) (W : Given
         move ! (5 ∷ 3 ∷ []) $ join ! $ move ! (1 ∷ 2 ∷ 0 ∷ []) $
         use3 W (raw (SlotIn 𝓤 H A mem run .pre (to-slot 𝓤 H A W mem run p α β (stateAt γ₁) r (codesFrom γ₂) partv))) (goes-slot 𝓤 H A W mem run p α β (stateAt γ₁) r (codesFrom γ₂) partv gh) $
         calls-at ! fm (SlotIn 𝓤 H A mem run) known-slot (to-slot 𝓤 H A W mem run p α β (stateAt γ₁) r (codesFrom γ₂) partv) (and-then ! (load ! (from ! (stop !)) (look ! 18 refl)) (and-then ! (load ! (from ! (stop !)) (look ! 41 refl)) (and-then ! (load ! (from ! (stop !)) (look ! 24 refl)) (and-then ! (load ! (from ! (stop !)) (look ! 10 refl)) (no-more !))))) (λ w′.
-        use1 W (later (some (λ (x : Answer). given (Told 𝓤 H A W mem run p α β (stateAt γ₁) r (codesFrom γ₂) x) (told 𝓤 H A W mem run p α β (stateAt γ₁) r (codesFrom γ₂) w′ x)))) (gives-slot 𝓤 H A W mem run p α β (stateAt γ₁) r (codesFrom γ₂) partv w′) $ await ! tt $ pick ! (λ x. learn ! (λ e.
+        use1 W (later (some (λ (x : Answer). given (Promised 𝓤 H A W mem run p α β (stateAt γ₁) r (codesFrom γ₂) x) (comesBack 𝓤 H A W mem run p α β (stateAt γ₁) r (codesFrom γ₂) w′ x)))) (gives-slot 𝓤 H A W mem run p α β (stateAt γ₁) r (codesFrom γ₂) partv w′) $ await ! tt $ pick ! (λ x. learn ! (λ e.
         split3 ! $ move ! (2 ∷ []) $ fsplit ! $ move ! (1 ∷ []) $ fsplit ! $ drop ! $ fsplit ! $ drop ! $ fsplit ! $ fsplit ! $ move ! (1 ∷ []) $ drop ! $ move ! (1 ∷ []) $ drop ! $
         -- [the codes' last list; the state's last; the tokens; the answer; the state's way back; what is kept of the codes; the releases; _20; …]
         -- both lifetimes end, and the state and the codes come back

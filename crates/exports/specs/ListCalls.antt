@@ -12,20 +12,45 @@ pub data ListCall : Type 0 where
   one-slot : List ℕ → List ℕ → ListCall
   a-run : List ℕ → List ℕ → ListCall
 
+-- What the answers of these calls hold: the number that is told,
+abbrev pub numberTold : {A : Type 0} → (ℕ × ℕ) × A → ℕ
+numberTold a = a .0 .0
+
+-- the list after a fresh,
+abbrev pub listOfFresh : (ℕ × ℕ) × List ℕ → List ℕ
+listOfFresh a = a .1
+
+-- the list and the codes after a slot,
+abbrev pub listOfSlot : (ℕ × ℕ) × (List ℕ × List ℕ) → List ℕ
+listOfSlot a = a .1 .0
+
+abbrev pub codesOfSlot : (ℕ × ℕ) × (List ℕ × List ℕ) → List ℕ
+codesOfSlot a = a .1 .1
+
+-- and the slots done, the list and the codes after a run.
+abbrev pub doneOfRun : (ℕ × ℕ) × (ℕ × (List ℕ × List ℕ)) → ℕ
+doneOfRun a = a .1 .0
+
+abbrev pub listOfRun : (ℕ × ℕ) × (ℕ × (List ℕ × List ℕ)) → List ℕ
+listOfRun a = a .1 .1 .0
+
+abbrev pub codesOfRun : (ℕ × ℕ) × (ℕ × (List ℕ × List ℕ)) → List ℕ
+codesOfRun a = a .1 .1 .1
+
 -- The list after a call: what `giachimu_fresh`, `giachimu_slot` or `giachimu_run` has made of it.
 abbrev pub listAfter : List ℕ → List ℕ → ListCall → List ℕ
-listAfter sheet list make-fresh = freshIn sheet list .1
-listAfter sheet list (one-slot releases codes) = slotOn sheet list releases codes .1 .0
-listAfter sheet list (a-run releases codes) = runOn sheet list releases codes .1 .1 .0
+listAfter sheet list make-fresh = listOfFresh (freshIn sheet list)
+listAfter sheet list (one-slot releases codes) = listOfSlot (slotOn sheet list releases codes)
+listAfter sheet list (a-run releases codes) = listOfRun (runOn sheet list releases codes)
 
 -- The accepted slots since fresh after a call, where it found these: an accepted fresh, which tells 0, begins anew; an accepted slot is one more; and of a run there are as
 -- many more as it tells were done.
 abbrev pub slotsAfter : List ℕ → List ℕ → List Done → ListCall → List Done
-slotsAfter sheet list found make-fresh = pick (eqb (freshIn sheet list .0 .0) 0) [] found
+slotsAfter sheet list found make-fresh = pick (eqb (numberTold (freshIn sheet list)) 0) [] found
 slotsAfter sheet list found (one-slot releases codes) =
-    found ++ pick (eqb (slotOn sheet list releases codes .0 .0) 0) (record { releases = releases; codes = take (sheetIn sheet .count) (slotOn sheet list releases codes .1 .1) } ∷ []) []
+    found ++ pick (eqb (numberTold (slotOn sheet list releases codes)) 0) (record { releases = releases; codes = take (sheetIn sheet .count) (codesOfSlot (slotOn sheet list releases codes)) } ∷ []) []
 slotsAfter sheet list found (a-run releases codes) =
-    found ++ runDone (sheetIn sheet .count) releases (runOn sheet list releases codes .1 .1 .1) (runOn sheet list releases codes .1 .0)
+    found ++ runDone (sheetIn sheet .count) releases (codesOfRun (runOn sheet list releases codes)) (doneOfRun (runOn sheet list releases codes))
 
 -- The accepted slots since fresh after some calls.
 unfoldable pub sinceFresh : List ℕ → List ℕ → List Done → List ListCall → List Done
@@ -35,4 +60,4 @@ sinceFresh sheet list found (c ∷ cs) = sinceFresh sheet (listAfter sheet list 
 -- Demand 3 of a sheet's list: from an accepted fresh on any list, whatever calls follow on it, each job is finished within its row's bound, and no deadline is missed.
 abbrev pub NoListedJobIsLate : List ℕ → Type 0
 NoListedJobIsLate sheet =
-    (list : List ℕ) → freshIn sheet list .0 .0 ≡ 0 → (calls : List ListCall) → InTime (sheetIn sheet) (sheetIn sheet .count) (sinceFresh sheet (freshIn sheet list .1) [] calls)
+    (list : List ℕ) → numberTold (freshIn sheet list) ≡ 0 → (calls : List ListCall) → InTime (sheetIn sheet) (sheetIn sheet .count) (sinceFresh sheet (listOfFresh (freshIn sheet list)) [] calls)

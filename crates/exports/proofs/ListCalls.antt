@@ -16,7 +16,7 @@ use Rattle.green.specs.Calls.{Call, Done, slotsOf, stateAfter, history, stateAf
 use Rattle.green.specs.Calls as by-value
 use Rattle.green.specs.Demand.{InTime, NoJobIsLate}
 use Rattle.exports.specs.Answers.{told, readIn, freshIn, slotOn, runOn}
-use Rattle.exports.specs.Following.{ListCall, make-fresh, one-slot, a-run, listAfter, slotsAfter, sinceFresh, NoListedJobIsLate}
+use Rattle.exports.specs.ListCalls.{ListCall, make-fresh, one-slot, a-run, listAfter, slotsAfter, sinceFresh, NoListedJobIsLate}
 use Rattle.exports.proofs.Refusals.{refused-fresh-changes-nothing}
 use Rattle.exports.proofs.Back.{read-comes-back}
 
