@@ -56,8 +56,8 @@ entries-legal m (suc n) i s at es f e h =
 
 -- the rows of the sheet by value are those that were read, and zeros past them
 module _ (h : Held) where
-  pub row-read : (i : ℕ) → i < length (h .entries) → rowAt (sheetHeld h) i ≡ getD (map entryRow (h .entries)) i noRow
-  row-read i l = List·getD-append (map entryRow (h .entries)) _ noRow i (omega (arith, length-map (h .entries) entryRow))
+  pub row-held : (i : ℕ) → i < length (h .entries) → rowAt (sheetHeld h) i ≡ getD (map entryRow (h .entries)) i noRow
+  row-held i l = List·getD-append (map entryRow (h .entries)) _ noRow i (omega (arith, length-map (h .entries) entryRow))
 
   pub zero-past : ZeroPast (sheetHeld h)
   zero-past i l =
@@ -85,7 +85,7 @@ read-is-legal s h n e =
       most-rows = omega (arith, nb .not-over, w .many);
       rows = λ i l.
           subst (λ (m : ℕ). LegalRow m (rowAt (sheetHeld h) i)) (w .wide)
-          (subst (LegalRow (w .top .processors)) (sym (row-read h i l))
+          (subst (LegalRow (w .top .processors)) (sym (row-held h i l))
           (entries-legal (w .top .processors) (w .top .count) i s (w .from) (h .entries) (w .to) (w .all) (omega (arith, w .many))));
     }
 

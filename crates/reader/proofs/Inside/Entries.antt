@@ -50,9 +50,9 @@ through f (refuse k p) K K′ h = refl
 
 -- a label, and the numbers after it
 module _ (m : ℕ) (s : List ℕ) (at : ℕ) (r₀ : LabelRead) (e₀ : labelStep r₀ ≡ mapStep length (label s at)) where
-  pub no-label : (k p : ℕ) → r₀ ≡ label-variants.Refused k p → refuse k p ≡ mapStep entryRow (entry m s at)
+  pub entry-no-label : (k p : ℕ) → r₀ ≡ label-variants.Refused k p → refuse k p ≡ mapStep entryRow (entry m s at)
   unfolding entryBy mapStep
-  no-label k p g = simp (map-step-no length (label s at) (got labelStep e₀ g))
+  entry-no-label k p g = simp (map-step-no length (label s at) (got labelStep e₀ g))
 
   module _ (w : Part) (a : ℕ) (g₀ : r₀ ≡ label-variants.Is w a) (x : RowRead) (q : rowStep x ≡ numbers m s a) where
     after-label : numbers m s a ≡ mapStep entryRow (entry m s at)
@@ -63,8 +63,8 @@ module _ (m : ℕ) (s : List ℕ) (at : ℕ) (r₀ : LabelRead) (e₀ : labelSte
         (through entryRow (upTo m 7 8 s a) _ _ λ t b. through entryRow (upTo mostSeparation 7 8 s b) _ _ λ T c.
         through entryRow (upTo T 7 8 s c) _ _ λ D d. through entryRow (upTo D 7 8 s d) _ _ λ C f. refl))
 
-    pub no-numbers : (k p : ℕ) → x ≡ row-variants.Refused k p → refuse k p ≡ mapStep entryRow (entry m s at)
-    no-numbers k p g = sym (got rowStep q g) ∙ after-label
+    pub entry-no-numbers : (k p : ℕ) → x ≡ row-variants.Refused k p → refuse k p ≡ mapStep entryRow (entry m s at)
+    entry-no-numbers k p g = sym (got rowStep q g) ∙ after-label
 
     pub whole-entry : (r : Row) (f : ℕ) → x ≡ row-variants.Is r f → ok r f ≡ mapStep entryRow (entry m s at)
     whole-entry r f g = sym (got rowStep q g) ∙ after-label

@@ -21,7 +21,7 @@ use Rattle.reader.specs.declared.head.HeadRead.the-variants as head-vari
 use Rattle.reader.specs.declared.row.Part.{Part}
 use Rattle.reader.specs.declared.row.Passed.{Passed}
 use Rattle.reader.specs.declared.row.Passed.the-variants as passed-variants
-use Rattle.reader.proofs.LegalSheets.{row-read}
+use Rattle.reader.proofs.LegalSheets.{row-held}
 use Rattle.reader.proofs.Inside.LabelPlaces.{entries-length, row-was-read}
 use Rattle.reader.proofs.Inside.Heads.{headed}
 
@@ -90,7 +90,7 @@ module _ (s : List ℕ) (m n at : ℕ) (e : head s 0 ≡ ok (headOf m n) at) whe
 
         row-is : (k : ℕ) → k < n → rowAfter m s at k ≡ rowAt (sheetHeld this) k
         unfolding this
-        row-is k h = row-was-read m n k s at es next ee h ∙ sym (row-read (record { processors = m; entries = es }) k (omega (arith, many)))
+        row-is k h = row-was-read m n k s at es next ee h ∙ sym (row-held (record { processors = m; entries = es }) k (omega (arith, many)))
 
         label-is : (k : ℕ) → k < n → labelAfter m s at k ≡ labelIn s k
         unfolding labelIn labelHead labelAfter labelFrom

@@ -102,9 +102,9 @@ module _ (m n : ℕ) (s : List ℕ) (at i next : ℕ) (so-far : mapStep nothing 
     parts-put b b₀ e = e ∙ ap (λ (j : ℕ). partsIn m s at j b₀) (le-antisymm h g)
 
 -- the lists are as long as they were
-pub rows-long : (m n : ℕ) (s : List ℕ) (at i : ℕ) (l l₀ : List ℕ) → l ≡ rowsIn m n s at i (begunList m n l₀) → length l ≡ length l₀
+pub list-long : (m n : ℕ) (s : List ℕ) (at i : ℕ) (l l₀ : List ℕ) → l ≡ rowsIn m n s at i (begunList m n l₀) → length l ≡ length l₀
 unfolding rowsIn
-rows-long m n s at i l l₀ e = ap length e ∙ length-upto (sheetLong i) _ (begunList m n l₀) ∙ simp length-set refl
+list-long m n s at i l l₀ e = ap length e ∙ length-upto (sheetLong i) _ (begunList m n l₀) ∙ simp length-set refl
 
 pub parts-long : (m : ℕ) (s : List ℕ) (at i : ℕ) (b b₀ : List ℕ) → b ≡ partsIn m s at i b₀ → length b ≡ length b₀
 unfolding partsIn
@@ -112,7 +112,7 @@ parts-long m s at i b b₀ e = ap length e ∙ length-upto (labelsLong i) _ b₀
 
 -- there is room for a row more
 pub row-room : (m n : ℕ) (s : List ℕ) (at i : ℕ) (l l₀ : List ℕ) → l ≡ rowsIn m n s at i (begunList m n l₀) → i < n → sheetLong n ≤ length l₀ → sheetLong (i + 1) ≤ length l
-row-room m n s at i l l₀ e h r = omega (arith, rows-long m n s at i l l₀ e)
+row-room m n s at i l l₀ e h r = omega (arith, list-long m n s at i l l₀ e)
 
 pub part-room : (m n : ℕ) (s : List ℕ) (at i : ℕ) (b b₀ : List ℕ) → b ≡ partsIn m s at i b₀ → i < n → labelsLong n ≤ length b₀ → labelsLong (i + 1) ≤ length b
 part-room m n s at i b b₀ e h r = omega (arith, parts-long m s at i b b₀ e)

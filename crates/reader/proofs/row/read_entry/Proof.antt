@@ -1,6 +1,6 @@
 -- `read_entry` meets its promise: a label, then the numbers. Assumes nothing.
 use Rattle.basis.specs.Prelude.{needs}
-use Rattle.reader.proofs.Inside.Entries.{no-label, no-numbers, whole-entry, entry-part}
+use Rattle.reader.proofs.Inside.Entries.{entry-no-label, entry-no-numbers, whole-entry, entry-part}
 use Rattle.reader.proofs.row.read_entry.Statement.{statement}
 use Rattle.reader.proofs.row.read_entry.Tie as tie
 
@@ -14,6 +14,6 @@ read-entry-spec =
     (λ c κs. search needs)
     (λ c. search needs)
     (λ c. search needs)
-    (λ c. (search no-label, tt))
-    (λ c. (search no-numbers, tt))
+    (λ c. (search entry-no-label, tt))
+    (λ c. (search entry-no-numbers, tt))
     (λ c. (search whole-entry, search entry-part)))

@@ -3,7 +3,7 @@ use Rattle.basis.specs.Prelude.{needs, _-_, _≤_, _≡_}
 use Rattle.basis.specs.Readers.{ok, mapStep}
 use Rattle.reader.specs.Form.{entries}
 use Rattle.reader.specs.Inside.Steps.{nothing, rowsIn, partsIn}
-use Rattle.reader.proofs.Inside.RowLoop.{none-passed, head-put, no-part-put, row-refused, one-passed, row-put, part-put, all-passed, rows-put, parts-put, rows-long, parts-long, row-room, part-room, count-inside}
+use Rattle.reader.proofs.Inside.RowLoop.{none-passed, head-put, no-part-put, row-refused, one-passed, row-put, part-put, all-passed, rows-put, parts-put, list-long, parts-long, row-room, part-room, count-inside}
 use Rattle.reader.proofs.rows.take_rows.Statement.{statement}
 use Rattle.reader.proofs.rows.take_rows.Tie as tie
 
@@ -25,7 +25,7 @@ take-rows-spec =
     (λ c. (search needs, search none-passed, search head-put, search no-part-put))
     (λ c κs. search needs)
     (λ c. search needs)
-    (λ c. search rows-long)
+    (λ c. search list-long)
     (λ c. search parts-long)
     (λ c. (search row-refused, tt))
     (λ c. search needs)
@@ -34,6 +34,6 @@ take-rows-spec =
     (λ c. search needs)
     (λ c. search needs)
     (λ c. (search needs, search one-passed, search row-put, search part-put))
-    (λ c. search rows-long)
+    (λ c. search list-long)
     (λ c. search parts-long)
     (λ c. (search all-passed, (search rows-put, search parts-put))))
