@@ -6,6 +6,7 @@ pub mod Steps
 pub mod Shares
 pub mod Carry
 pub mod FromBytes
+pub mod RowLines
 pub mod Stretches
 pub mod Meaning
 pub mod Lists

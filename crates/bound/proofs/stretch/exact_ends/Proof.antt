@@ -1,7 +1,7 @@
 -- `exact_ends` has ends whose line the row's amount is never below. Assumes nothing.
 use Rattle.basis.specs.Prelude.{needs}
 use Rattle.bound.proofs.Durations.{amount-most}
-use Rattle.bound.proofs.Stretches.{exact-meets}
+use Rattle.bound.proofs.RowLines.{exact-meets}
 use Rattle.bound.proofs.stretch.exact_ends.Statement.{statement}
 use Rattle.bound.proofs.stretch.exact_ends.Tie as tie
 

@@ -1,7 +1,7 @@
 -- `lasts` says whether the present separation lasts. Assumes nothing.
 use Rattle.basis.specs.Prelude.{needs}
 use Rattle.bound.proofs.Durations.{span-small}
-use Rattle.bound.proofs.Stretches.{lasts-fits, lasts-is}
+use Rattle.bound.proofs.RowLines.{lasts-fits, lasts-is}
 use Rattle.bound.proofs.stretch.lasts.Statement.{statement}
 use Rattle.bound.proofs.stretch.lasts.Tie as tie
 

@@ -1,7 +1,7 @@
 -- `level_ends` has ends whose line the row's amount is never below. Assumes nothing.
 use Rattle.basis.specs.Prelude.{needs}
 use Rattle.bound.proofs.Durations.{amount-most}
-use Rattle.bound.proofs.Stretches.{level-meets}
+use Rattle.bound.proofs.RowLines.{level-meets}
 use Rattle.bound.proofs.stretch.level_ends.Statement.{statement}
 use Rattle.bound.proofs.stretch.level_ends.Tie as tie
 

@@ -1,6 +1,6 @@
 -- `share_ends` has ends whose line the row's amount is never below. Assumes nothing.
 use Rattle.basis.specs.Prelude.{needs}
-use Rattle.bound.proofs.Stretches.{share-meets}
+use Rattle.bound.proofs.RowLines.{share-meets}
 use Rattle.bound.proofs.stretch.share_ends.Statement.{statement}
 use Rattle.bound.proofs.stretch.share_ends.Tie as tie
 
