@@ -4,9 +4,6 @@ use Rattle.aboard.proofs.Inside.BoxLoop.{part-of}
 use Rattle.aboard.proofs.lent.entries.Statement.{statement}
 use Rattle.aboard.proofs.lent.entries.Tie as tie
 
-returns : tie.Need-returns
-returns c = search part-of
-
 pub entries-spec : {M : Type 1} → statement M
 entries-spec =
-    tie.close (tie.spec (λ c. search needs) (λ c. search needs) (λ c. search needs) (λ c. search needs) (λ c. search needs) returns)
+    tie.close (tie.spec (λ c. search needs) (λ c. search needs) (λ c. search needs) (λ c. search needs) (λ c. search needs) (λ c. search part-of))

@@ -13,16 +13,5 @@ abbrev μ-loop : tie.MeasureT-loop
 
 pub begins-with-spec : {M : Type 1} → statement M
 begins-with-spec =
-    tie.close
-    (tie.spec
-    Inv-loop
-    μ-loop
-    (λ c. refl)
-    (λ c. search begins-short)
-    (λ c. search needs)
-    (λ c. search needs)
-    (λ c. search begins-differ)
-    (λ c. search needs)
-    (λ c. search needs)
-    (λ c. search begins-more)
-    (λ c. search begins-whole))
+    tie.close (tie.spec Inv-loop μ-loop (λ c. refl) (λ c. search begins-short) (λ c. search needs) (λ c. search needs) (λ c. search begins-differ)
+    (λ c. search needs) (λ c. search needs) (λ c. search begins-more) (λ c. search begins-whole))

@@ -6,22 +6,7 @@ use Rattle.bound.proofs.bytes.judge_bytes.Tie as tie
 
 pub judge-bytes-spec : {M : Type 1} → statement M
 judge-bytes-spec =
-    tie.close
-    (tie.spec
-    (λ c. search less-room)
-    (λ c κs. search needs)
-    (λ c. search needs)
-    (λ c. search needs)
-    (λ c κs. search needs)
-    (λ c. search rows-fit)
-    (λ c. search end-fits)
-    (λ c. search end-inside)
-    (λ c. search front-long)
-    (λ c κs. (search front-count, search front-legal, search results-fit))
-    (λ c. search needs)
-    (λ c. search needs)
-    (λ c. search not-read)
-    (λ c. search needs)
-    (λ c. search needs)
-    (λ c. search needs)
-    (λ c. search read-and-judged))
+    tie.close (tie.spec (λ c. search less-room) (λ c κs. search needs) (λ c. search needs) (λ c. search needs) (λ c κs. search needs)
+    (λ c. search rows-fit) (λ c. search end-fits) (λ c. search end-inside) (λ c. search front-long)
+    (λ c κs. (search front-count, search front-legal, search results-fit)) (λ c. search needs) (λ c. search needs) (λ c. search not-read)
+    (λ c. search needs) (λ c. search needs) (λ c. search needs) (λ c. search read-and-judged))

@@ -4,19 +4,5 @@ use Rattle.bound.proofs.Inside.Rows.{ready, judged-reached, judged-unre
 use Rattle.bound.proofs.judge.judge_row.Statement.{statement}
 use Rattle.bound.proofs.judge.judge_row.Tie as tie
 
-bound-of-requires : tie.Need-bound-of-requires
-bound-of-requires c κs = (search needs, search ready)
-
-returns : tie.Need-returns
-returns c = search judged-reached
-
-returns-2 : tie.Need-returns-2
-returns-2 c = search judged-unreached
-
 pub judge-row-spec : {M : Type 1} → statement M
-judge-row-spec =
-    tie.close
-    (tie.spec
-    bound-of-requires
-    returns
-    returns-2)
+judge-row-spec = tie.close (tie.spec (λ c κs. (search needs, search ready)) (λ c. search judged-reached) (λ c. search judged-unreached))

@@ -14,33 +14,9 @@ Inv-loop sheet results₀ n reached₀ i₀ results reached i = (i ≤ n) × (n 
 abbrev μ-loop : tie.MeasureT-loop
 μ-loop sheet results₀ n reached₀ i₀ results reached i = n - i
 
-loop-holds : tie.Need-loop-holds Inv-loop μ-loop
-loop-holds c = (search needs, search needs, search legal-is, search lists-are-lent, search so-far-none)
-
-judge-row-requires : tie.Need-judge-row-requires Inv-loop μ-loop
-judge-row-requires c κs = (search needs, search needs, search needs, search (rows-above, needs))
-
-loop-again : tie.Need-loop-again Inv-loop μ-loop
-loop-again c = (search needs, search needs, search needs, search still-lent, search so-far-more)
-
-same-length : tie.Need-same-length Inv-loop μ-loop
-same-length c = search so-far-long
-
-returns : tie.Need-returns Inv-loop μ-loop
-returns c = (search holds-told, search results-put)
-
 pub judge-rows-spec : {M : Type 1} → statement M
 judge-rows-spec =
-    tie.close
-    (tie.spec
-    Inv-loop
-    μ-loop
-    loop-holds
-    judge-row-requires
-    (λ c κs. search needs)
-    (λ c κs. search needs)
-    (λ c. search needs)
-    (λ c. search needs)
-    loop-again
-    same-length
-    returns)
+    tie.close (tie.spec Inv-loop μ-loop (λ c. (search needs, search needs, search legal-is, search lists-are-lent, search so-far-none))
+    (λ c κs. (search needs, search needs, search needs, search (rows-above, needs))) (λ c κs. search needs) (λ c κs. search needs)
+    (λ c. search needs) (λ c. search needs) (λ c. (search needs, search needs, search needs, search still-lent, search so-far-more))
+    (λ c. search so-far-long) (λ c. (search holds-told, search results-put)))

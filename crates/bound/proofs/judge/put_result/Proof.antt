@@ -4,24 +4,7 @@ use Rattle.bound.proofs.Lists.{second-place-there, result-put}
 use Rattle.bound.proofs.judge.put_result.Statement.{statement}
 use Rattle.bound.proofs.judge.put_result.Tie as tie
 
-slice-write-results-2 : tie.Need-slice-write-results-2
-slice-write-results-2 c = search second-place-there
-
-returns : tie.Need-returns
-returns c = search result-put
-
 pub put-result-spec : {M : Type 1} → statement M
 put-result-spec =
-    tie.close
-    (tie.spec
-    (λ c κs. search needs)
-    (λ c. search needs)
-    (λ c. search needs)
-    (λ c. search needs)
-    (λ c κs. search needs)
-    (λ c. search needs)
-    (λ c. search needs)
-    (λ c. search needs)
-    slice-write-results-2
-    (λ c. search needs)
-    returns)
+    tie.close (tie.spec (λ c κs. search needs) (λ c. search needs) (λ c. search needs) (λ c. search needs) (λ c κs. search needs)
+    (λ c. search needs) (λ c. search needs) (λ c. search needs) (λ c. search second-place-there) (λ c. search needs) (λ c. search result-put))

@@ -4,11 +4,5 @@ use Rattle.bound.proofs.Paces.{join-none, join-more}
 use Rattle.bound.proofs.pace.joined.Statement.{statement}
 use Rattle.bound.proofs.pace.joined.Tie as tie
 
-returns : tie.Need-returns
-returns c = search join-none
-
-returns-2 : tie.Need-returns-2
-returns-2 c = search join-more
-
 pub joined-spec : {M : Type 1} → statement M
-joined-spec = tie.close (tie.spec returns (λ c κs. search needs) (λ c. search needs) returns-2)
+joined-spec = tie.close (tie.spec (λ c. search join-none) (λ c κs. search needs) (λ c. search needs) (λ c. search join-more))

@@ -4,11 +4,5 @@ use Rattle.bound.proofs.Steps.{steep-whole, steep-part}
 use Rattle.bound.proofs.pace.steep.Statement.{statement}
 use Rattle.bound.proofs.pace.steep.Tie as tie
 
-returns : tie.Need-returns
-returns c = search steep-whole
-
-returns-2 : tie.Need-returns-2
-returns-2 c = search steep-part
-
 pub steep-spec : {M : Type 1} → statement M
-steep-spec = tie.close (tie.spec returns (λ c. search needs) (λ c κs. search needs) (λ c κs. search needs) returns-2)
+steep-spec = tie.close (tie.spec (λ c. search steep-whole) (λ c. search needs) (λ c κs. search needs) (λ c κs. search needs) (λ c. search steep-part))

@@ -5,18 +5,7 @@ use Rattle.bound.proofs.Inside.Rows.{answered}
 use Rattle.bound.proofs.results.bounds.Statement.{statement}
 use Rattle.bound.proofs.results.bounds.Tie as tie
 
-returns : tie.Need-returns
-returns c = search (answered, unmapped, needs)
-
 pub bounds-spec : {M : Type 1} → statement M
 bounds-spec =
-    tie.close
-    (tie.spec
-    (λ c. search needs)
-    (λ c κs. search needs)
-    (λ c. search needs)
-    (λ c. search needs)
-    (λ c κs. search needs)
-    (λ c. search needs)
-    (λ c κs. search needs)
-    returns)
+    tie.close (tie.spec (λ c. search needs) (λ c κs. search needs) (λ c. search needs) (λ c. search needs) (λ c κs. search needs)
+    (λ c. search needs) (λ c κs. search needs) (λ c. search (answered, unmapped, needs)))

@@ -18,23 +18,7 @@ loop-holds : tie.Need-loop-holds Inv-loop μ-loop
 unfolding upto
 loop-holds c = (search needs, refl)
 
-loop-again : tie.Need-loop-again Inv-loop μ-loop
-loop-again c = (search needs, search rows-more)
-
-returns : tie.Need-returns Inv-loop μ-loop
-returns c = search rows-done
-
 pub results-of-spec : {M : Type 1} → statement M
 results-of-spec =
-    tie.close
-    (tie.spec
-    Inv-loop
-    μ-loop
-    loop-holds
-    (λ c κs. search needs)
-    (λ c. search needs)
-    (λ c. search needs)
-    (λ c. search needs)
-    (λ c. search needs)
-    loop-again
-    returns)
+    tie.close (tie.spec Inv-loop μ-loop loop-holds (λ c κs. search needs) (λ c. search needs) (λ c. search needs) (λ c. search needs)
+    (λ c. search needs) (λ c. (search needs, search rows-more)) (λ c. search rows-done))

@@ -4,27 +4,8 @@ use Rattle.sheet.proofs.Inside.Places.{numbers-handed}
 use Rattle.bound.proofs.row.row_inside.Statement.{statement}
 use Rattle.bound.proofs.row.row_inside.Tie as tie
 
-returns : tie.Need-returns
-returns c = search numbers-handed
-
 pub row-inside-spec : {M : Type 1} → statement M
 row-inside-spec =
-    tie.close
-    (tie.spec
-    (λ c. search needs)
-    (λ c. search needs)
-    (λ c. search needs)
-    (λ c. search needs)
-    (λ c. search needs)
-    (λ c. search needs)
-    (λ c. search needs)
-    (λ c. search needs)
-    (λ c. search needs)
-    (λ c. search needs)
-    (λ c. search needs)
-    (λ c. search needs)
-    (λ c. search needs)
-    (λ c. search needs)
-    (λ c. search needs)
-    (λ c. search needs)
-    returns)
+    tie.close (tie.spec (λ c. search needs) (λ c. search needs) (λ c. search needs) (λ c. search needs) (λ c. search needs) (λ c. search needs)
+    (λ c. search needs) (λ c. search needs) (λ c. search needs) (λ c. search needs) (λ c. search needs) (λ c. search needs) (λ c. search needs)
+    (λ c. search needs) (λ c. search needs) (λ c. search needs) (λ c. search numbers-handed))

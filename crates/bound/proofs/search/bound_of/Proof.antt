@@ -17,42 +17,9 @@ Inv-loop sheet results k deadline at₀ at =
 abbrev μ-loop : tie.MeasureT-loop
 μ-loop sheet results k deadline at₀ at = rowAt (sheetIn sheet) k .deadline + 1 - at .length .0
 
-loop-holds : tie.Need-loop-holds Inv-loop μ-loop
-loop-holds c = (search needs, search search-starts)
-
-try-length-requires : tie.Need-try-length-requires Inv-loop μ-loop
-try-length-requires c κs = (search needs, search needs, search length-of-row)
-
-returns : tie.Need-returns Inv-loop μ-loop
-returns c = search search-found
-
-further-requires : tie.Need-further-requires Inv-loop μ-loop
-further-requires c κs = (search needs, search needs, search length-of-row, search told-next)
-
-loop-less : tie.Need-loop-less Inv-loop μ-loop
-loop-less c = search (search-less, le-of-lt)
-
-loop-again : tie.Need-loop-again Inv-loop μ-loop
-loop-again c = (search search-low, search search-more)
-
-returns-2 : tie.Need-returns-2 Inv-loop μ-loop
-returns-2 c = search search-ends
-
 pub bound-of-spec : {M : Type 1} → statement M
 bound-of-spec =
-    tie.close
-    (tie.spec
-    Inv-loop
-    μ-loop
-    (λ c κs. search needs)
-    (λ c κs. search needs)
-    (λ c. search needs)
-    loop-holds
-    try-length-requires
-    (λ c. search needs)
-    (λ c. search needs)
-    returns
-    further-requires
-    loop-less
-    loop-again
-    returns-2)
+    tie.close (tie.spec Inv-loop μ-loop (λ c κs. search needs) (λ c κs. search needs) (λ c. search needs)
+    (λ c. (search needs, search search-starts)) (λ c κs. (search needs, search needs, search length-of-row)) (λ c. search needs) (λ c. search needs)
+    (λ c. search search-found) (λ c κs. (search needs, search needs, search length-of-row, search told-next)) (λ c. search (search-less, le-of-lt))
+    (λ c. (search search-low, search search-more)) (λ c. search search-ends))

@@ -4,15 +4,8 @@ use Rattle.bound.proofs.Steps.{length-passes, length-fails, spare-fits}
 use Rattle.bound.proofs.search.try_length.Statement.{statement}
 use Rattle.bound.proofs.search.try_length.Tie as tie
 
-returns : tie.Need-returns
-returns c = search length-passes
-
-next-length-requires : tie.Need-next-length-requires
-next-length-requires c κs = (search needs, search needs, search needs, search needs, search length-fails)
-
-spare-requires : tie.Need-spare-requires
-spare-requires c κs = search spare-fits
-
 pub try-length-spec : {M : Type 1} → statement M
 try-length-spec =
-    tie.close (tie.spec (λ c κs. search needs) (λ c κs. search needs) returns next-length-requires (λ c κs. search needs) (λ c κs. search needs) spare-requires (λ c. search needs))
+    tie.close (tie.spec (λ c κs. search needs) (λ c κs. search needs) (λ c. search length-passes)
+    (λ c κs. (search needs, search needs, search needs, search needs, search length-fails)) (λ c κs. search needs) (λ c κs. search needs)
+    (λ c κs. search spare-fits) (λ c. search needs))

@@ -5,11 +5,6 @@ use Rattle.bound.proofs.Shares.{shares-round, room-told}
 use Rattle.bound.proofs.share.no_room.Statement.{statement}
 use Rattle.bound.proofs.share.no_room.Tie as tie
 
-reaches-requires : tie.Need-reaches-requires
-reaches-requires c κs = (search shares-round, search fine-room-fits)
-
-returns : tie.Need-returns
-returns c = search room-told
-
 pub no-room-spec : {M : Type 1} → statement M
-no-room-spec = tie.close (tie.spec (λ c κs. search needs) (λ c κs. search needs) reaches-requires returns)
+no-room-spec =
+    tie.close (tie.spec (λ c κs. search needs) (λ c κs. search needs) (λ c κs. (search shares-round, search fine-room-fits)) (λ c. search room-told))

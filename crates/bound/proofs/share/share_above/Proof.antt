@@ -5,20 +5,7 @@ use Rattle.bound.proofs.Shares.{share-amount-is}
 use Rattle.bound.proofs.share.share_above.Statement.{statement}
 use Rattle.bound.proofs.share.share_above.Tie as tie
 
-part-requires : tie.Need-part-requires
-part-requires c κs = (search span-small, search needs, search needs)
-
-returns : tie.Need-returns
-returns c = search share-amount-is
-
 pub share-above-spec : {M : Type 1} → statement M
 share-above-spec =
-    tie.close
-    (tie.spec
-    (λ c κs. search needs)
-    part-requires
-    (λ c κs. search needs)
-    (λ c κs. search needs)
-    (λ c κs. search needs)
-    (λ c κs. search needs)
-    returns)
+    tie.close (tie.spec (λ c κs. search needs) (λ c κs. (search span-small, search needs, search needs)) (λ c κs. search needs)
+    (λ c κs. search needs) (λ c κs. search needs) (λ c κs. search needs) (λ c. search share-amount-is))

@@ -14,39 +14,9 @@ Inv-loop sheet results k length q X sum₀ i₀ sum i = (i ≤ k) × (Shares (sh
 abbrev μ-loop : tie.MeasureT-loop
 μ-loop sheet results k length q X sum₀ i₀ sum i = k - i
 
-loop-holds : tie.Need-loop-holds Inv-loop μ-loop
-loop-holds c = (search needs, search shares-none)
-
-share-above-requires : tie.Need-share-above-requires Inv-loop μ-loop
-share-above-requires c κs = (search row-above, search window-small, search q-of-small)
-
-plus-requires : tie.Need-plus-requires Inv-loop μ-loop
-plus-requires c κs = search shares-fit
-
-loop-again : tie.Need-loop-again Inv-loop μ-loop
-loop-again c = (search needs, search shares-more)
-
-returns : tie.Need-returns Inv-loop μ-loop
-returns c = search shares-done
-
 pub shares-above-spec : {M : Type 1} → statement M
 shares-above-spec =
-    tie.close
-    (tie.spec
-    Inv-loop
-    μ-loop
-    (λ c κs. search needs)
-    (λ c κs. search needs)
-    (λ c κs. search needs)
-    loop-holds
-    (λ c κs. search needs)
-    (λ c. search needs)
-    (λ c. search needs)
-    (λ c. search needs)
-    (λ c. search needs)
-    share-above-requires
-    plus-requires
-    (λ c. search needs)
-    (λ c. search needs)
-    loop-again
-    returns)
+    tie.close (tie.spec Inv-loop μ-loop (λ c κs. search needs) (λ c κs. search needs) (λ c κs. search needs)
+    (λ c. (search needs, search shares-none)) (λ c κs. search needs) (λ c. search needs) (λ c. search needs) (λ c. search needs) (λ c. search needs)
+    (λ c κs. (search row-above, search window-small, search q-of-small)) (λ c κs. search shares-fit) (λ c. search needs) (λ c. search needs)
+    (λ c. (search needs, search shares-more)) (λ c. search shares-done))

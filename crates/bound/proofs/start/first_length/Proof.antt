@@ -13,32 +13,9 @@ Inv-loop sheet results k m row first₀ j₀ first j = (j ≤ k) × (Starts (she
 abbrev μ-loop : tie.MeasureT-loop
 μ-loop sheet results k m row first₀ j₀ first j = k - j
 
-loop-holds : tie.Need-loop-holds Inv-loop μ-loop
-loop-holds c = (search needs, search start-at-budget)
-
-carried-requires : tie.Need-carried-requires Inv-loop μ-loop
-carried-requires c κs = (search above-budget, search threads-small)
-
-loop-again : tie.Need-loop-again Inv-loop μ-loop
-loop-again c = (search needs, search (start-later, carried-starts))
-
 pub first-length-spec : {M : Type 1} → statement M
 first-length-spec =
-    tie.close
-    (tie.spec
-    Inv-loop
-    μ-loop
-    (λ c κs. search needs)
-    (λ c κs. search needs)
-    loop-holds
-    (λ c κs. search needs)
-    (λ c. search needs)
-    (λ c. search needs)
-    (λ c. search needs)
-    (λ c. search needs)
-    carried-requires
-    (λ c κs. search needs)
-    (λ c. search needs)
-    (λ c. search needs)
-    loop-again
-    (λ c. search needs))
+    tie.close (tie.spec Inv-loop μ-loop (λ c κs. search needs) (λ c κs. search needs) (λ c. (search needs, search start-at-budget))
+    (λ c κs. search needs) (λ c. search needs) (λ c. search needs) (λ c. search needs) (λ c. search needs)
+    (λ c κs. (search above-budget, search threads-small)) (λ c κs. search needs) (λ c. search needs) (λ c. search needs)
+    (λ c. (search needs, search (start-later, carried-starts))) (λ c. search needs))

@@ -5,24 +5,8 @@ use Rattle.bound.proofs.Stretches.{now-rounds, then-rounds, stretch-tol
 use Rattle.bound.proofs.stretch.all_fail.Statement.{statement}
 use Rattle.bound.proofs.stretch.all_fail.Tie as tie
 
-reaches-requires : tie.Need-reaches-requires
-reaches-requires c κs = (search now-rounds, search fine-room-fits)
-
-reaches-requires-2 : tie.Need-reaches-requires-2
-reaches-requires-2 c κs = (search then-rounds, search fine-room-fits)
-
-returns : tie.Need-returns
-returns c = search stretch-told
-
 pub all-fail-spec : {M : Type 1} → statement M
 all-fail-spec =
-    tie.close
-    (tie.spec
-    (λ c κs. search needs)
-    (λ c κs. search needs)
-    (λ c κs. search needs)
-    (λ c κs. search needs)
-    reaches-requires
-    reaches-requires-2
-    returns
+    tie.close (tie.spec (λ c κs. search needs) (λ c κs. search needs) (λ c κs. search needs) (λ c κs. search needs)
+    (λ c κs. (search now-rounds, search fine-room-fits)) (λ c κs. (search then-rounds, search fine-room-fits)) (λ c. search stretch-told)
     (λ c. search needs))

@@ -4,8 +4,5 @@ use Rattle.bound.proofs.Stretches.{both-ends-are}
 use Rattle.bound.proofs.stretch.both_ends.Statement.{statement}
 use Rattle.bound.proofs.stretch.both_ends.Tie as tie
 
-returns : tie.Need-returns
-returns c = search both-ends-are
-
 pub both-ends-spec : {M : Type 1} → statement M
-both-ends-spec = tie.close (tie.spec (λ c κs. search needs) (λ c κs. search needs) returns)
+both-ends-spec = tie.close (tie.spec (λ c κs. search needs) (λ c κs. search needs) (λ c. search both-ends-are))

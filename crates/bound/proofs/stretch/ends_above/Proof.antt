@@ -4,23 +4,7 @@ use Rattle.bound.proofs.RowLines.{told-true, meets-still}
 use Rattle.bound.proofs.stretch.ends_above.Statement.{statement}
 use Rattle.bound.proofs.stretch.ends_above.Tie as tie
 
-exact-ends-requires : tie.Need-exact-ends-requires
-exact-ends-requires c κs = (search needs, search told-true)
-
-returns-2 : tie.Need-returns-2
-returns-2 c = search meets-still
-
 pub ends-above-spec : {M : Type 1} → statement M
 ends-above-spec =
-    tie.close
-    (tie.spec
-    (λ c κs. search needs)
-    exact-ends-requires
-    (λ c. search needs)
-    (λ c κs. search needs)
-    (λ c κs. search needs)
-    (λ c κs. search needs)
-    (λ c κs. search needs)
-    (λ c κs. search needs)
-    returns-2
-    (λ c. search needs))
+    tie.close (tie.spec (λ c κs. search needs) (λ c κs. (search needs, search told-true)) (λ c. search needs) (λ c κs. search needs)
+    (λ c κs. search needs) (λ c κs. search needs) (λ c κs. search needs) (λ c κs. search needs) (λ c. search meets-still) (λ c. search needs))

@@ -13,26 +13,7 @@ Inv-loop sheet results k s ends₀ i₀ ends i = (i ≤ k) × (RowsMeet (sheetIn
 abbrev μ-loop : tie.MeasureT-loop
 μ-loop sheet results k s ends₀ i₀ ends i = k - i
 
-loop-holds : tie.Need-loop-holds Inv-loop μ-loop
-loop-holds c = (search needs, search meet-none)
-
-loop-again : tie.Need-loop-again Inv-loop μ-loop
-loop-again c = (search needs, search needs)
-
-returns : tie.Need-returns Inv-loop μ-loop
-returns c = search meet-done
-
 pub ends-of-rows-spec : {M : Type 1} → statement M
 ends-of-rows-spec =
-    tie.close
-    (tie.spec
-    Inv-loop
-    μ-loop
-    (λ c κs. search needs)
-    (λ c κs. search needs)
-    loop-holds
-    (λ c κs. search needs)
-    (λ c. search needs)
-    (λ c. search needs)
-    loop-again
-    returns)
+    tie.close (tie.spec Inv-loop μ-loop (λ c κs. search needs) (λ c κs. search needs) (λ c. (search needs, search meet-none)) (λ c κs. search needs)
+    (λ c. search needs) (λ c. search needs) (λ c. (search needs, search needs)) (λ c. search meet-done))

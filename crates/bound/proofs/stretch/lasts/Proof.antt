@@ -5,15 +5,7 @@ use Rattle.bound.proofs.RowLines.{lasts-fits, lasts-is}
 use Rattle.bound.proofs.stretch.lasts.Statement.{statement}
 use Rattle.bound.proofs.stretch.lasts.Tie as tie
 
-left-requires : tie.Need-left-requires
-left-requires c κs = (search needs, search needs, search span-small)
-
-plus-requires : tie.Need-plus-requires
-plus-requires c κs = search lasts-fits
-
-returns : tie.Need-returns
-returns c = search lasts-is
-
 pub lasts-spec : {M : Type 1} → statement M
 lasts-spec =
-    tie.close (tie.spec (λ c κs. search needs) left-requires (λ c κs. search needs) plus-requires returns)
+    tie.close (tie.spec (λ c κs. search needs) (λ c κs. (search needs, search needs, search span-small)) (λ c κs. search needs)
+    (λ c κs. search lasts-fits) (λ c. search lasts-is))

@@ -4,8 +4,5 @@ use Rattle.bound.proofs.RowLines.{share-meets}
 use Rattle.bound.proofs.stretch.share_ends.Statement.{statement}
 use Rattle.bound.proofs.stretch.share_ends.Tie as tie
 
-returns : tie.Need-returns
-returns c = search share-meets
-
 pub share-ends-spec : {M : Type 1} → statement M
-share-ends-spec = tie.close (tie.spec (λ c κs. search needs) (λ c κs. search needs) returns)
+share-ends-spec = tie.close (tie.spec (λ c κs. search needs) (λ c κs. search needs) (λ c. search share-meets))

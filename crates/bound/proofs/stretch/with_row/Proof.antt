@@ -4,25 +4,7 @@ use Rattle.bound.proofs.Stretches.{row-along, now-fits, then-fits, meet
 use Rattle.bound.proofs.stretch.with_row.Statement.{statement}
 use Rattle.bound.proofs.stretch.with_row.Tie as tie
 
-ends-above-requires : tie.Need-ends-above-requires
-ends-above-requires c κs = search row-along
-
-both-ends-requires : tie.Need-both-ends-requires
-both-ends-requires c κs = (search now-fits, search then-fits)
-
-returns : tie.Need-returns
-returns c = search meet-more
-
 pub with-row-spec : {M : Type 1} → statement M
 with-row-spec =
-    tie.close
-    (tie.spec
-    (λ c κs. search needs)
-    (λ c κs. search needs)
-    (λ c. search needs)
-    (λ c. search needs)
-    (λ c. search needs)
-    (λ c. search needs)
-    ends-above-requires
-    both-ends-requires
-    returns)
+    tie.close (tie.spec (λ c κs. search needs) (λ c κs. search needs) (λ c. search needs) (λ c. search needs) (λ c. search needs)
+    (λ c. search needs) (λ c κs. search row-along) (λ c κs. (search now-fits, search then-fits)) (λ c. search meet-more))

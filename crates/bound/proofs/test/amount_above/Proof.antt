@@ -4,11 +4,6 @@ use Rattle.bound.proofs.Durations.{duration-small, amount-is}
 use Rattle.bound.proofs.test.amount_above.Statement.{statement}
 use Rattle.bound.proofs.test.amount_above.Tie as tie
 
-on-requires : tie.Need-on-requires
-on-requires c κs = (search duration-small, search needs)
-
-returns : tie.Need-returns
-returns c = search amount-is
-
 pub amount-above-spec : {M : Type 1} → statement M
-amount-above-spec = tie.close (tie.spec (λ c κs. search needs) (λ c κs. search needs) on-requires returns)
+amount-above-spec =
+    tie.close (tie.spec (λ c κs. search needs) (λ c κs. search needs) (λ c κs. (search duration-small, search needs)) (λ c. search amount-is))

@@ -4,8 +4,5 @@ use Rattle.bound.proofs.Amounts.{less-room}
 use Rattle.bound.proofs.test.passes.Statement.{statement}
 use Rattle.bound.proofs.test.passes.Tie as tie
 
-returns : tie.Need-returns
-returns c = search less-room
-
 pub passes-spec : {M : Type 1} → statement M
-passes-spec = tie.close (tie.spec (λ c κs. search needs) (λ c κs. search needs) returns)
+passes-spec = tie.close (tie.spec (λ c κs. search needs) (λ c κs. search needs) (λ c. search less-room))

@@ -4,11 +4,6 @@ use Rattle.bound.proofs.Amounts.{window-small, q-of-small, room-is}
 use Rattle.bound.proofs.test.room_of.Statement.{statement}
 use Rattle.bound.proofs.test.room_of.Tie as tie
 
-on-requires : tie.Need-on-requires
-on-requires c κs = (search window-small, search q-of-small)
-
-returns : tie.Need-returns
-returns c = search room-is
-
 pub room-of-spec : {M : Type 1} → statement M
-room-of-spec = tie.close (tie.spec (λ c κs. search needs) (λ c κs. search needs) on-requires returns)
+room-of-spec =
+    tie.close (tie.spec (λ c κs. search needs) (λ c κs. search needs) (λ c κs. (search window-small, search q-of-small)) (λ c. search room-is))

@@ -13,39 +13,9 @@ Inv-loop sheet results k length q X sum₀ i₀ sum i = (i ≤ k) × (sum ≡ am
 abbrev μ-loop : tie.MeasureT-loop
 μ-loop sheet results k length q X sum₀ i₀ sum i = k - i
 
-loop-holds : tie.Need-loop-holds Inv-loop μ-loop
-loop-holds c = (search needs, search sum-none)
-
-amount-above-requires : tie.Need-amount-above-requires Inv-loop μ-loop
-amount-above-requires c κs = (search row-above, search window-small, search q-of-small)
-
-plus-requires : tie.Need-plus-requires Inv-loop μ-loop
-plus-requires c κs = search sum-fits
-
-loop-again : tie.Need-loop-again Inv-loop μ-loop
-loop-again c = (search needs, search sum-more)
-
-returns : tie.Need-returns Inv-loop μ-loop
-returns c = search sum-done
-
 pub sum-above-spec : {M : Type 1} → statement M
 sum-above-spec =
-    tie.close
-    (tie.spec
-    Inv-loop
-    μ-loop
-    (λ c κs. search needs)
-    (λ c κs. search needs)
-    (λ c κs. search needs)
-    loop-holds
-    (λ c κs. search needs)
-    (λ c. search needs)
-    (λ c. search needs)
-    (λ c. search needs)
-    (λ c. search needs)
-    amount-above-requires
-    plus-requires
-    (λ c. search needs)
-    (λ c. search needs)
-    loop-again
-    returns)
+    tie.close (tie.spec Inv-loop μ-loop (λ c κs. search needs) (λ c κs. search needs) (λ c κs. search needs) (λ c. (search needs, search sum-none))
+    (λ c κs. search needs) (λ c. search needs) (λ c. search needs) (λ c. search needs) (λ c. search needs)
+    (λ c κs. (search row-above, search window-small, search q-of-small)) (λ c κs. search sum-fits) (λ c. search needs) (λ c. search needs)
+    (λ c. (search needs, search sum-more)) (λ c. search sum-done))

@@ -17,14 +17,6 @@ abbrev μ-loop : tie.MeasureT-loop
 
 pub put-lines-spec : {M : Type 1} → statement M
 put-lines-spec =
-    tie.close
-    (tie.spec
-    Inv-loop
-    μ-loop
-    (λ c. (search needs, search needs, search no-lines))
-    (λ c κs. (search needs, search label-room, search label-lies, search result-room))
-    (λ c. search needs)
-    (λ c. search needs)
-    (λ c. (search needs, search needs, search one-line))
-    (λ c. search needs)
-    (λ c. search all-lines))
+    tie.close (tie.spec Inv-loop μ-loop (λ c. (search needs, search needs, search no-lines))
+    (λ c κs. (search needs, search label-room, search label-lies, search result-room)) (λ c. search needs) (λ c. search needs)
+    (λ c. (search needs, search needs, search one-line)) (λ c. search needs) (λ c. search all-lines))

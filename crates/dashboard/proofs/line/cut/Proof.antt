@@ -6,17 +6,5 @@ use Rattle.dashboard.proofs.line.cut.Tie as tie
 
 pub cut-spec : {M : Type 1} → statement M
 cut-spec =
-    tie.close
-    (tie.spec
-    (λ c. search needs)
-    (λ c. search needs)
-    (λ c. search needs)
-    (λ c. search needs)
-    (λ c. search needs)
-    (λ c. search needs)
-    (λ c. search needs)
-    (λ c. search (label-ends, needs))
-    (λ c. search needs)
-    (λ c. search needs)
-    (λ c. search label-inside)
-    (λ c. search label-cut))
+    tie.close (tie.spec (λ c. search needs) (λ c. search needs) (λ c. search needs) (λ c. search needs) (λ c. search needs) (λ c. search needs)
+    (λ c. search needs) (λ c. search (label-ends, needs)) (λ c. search needs) (λ c. search needs) (λ c. search label-inside) (λ c. search label-cut))

@@ -6,13 +6,5 @@ use Rattle.dashboard.proofs.line.put_ending.Tie as tie
 
 pub put-ending-spec : {M : Type 1} → statement M
 put-ending-spec =
-    tie.close
-    (tie.spec
-    (λ c. search needs)
-    (λ c κs. search needs)
-    (λ c. search needs)
-    (λ c. search holds-said)
-    (λ c. search needs)
-    (λ c κs. search needs)
-    (λ c. search needs)
-    (λ c. search fails-said))
+    tie.close (tie.spec (λ c. search needs) (λ c κs. search needs) (λ c. search needs) (λ c. search holds-said) (λ c. search needs)
+    (λ c κs. search needs) (λ c. search needs) (λ c. search fails-said))

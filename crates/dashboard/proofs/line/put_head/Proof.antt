@@ -8,11 +8,5 @@ use Rattle.dashboard.proofs.line.put_head.Tie as tie
 pub put-head-spec : {M : Type 1} → statement M
 unfolding lineStart
 put-head-spec =
-    tie.close
-    (tie.spec
-    (λ c κs. search needs)
-    (λ c κs. search needs)
-    (λ c κs. search needs)
-    (λ c κs. search needs)
-    (λ c. search needs)
+    tie.close (tie.spec (λ c κs. search needs) (λ c κs. search needs) (λ c κs. search needs) (λ c κs. search needs) (λ c. search needs)
     (λ c. search four-said))

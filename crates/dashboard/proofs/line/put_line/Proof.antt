@@ -7,11 +7,4 @@ use Rattle.dashboard.proofs.line.put_line.Tie as tie
 
 pub put-line-spec : {M : Type 1} → statement M
 unfolding line
-put-line-spec =
-    tie.close
-    (tie.spec
-    (λ c κs. search needs)
-    (λ c κs. search needs)
-    (λ c κs. search needs)
-    (λ c. search needs)
-    (λ c. search three-said))
+put-line-spec = tie.close (tie.spec (λ c κs. search needs) (λ c κs. search needs) (λ c κs. search needs) (λ c. search needs) (λ c. search three-said))

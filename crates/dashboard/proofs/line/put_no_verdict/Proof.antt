@@ -8,11 +8,5 @@ use Rattle.dashboard.proofs.line.put_no_verdict.Tie as tie
 pub put-no-verdict-spec : {M : Type 1} → statement M
 unfolding noVerdict
 put-no-verdict-spec =
-    tie.close
-    (tie.spec
-    (λ c κs. search needs)
-    (λ c κs. search needs)
-    (λ c κs. search needs)
-    (λ c κs. search needs)
-    (λ c. search needs)
+    tie.close (tie.spec (λ c κs. search needs) (λ c κs. search needs) (λ c κs. search needs) (λ c κs. search needs) (λ c. search needs)
     (λ c. search four-said))

@@ -8,10 +8,4 @@ use Rattle.dashboard.proofs.line.put_refused_by.Tie as tie
 pub put-refused-by-spec : {M : Type 1} → statement M
 unfolding refusedBy
 put-refused-by-spec =
-    tie.close
-    (tie.spec
-    (λ c. search needs)
-    (λ c κs. search needs)
-    (λ c κs. search needs)
-    (λ c. search needs)
-    (λ c. search two-said))
+    tie.close (tie.spec (λ c. search needs) (λ c κs. search needs) (λ c κs. search needs) (λ c. search needs) (λ c. search two-said))

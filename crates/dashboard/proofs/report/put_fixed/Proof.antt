@@ -6,17 +6,6 @@ use Rattle.dashboard.proofs.report.put_fixed.Tie as tie
 
 pub put-fixed-spec : {M : Type 1} → statement M
 put-fixed-spec =
-    tie.close
-    (tie.spec
-    (λ c κs. search needs)
-    (λ c. search needs)
-    (λ c κs. search needs)
-    (λ c. search needs)
-    (λ c. search needs)
-    (λ c κs. search needs)
-    (λ c. search needs)
-    (λ c. search needs)
-    (λ c. search needs)
-    (λ c κs. (search fixed-few, search fixed-labels, no-labels-lie _, search fixed-results))
-    (λ c. search needs)
-    (λ c. search fixed-said))
+    tie.close (tie.spec (λ c κs. search needs) (λ c. search needs) (λ c κs. search needs) (λ c. search needs) (λ c. search needs)
+    (λ c κs. search needs) (λ c. search needs) (λ c. search needs) (λ c. search needs)
+    (λ c κs. (search fixed-few, search fixed-labels, no-labels-lie _, search fixed-results)) (λ c. search needs) (λ c. search fixed-said))

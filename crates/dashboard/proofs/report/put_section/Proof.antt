@@ -6,5 +6,5 @@ use Rattle.dashboard.proofs.report.put_section.Tie as tie
 
 pub put-section-spec : {M : Type 1} → statement M
 put-section-spec =
-    tie.close
-    (tie.spec (λ c. search needs) (λ c. search needs) (λ c κs. search needs) (λ c κs. search needs) (λ c κs. search needs) (λ c. search needs) (λ c. search section-said))
+    tie.close (tie.spec (λ c. search needs) (λ c. search needs) (λ c κs. search needs) (λ c κs. search needs) (λ c κs. search needs)
+    (λ c. search needs) (λ c. search section-said))

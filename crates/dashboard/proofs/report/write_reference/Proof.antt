@@ -14,14 +14,5 @@ abbrev μ-loop : tie.MeasureT-loop
 
 pub write-reference-spec : {M : Type 1} → statement M
 write-reference-spec =
-    tie.close
-    (tie.spec
-    Inv-loop
-    μ-loop
-    (λ c. (search needs, search needs, search no-sections))
-    (λ c κs. search needs)
-    (λ c. search needs)
-    (λ c. search needs)
-    (λ c. (search needs, search needs, search one-section))
-    (λ c. search needs)
-    (λ c. search reference-written))
+    tie.close (tie.spec Inv-loop μ-loop (λ c. (search needs, search needs, search no-sections)) (λ c κs. search needs) (λ c. search needs)
+    (λ c. search needs) (λ c. (search needs, search needs, search one-section)) (λ c. search needs) (λ c. search reference-written))

@@ -6,17 +6,6 @@ use Rattle.dashboard.proofs.report.write_verdict.Tie as tie
 
 pub write-verdict-spec : {M : Type 1} → statement M
 write-verdict-spec =
-    tie.close
-    (tie.spec
-    (λ c. search needs)
-    (λ c. search needs)
-    (λ c. search needs)
-    (λ c κs. search (room-for-few, needs))
-    (λ c. search needs)
-    (λ c. search needs)
-    (λ c. search needs)
-    (λ c. search needs)
-    (λ c. search needs)
-    (λ c κs. search (room-for-any, needs))
-    (λ c. search needs)
+    tie.close (tie.spec (λ c. search needs) (λ c. search needs) (λ c. search needs) (λ c κs. search (room-for-few, needs)) (λ c. search needs)
+    (λ c. search needs) (λ c. search needs) (λ c. search needs) (λ c. search needs) (λ c κs. search (room-for-any, needs)) (λ c. search needs)
     (λ c. search needs))

@@ -8,7 +8,4 @@ use Rattle.dashboard.proofs.room.input_buffer.Tie as tie
 
 pub input-buffer-spec : {M : Type 1} → statement M
 unfolding inputSize longestSheet longestRow width spelt
-input-buffer-spec =
-    tie.close
-    (tie.spec
-    (λ c. refl))
+input-buffer-spec = tie.close (tie.spec (λ c. refl))

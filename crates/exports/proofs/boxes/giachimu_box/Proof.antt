@@ -6,19 +6,6 @@ use Rattle.exports.proofs.boxes.giachimu_box.Tie as tie
 
 pub giachimu-box-spec : {M : Type 1} → statement M
 giachimu-box-spec =
-    tie.close
-    (tie.spec
-    (λ c κs. search needs)
-    (λ c κs. search needs)
-    (λ c. search records-fit)
-    (λ c κs. search needs)
-    (λ c. search box-has-no-room)
-    (λ c κs. search needs)
-    (λ c κs. search needs)
-    (λ c κs. search needs)
-    (λ c κs. search needs)
-    (λ c. search needs)
-    (λ c. search needs)
-    (λ c. search box-answered)
-    (λ c κs. search needs)
-    (λ c. search box-not-legal))
+    tie.close (tie.spec (λ c κs. search needs) (λ c κs. search needs) (λ c. search records-fit) (λ c κs. search needs) (λ c. search box-has-no-room)
+    (λ c κs. search needs) (λ c κs. search needs) (λ c κs. search needs) (λ c κs. search needs) (λ c. search needs) (λ c. search needs)
+    (λ c. search box-answered) (λ c κs. search needs) (λ c. search box-not-legal))

@@ -14,27 +14,8 @@ Inv-loop list₀ state i₀ list i = (i ≤ length list₀) × (length list ≡ 
 abbrev μ-loop : tie.MeasureT-loop
 μ-loop list₀ state i₀ list i = length list₀ - i
 
-loop-holds : tie.Need-loop-holds Inv-loop μ-loop
-loop-holds c = (search needs, search needs, search upto-none)
-
-loop-again : tie.Need-loop-again Inv-loop μ-loop
-loop-again c = (search needs, search needs, search upto-set)
-
-returns : tie.Need-returns Inv-loop μ-loop
-returns c = search fill-done
-
 pub put-state-spec : {M : Type 1} → statement M
 put-state-spec =
-    tie.close
-    (tie.spec
-    Inv-loop
-    μ-loop
-    loop-holds
-    (λ c κs. search needs)
-    (λ c. search needs)
-    (λ c. search needs)
-    (λ c. search needs)
-    (λ c. search needs)
-    loop-again
-    (λ c. search needs)
-    returns)
+    tie.close (tie.spec Inv-loop μ-loop (λ c. (search needs, search needs, search upto-none)) (λ c κs. search needs) (λ c. search needs)
+    (λ c. search needs) (λ c. search needs) (λ c. search needs) (λ c. (search needs, search needs, search upto-set)) (λ c. search needs)
+    (λ c. search fill-done))

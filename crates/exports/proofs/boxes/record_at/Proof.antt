@@ -6,10 +6,4 @@ use Rattle.exports.proofs.boxes.record_at.Statement.{statement}
 use Rattle.exports.proofs.boxes.record_at.Tie as tie
 
 pub record-at-spec : {M : Type 1} → statement M
-record-at-spec =
-    tie.close
-    (tie.spec
-    (λ c. search needs)
-    (λ c. search needs)
-    (λ c. search needs)
-    (λ c. search (record-past, unmapped)))
+record-at-spec = tie.close (tie.spec (λ c. search needs) (λ c. search needs) (λ c. search needs) (λ c. search (record-past, unmapped)))

@@ -5,10 +5,4 @@ use Rattle.exports.proofs.machines.giachimu_fresh.Statement.{statement}
 use Rattle.exports.proofs.machines.giachimu_fresh.Tie as tie
 
 pub giachimu-fresh-spec : {M : Type 1} → statement M
-giachimu-fresh-spec =
-    tie.close
-    (tie.spec
-    (λ c κs. search needs)
-    (λ c κs. search needs)
-    (λ c. search needs)
-    (λ c. search fresh-answered))
+giachimu-fresh-spec = tie.close (tie.spec (λ c κs. search needs) (λ c κs. search needs) (λ c. search needs) (λ c. search fresh-answered))

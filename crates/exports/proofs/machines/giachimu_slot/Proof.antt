@@ -4,9 +4,6 @@ use Rattle.exports.proofs.Inside.Calls.{slot-answered}
 use Rattle.exports.proofs.machines.giachimu_slot.Statement.{statement}
 use Rattle.exports.proofs.machines.giachimu_slot.Tie as tie
 
-returns : tie.Need-returns
-returns c = search slot-answered
-
 pub giachimu-slot-spec : {M : Type 1} → statement M
 giachimu-slot-spec =
-    tie.close (tie.spec (λ c κs. search needs) (λ c κs. search needs) (λ c. search needs) (λ c. search needs) returns)
+    tie.close (tie.spec (λ c κs. search needs) (λ c κs. search needs) (λ c. search needs) (λ c. search needs) (λ c. search slot-answered))

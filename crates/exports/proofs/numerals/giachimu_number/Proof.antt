@@ -6,12 +6,5 @@ use Rattle.exports.proofs.numerals.giachimu_number.Tie as tie
 
 pub giachimu-number-spec : {M : Type 1} → statement M
 giachimu-number-spec =
-    tie.close
-    (tie.spec
-    (λ c κs. search needs)
-    (λ c. search needs)
-    (λ c κs. search needs)
-    (λ c. search needs)
-    (λ c κs. search needs)
-    (λ c. search number-refused)
-    (λ c. search number-is))
+    tie.close (tie.spec (λ c κs. search needs) (λ c. search needs) (λ c κs. search needs) (λ c. search needs) (λ c κs. search needs)
+    (λ c. search number-refused) (λ c. search number-is))

@@ -6,12 +6,5 @@ use Rattle.exports.proofs.numerals.giachimu_number_up_to.Tie as tie
 
 pub giachimu-number-up-to-spec : {M : Type 1} → statement M
 giachimu-number-up-to-spec =
-    tie.close
-    (tie.spec
-    (λ c κs. search needs)
-    (λ c. search needs)
-    (λ c κs. search needs)
-    (λ c. search needs)
-    (λ c κs. search needs)
-    (λ c. search up-to-refused)
-    (λ c. search up-to-is))
+    tie.close (tie.spec (λ c κs. search needs) (λ c. search needs) (λ c κs. search needs) (λ c. search needs) (λ c κs. search needs)
+    (λ c. search up-to-refused) (λ c. search up-to-is))

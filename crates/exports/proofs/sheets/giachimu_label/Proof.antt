@@ -6,25 +6,8 @@ use Rattle.exports.proofs.sheets.giachimu_label.Tie as tie
 
 pub giachimu-label-spec : {M : Type 1} → statement M
 giachimu-label-spec =
-    tie.close
-    (tie.spec
-    (λ c. search needs)
-    (λ c. search needs)
-    (λ c κs. search needs)
-    (λ c. search needs)
-    (λ c κs. search needs)
-    (λ c. search needs)
-    (λ c. search needs)
-    (λ c κs. search needs)
-    (λ c κs. search needs)
-    (λ c. search label-past)
-    (λ c. search start-fits)
-    (λ c. search start-scaled)
-    (λ c. search start-inside)
-    (λ c. search start-fits)
-    (λ c. search (needs, long-fits))
-    (λ c. search (needs, long-scaled))
-    (λ c. search (needs, long-inside))
-    (λ c κs. search needs)
-    (λ c. search label-refused)
+    tie.close (tie.spec (λ c. search needs) (λ c. search needs) (λ c κs. search needs) (λ c. search needs) (λ c κs. search needs)
+    (λ c. search needs) (λ c. search needs) (λ c κs. search needs) (λ c κs. search needs) (λ c. search label-past) (λ c. search start-fits)
+    (λ c. search start-scaled) (λ c. search start-inside) (λ c. search start-fits) (λ c. search (needs, long-fits))
+    (λ c. search (needs, long-scaled)) (λ c. search (needs, long-inside)) (λ c κs. search needs) (λ c. search label-refused)
     (λ c. search label-there))

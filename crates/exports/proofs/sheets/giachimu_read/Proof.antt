@@ -6,19 +6,6 @@ use Rattle.exports.proofs.sheets.giachimu_read.Tie as tie
 
 pub giachimu-read-spec : {M : Type 1} → statement M
 giachimu-read-spec =
-    tie.close
-    (tie.spec
-    (λ c. search needs)
-    (λ c κs. search needs)
-    (λ c. search needs)
-    (λ c κs. search needs)
-    (λ c. search needs)
-    (λ c κs. search needs)
-    (λ c. search rows-fit)
-    (λ c. search (needs, places-fit))
-    (λ c κs. search needs)
-    (λ c κs. search needs)
-    (λ c. search needs)
-    (λ c. search fields-refused)
-    (λ c. search needs)
-    (λ c. search fields-are-read))
+    tie.close (tie.spec (λ c. search needs) (λ c κs. search needs) (λ c. search needs) (λ c κs. search needs) (λ c. search needs)
+    (λ c κs. search needs) (λ c. search rows-fit) (λ c. search (needs, places-fit)) (λ c κs. search needs) (λ c κs. search needs)
+    (λ c. search needs) (λ c. search fields-refused) (λ c. search needs) (λ c. search fields-are-read))

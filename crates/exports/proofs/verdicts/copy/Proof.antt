@@ -10,26 +10,8 @@ Inv-loop text buffer₀ i₀ buffer i = (i ≤ length text) × (length text ≤ 
 abbrev μ-loop : tie.MeasureT-loop
 μ-loop text buffer₀ i₀ buffer i = length text - i
 
-loop-holds : tie.Need-loop-holds Inv-loop μ-loop
-loop-holds c = (search needs, search needs, search needs, search needs)
-
-loop-again : tie.Need-loop-again Inv-loop μ-loop
-loop-again c = (search needs, search needs, search needs, search byte-copied)
-
-returns : tie.Need-returns Inv-loop μ-loop
-returns c = search all-copied
-
 pub copy-spec : {M : Type 1} → statement M
 copy-spec =
-    tie.close
-    (tie.spec
-    Inv-loop
-    μ-loop
-    loop-holds
-    (λ c. search needs)
-    (λ c. search needs)
-    (λ c. search needs)
-    (λ c. search needs)
-    loop-again
-    (λ c. search needs)
-    returns)
+    tie.close (tie.spec Inv-loop μ-loop (λ c. (search needs, search needs, search needs, search needs)) (λ c. search needs) (λ c. search needs)
+    (λ c. search needs) (λ c. search needs) (λ c. (search needs, search needs, search needs, search byte-copied)) (λ c. search needs)
+    (λ c. search all-copied))

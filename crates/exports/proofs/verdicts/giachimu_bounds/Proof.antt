@@ -6,15 +6,5 @@ use Rattle.exports.proofs.verdicts.giachimu_bounds.Tie as tie
 
 pub giachimu-bounds-spec : {M : Type 1} → statement M
 giachimu-bounds-spec =
-    tie.close
-    (tie.spec
-    (λ c κs. search needs)
-    (λ c. search needs)
-    (λ c κs. search needs)
-    (λ c. search needs)
-    (λ c κs. search needs)
-    (λ c κs. search needs)
-    (λ c. search needs)
-    (λ c. search bounds-refused)
-    (λ c. search needs)
-    (λ c. search bounds-are-told))
+    tie.close (tie.spec (λ c κs. search needs) (λ c. search needs) (λ c κs. search needs) (λ c. search needs) (λ c κs. search needs)
+    (λ c κs. search needs) (λ c. search needs) (λ c. search bounds-refused) (λ c. search needs) (λ c. search bounds-are-told))

@@ -7,20 +7,6 @@ use Rattle.exports.proofs.verdicts.giachimu_verdict.Tie as tie
 
 pub giachimu-verdict-spec : {M : Type 1} → statement M
 giachimu-verdict-spec =
-    tie.close
-    (tie.spec
-    (λ c κs. search needs)
-    (λ c κs. search needs)
-    (λ c. search needs)
-    (λ c. search text-is-written)
-    (λ c κs. search needs)
-    (λ c. search needs)
-    (λ c κs. search needs)
-    (λ c. search written-in-room)
-    (λ c. search written-part)
-    (λ c κs. search part-fits-text)
-    (λ c κs. search needs)
-    (λ c. search needs)
-    (λ c. search text-is-copied)
-    (λ c κs. search needs)
-    (λ c. search text-needs-room))
+    tie.close (tie.spec (λ c κs. search needs) (λ c κs. search needs) (λ c. search needs) (λ c. search text-is-written) (λ c κs. search needs)
+    (λ c. search needs) (λ c κs. search needs) (λ c. search written-in-room) (λ c. search written-part) (λ c κs. search part-fits-text)
+    (λ c κs. search needs) (λ c. search needs) (λ c. search text-is-copied) (λ c κs. search needs) (λ c. search text-needs-room))

@@ -6,14 +6,5 @@ use Rattle.exports.proofs.worked.giachimu_fixed.Tie as tie
 
 pub giachimu-fixed-spec : {M : Type 1} → statement M
 giachimu-fixed-spec =
-    tie.close
-    (tie.spec
-    (λ c κs. search needs)
-    (λ c. search fixed-rows-fit)
-    (λ c. search fixed-places-fit)
-    (λ c κs. search needs)
-    (λ c. search fixed-has-no-room)
-    (λ c κs. search needs)
-    (λ c κs. search needs)
-    (λ c. search needs)
-    (λ c. search fixed-is-written))
+    tie.close (tie.spec (λ c κs. search needs) (λ c. search fixed-rows-fit) (λ c. search fixed-places-fit) (λ c κs. search needs)
+    (λ c. search fixed-has-no-room) (λ c κs. search needs) (λ c κs. search needs) (λ c. search needs) (λ c. search fixed-is-written))

@@ -10,10 +10,5 @@ returns : tie.Need-returns
 unfolding checkRow
 returns c = search tests
 
-returns-2 : tie.Need-returns-2
-returns-2 c = search check-in-there
-
 pub check-in-spec : {M : Type 1} → statement M
-check-in-spec =
-    tie.close
-    (tie.spec returns (λ c κs. search needs) (λ c κs. search needs) (λ c κs. search needs) returns-2)
+check-in-spec = tie.close (tie.spec returns (λ c κs. search needs) (λ c κs. search needs) (λ c κs. search needs) (λ c. search check-in-there))

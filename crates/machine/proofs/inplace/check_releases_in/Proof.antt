@@ -34,32 +34,10 @@ loop-holds : tie.Need-loop-holds Inv-loop μ-loop
 unfolding firstOf
 loop-holds c = (search needs, search needs, search legal-in-fits, search legal-sheet-long, search kept-long, search needs, search needs, search needs, refl)
 
-check-in-requires : tie.Need-check-in-requires Inv-loop μ-loop
-check-in-requires c κs = (search needs, search needs, search needs)
-
-returns : tie.Need-returns Inv-loop μ-loop
-returns c = search check-in-found
-
 loop-again : tie.Need-loop-again Inv-loop μ-loop
 loop-again c = (search needs, search needs, search needs, search needs, search needs, search needs, search needs, search needs, search check-in-more)
 
-returns-2 : tie.Need-returns-2 Inv-loop μ-loop
-returns-2 c = search check-done
-
 pub check-releases-in-spec : {M : Type 1} → statement M
 check-releases-in-spec =
-    tie.close
-    (tie.spec
-    Inv-loop
-    μ-loop
-    loop-holds
-    (λ c. search needs)
-    (λ c. search needs)
-    check-in-requires
-    (λ c. search needs)
-    returns
-    (λ c. search needs)
-    (λ c. search needs)
-    (λ c. search needs)
-    loop-again
-    returns-2)
+    tie.close (tie.spec Inv-loop μ-loop loop-holds (λ c. search needs) (λ c. search needs) (λ c κs. (search needs, search needs, search needs))
+    (λ c. search needs) (λ c. search check-in-found) (λ c. search needs) (λ c. search needs) (λ c. search needs) loop-again (λ c. search check-done))

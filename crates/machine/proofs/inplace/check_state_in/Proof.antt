@@ -6,11 +6,5 @@ use Rattle.machine.proofs.inplace.check_state_in.Tie as tie
 
 pub check-state-in-spec : {M : Type 1} → statement M
 check-state-in-spec =
-    tie.close
-    (tie.spec
-    (λ c κs. search needs)
-    (λ c κs. search needs)
-    (λ c κs. (search needs, search so-legal))
-    (λ c. search in-order)
-    (λ c. search in-16)
-    (λ c. search in-10))
+    tie.close (tie.spec (λ c κs. search needs) (λ c κs. search needs) (λ c κs. (search needs, search so-legal)) (λ c. search in-order)
+    (λ c. search in-16) (λ c. search in-10))

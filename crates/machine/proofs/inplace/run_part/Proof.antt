@@ -29,34 +29,11 @@ loop-holds : tie.Need-loop-holds Inv-loop μ-loop
 unfolding course
 loop-holds c = (search needs, search needs, search needs, search needs, search needs, search needs, refl, refl, refl)
 
-slot-part-requires : tie.Need-slot-part-requires Inv-loop μ-loop
-slot-part-requires c κs = (search needs, search needs, search needs, search room-for, search room-for)
-
-returns : tie.Need-returns Inv-loop μ-loop
-returns c = (search stops, search needs)
-
 loop-again : tie.Need-loop-again Inv-loop μ-loop
 loop-again c = (search needs, search needs, search needs, search needs, search needs, search needs, search needs, search needs, search goes-on)
 
-returns-2 : tie.Need-returns-2 Inv-loop μ-loop
-returns-2 c = (search ends, search needs)
-
 pub run-part-spec : {M : Type 1} → statement M
 run-part-spec =
-    tie.close
-    (tie.spec
-    Inv-loop
-    μ-loop
-    loop-holds
-    slot-part-requires
-    (λ c. search needs)
-    (λ c. search needs)
-    (λ c. search needs)
-    returns
-    (λ c. search needs)
-    (λ c. search needs)
-    (λ c. search needs)
-    loop-again
-    (λ c. search needs)
-    (λ c. search needs)
-    returns-2)
+    tie.close (tie.spec Inv-loop μ-loop loop-holds (λ c κs. (search needs, search needs, search needs, search room-for, search room-for))
+    (λ c. search needs) (λ c. search needs) (λ c. search needs) (λ c. (search stops, search needs)) (λ c. search needs) (λ c. search needs)
+    (λ c. search needs) loop-again (λ c. search needs) (λ c. search needs) (λ c. (search ends, search needs)))

@@ -7,23 +7,7 @@ use Rattle.machine.proofs.inplace.slot_on.Tie as tie
 step-rows-requires : tie.Need-step-rows-requires
 step-rows-requires c κs = (search needs, search slot-sheet, search slot-state, search slot-entries, search slot-codes)
 
-returns : tie.Need-returns
-returns c = search slot-in-refused
-
-returns-2 : tie.Need-returns-2
-returns-2 c = search slot-in-accepted
-
 pub slot-on-spec : {M : Type 1} → statement M
 slot-on-spec =
-    tie.close
-    (tie.spec
-    (λ c κs. search needs)
-    (λ c. search needs)
-    (λ c. search needs)
-    (λ c κs. search needs)
-    step-rows-requires
-    (λ c. search needs)
-    returns
-    (λ c. search needs)
-    (λ c. search needs)
-    returns-2)
+    tie.close (tie.spec (λ c κs. search needs) (λ c. search needs) (λ c. search needs) (λ c κs. search needs) step-rows-requires (λ c. search needs)
+    (λ c. search slot-in-refused) (λ c. search needs) (λ c. search needs) (λ c. search slot-in-accepted))

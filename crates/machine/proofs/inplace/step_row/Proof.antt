@@ -4,16 +4,7 @@ use Rattle.machine.proofs.SlotsInPlace.{row-stepped}
 use Rattle.machine.proofs.inplace.step_row.Statement.{statement}
 use Rattle.machine.proofs.inplace.step_row.Tie as tie
 
-returns : tie.Need-returns
-returns c = (search row-stepped, search needs)
-
 pub step-row-spec : {M : Type 1} → statement M
 step-row-spec =
-    tie.close
-    (tie.spec
-    (λ c κs. search needs)
-    (λ c κs. search needs)
-    (λ c κs. search needs)
-    (λ c κs. search needs)
-    (λ c. search needs)
-    returns)
+    tie.close (tie.spec (λ c κs. search needs) (λ c κs. search needs) (λ c κs. search needs) (λ c κs. search needs) (λ c. search needs)
+    (λ c. (search row-stepped, search needs)))

@@ -40,30 +40,11 @@ loop-holds : tie.Need-loop-holds Inv-loop μ-loop
 unfolding upto
 loop-holds c = (search needs, search needs, search legal-in-fits, search legal-sheet-long, search kept-long, search needs, search needs, search needs, search needs, refl, refl, search all-free, search put-none, refl)
 
-step-row-requires : tie.Need-step-row-requires Inv-loop μ-loop
-step-row-requires c κs = (search needs, search needs, search needs)
-
 loop-again : tie.Need-loop-again Inv-loop μ-loop
 loop-again c = (search needs, search needs, search needs, search needs, search needs, search needs, search needs, search needs, search needs, search needs, search needs, search free-moves, search list-moves, search codes-move)
 
-returns : tie.Need-returns Inv-loop μ-loop
-returns c = (search moves-done, search codes-done)
-
 pub step-rows-spec : {M : Type 1} → statement M
 step-rows-spec =
-    tie.close
-    (tie.spec
-    Inv-loop
-    μ-loop
-    (λ c κs. search needs)
-    loop-holds
-    (λ c. search needs)
-    (λ c. search needs)
-    step-row-requires
-    (λ c. search needs)
-    (λ c. search needs)
-    (λ c. search needs)
-    loop-again
-    (λ c. search needs)
-    (λ c. search needs)
-    returns)
+    tie.close (tie.spec Inv-loop μ-loop (λ c κs. search needs) loop-holds (λ c. search needs) (λ c. search needs)
+    (λ c κs. (search needs, search needs, search needs)) (λ c. search needs) (λ c. search needs) (λ c. search needs) loop-again (λ c. search needs)
+    (λ c. search needs) (λ c. (search moves-done, search codes-done)))

@@ -4,23 +4,7 @@ use Rattle.machine.proofs.Inside.Checks.{margin-refused, margin-14, mar
 use Rattle.machine.proofs.margins.check_margin_in.Statement.{statement}
 use Rattle.machine.proofs.margins.check_margin_in.Tie as tie
 
-returns : tie.Need-returns
-returns c = search margin-refused
-
-returns-2 : tie.Need-returns-2
-returns-2 c = search margin-14
-
-returns-3 : tie.Need-returns-3
-returns-3 c = search margin-in-order
-
 pub check-margin-in-spec : {M : Type 1} → statement M
 check-margin-in-spec =
-    tie.close
-    (tie.spec
-    (λ c κs. search needs)
-    (λ c. search needs)
-    returns
-    (λ c. search needs)
-    (λ c κs. search needs)
-    returns-2
-    returns-3)
+    tie.close (tie.spec (λ c κs. search needs) (λ c. search needs) (λ c. search margin-refused) (λ c. search needs) (λ c κs. search needs)
+    (λ c. search margin-14) (λ c. search margin-in-order))

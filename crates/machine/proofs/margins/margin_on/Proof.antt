@@ -4,30 +4,8 @@ use Rattle.machine.proofs.Inside.MarginAnswers.{row-in-array, margin-ro
 use Rattle.machine.proofs.margins.margin_on.Statement.{statement}
 use Rattle.machine.proofs.margins.margin_on.Tie as tie
 
-row-inside-requires : tie.Need-row-inside-requires
-row-inside-requires c κs = (search row-in-array, search margin-row-there)
-
-record-in-requires : tie.Need-record-in-requires
-record-in-requires c κs = (search row-in-array, search margin-record-there)
-
-margin-of-requires : tie.Need-margin-of-requires
-margin-of-requires c κs = (search small-deadline, search listed-since, search listed-remaining)
-
-returns : tie.Need-returns
-returns c = search margin-is-refused
-
-returns-2 : tie.Need-returns-2
-returns-2 c = search listed-margin
-
 pub margin-on-spec : {M : Type 1} → statement M
 margin-on-spec =
-    tie.close
-    (tie.spec
-    (λ c κs. search needs)
-    (λ c. search needs)
-    (λ c. search needs)
-    row-inside-requires
-    record-in-requires
-    margin-of-requires
-    returns
-    returns-2)
+    tie.close (tie.spec (λ c κs. search needs) (λ c. search needs) (λ c. search needs) (λ c κs. (search row-in-array, search margin-row-there))
+    (λ c κs. (search row-in-array, search margin-record-there)) (λ c κs. (search small-deadline, search listed-since, search listed-remaining))
+    (λ c. search margin-is-refused) (λ c. search listed-margin))

@@ -24,46 +24,15 @@ Inv-loop sheet list n long i₀ i =
 abbrev μ-loop : tie.MeasureT-loop
 μ-loop sheet list n long i₀ i = n - i
 
-mul-long : tie.Need-mul-long Inv-loop μ-loop
-mul-long c = search record-scaled
-
-returns : tie.Need-returns Inv-loop μ-loop
-returns c = search legal-in-short
-
 loop-holds : tie.Need-loop-holds Inv-loop μ-loop
 unfolding allOf
 loop-holds c = (search needs, search needs, search legal-in-fits, search legal-sheet-long, search needs, search needs, search needs, refl)
 
-row-inside-requires : tie.Need-row-inside-requires Inv-loop μ-loop
-row-inside-requires c κs = (search needs, search needs)
-
-record-in-requires : tie.Need-record-in-requires Inv-loop μ-loop
-record-in-requires c κs = (search needs, search needs)
-
 loop-again : tie.Need-loop-again Inv-loop μ-loop
 loop-again c = (search needs, search needs, search needs, search needs, search needs, search needs, search needs, search legal-in-more)
 
-returns-2 : tie.Need-returns-2 Inv-loop μ-loop
-returns-2 c = search legal-in-fails
-
-returns-3 : tie.Need-returns-3 Inv-loop μ-loop
-returns-3 c = search legal-in-done
-
 pub is-legal-in-spec : {M : Type 1} → statement M
 is-legal-in-spec =
-    tie.close
-    (tie.spec
-    Inv-loop
-    μ-loop
-    mul-long
-    returns
-    loop-holds
-    row-inside-requires
-    record-in-requires
-    (λ c κs. search needs)
-    (λ c. search needs)
-    (λ c. search needs)
-    loop-again
-    returns-2
-    (λ c κs. search needs)
-    returns-3)
+    tie.close (tie.spec Inv-loop μ-loop (λ c. search record-scaled) (λ c. search legal-in-short) loop-holds (λ c κs. (search needs, search needs))
+    (λ c κs. (search needs, search needs)) (λ c κs. search needs) (λ c. search needs) (λ c. search needs) loop-again (λ c. search legal-in-fails)
+    (λ c κs. search needs) (λ c. search legal-in-done))

@@ -4,10 +4,7 @@ use Rattle.machine.proofs.Inside.RecordLists.{record-read}
 use Rattle.machine.proofs.places.record_in.Statement.{statement}
 use Rattle.machine.proofs.places.record_in.Tie as tie
 
-returns : tie.Need-returns
-returns c = search record-read
-
 pub record-in-spec : {M : Type 1} → statement M
 record-in-spec =
-    tie.close
-    (tie.spec (λ c. search needs) (λ c. search needs) (λ c. search needs) (λ c. search needs) (λ c. search needs) (λ c. search needs) returns)
+    tie.close (tie.spec (λ c. search needs) (λ c. search needs) (λ c. search needs) (λ c. search needs) (λ c. search needs) (λ c. search needs)
+    (λ c. search record-read))

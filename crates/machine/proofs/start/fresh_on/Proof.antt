@@ -7,14 +7,6 @@ use Rattle.machine.proofs.start.fresh_on.Tie as tie
 
 pub fresh-on-spec : {M : Type 1} → statement M
 fresh-on-spec =
-    tie.close
-    (tie.spec
-    (λ c κs. search needs)
-    (λ c κs. search needs)
-    (λ c. search (needs, fresh-scaled))
-    (λ c. search fresh-on-15)
-    (λ c κs. search needs)
-    (λ c κs. (search needs, search so-legal, search cleared-long))
-    (λ c. search needs)
-    (λ c. search fresh-on-written)
+    tie.close (tie.spec (λ c κs. search needs) (λ c κs. search needs) (λ c. search (needs, fresh-scaled)) (λ c. search fresh-on-15)
+    (λ c κs. search needs) (λ c κs. (search needs, search so-legal, search cleared-long)) (λ c. search needs) (λ c. search fresh-on-written)
     (λ c. search fresh-on-10))

@@ -26,15 +26,7 @@ abbrev μ-loop : tie.MeasureT-loop
 
 pub put-fresh-spec : {M : Type 1} → statement M
 put-fresh-spec =
-    tie.close
-    (tie.spec
-    Inv-loop
-    μ-loop
+    tie.close (tie.spec Inv-loop μ-loop
     (λ c. (search needs, search legal-in-fits, search legal-sheet-long, search needs, search needs, search put-none))
-    (λ c κs. (search needs, search needs))
-    (λ c κs. (search needs, search needs))
-    (λ c. search needs)
-    (λ c. search needs)
-    (λ c. (search needs, search needs, search needs, search needs, search needs, search fresh-more))
-    (λ c. search needs)
-    (λ c. search moves-done))
+    (λ c κs. (search needs, search needs)) (λ c κs. (search needs, search needs)) (λ c. search needs) (λ c. search needs)
+    (λ c. (search needs, search needs, search needs, search needs, search needs, search fresh-more)) (λ c. search needs) (λ c. search moves-done))

@@ -13,16 +13,10 @@ Inv-loop s at value₀ weight₀ least₀ i₀ left₀ value weight least i left
 abbrev μ-loop : tie.MeasureT-loop
 μ-loop s at value₀ weight₀ least₀ i₀ left₀ value weight least i left = left
 
-loop-holds : tie.Need-loop-holds Inv-loop μ-loop
-loop-holds c = (scaled-none _, omega arith, omega arith)
-
 returns : tie.Need-returns Inv-loop μ-loop
 returns c =
     let l = c .before .before .loop in
     sym (l .inv .0 ∙ ap (scaled (l .value) (l .weight)) (ends _ _ _ _ _ (c .before .loop-test .taken) (c .if1 .taken)))
-
-cast-b : tie.Need-cast-b Inv-loop μ-loop
-cast-b c = omega (arith, c .shared-slice-known .given (c .before .before .before .loop .i))
 
 returns-2 : tie.Need-returns-2 Inv-loop μ-loop
 returns-2 c =
@@ -78,24 +72,6 @@ returns-4 c =
 
 pub read-number-spec : {M : Type 1} → statement M
 read-number-spec =
-    tie.close
-    (tie.spec
-    Inv-loop
-    μ-loop
-    loop-holds
-    returns
-    (λ c. search needs)
-    cast-b
-    returns-2
-    mul-t15
-    add-t16
-    (λ c. search needs)
-    returns-3
-    mul-value
-    add-value
-    mul-weight
-    (λ c. search needs)
-    (λ c. search needs)
-    (λ c. search needs)
-    loop-again
-    returns-4)
+    tie.close (tie.spec Inv-loop μ-loop (λ c. (scaled-none _, omega arith, omega arith)) returns (λ c. search needs)
+    (λ c. omega (arith, c .shared-slice-known .given (c .before .before .before .loop .i))) returns-2 mul-t15 add-t16 (λ c. search needs) returns-3
+    mul-value add-value mul-weight (λ c. search needs) (λ c. search needs) (λ c. search needs) loop-again returns-4)

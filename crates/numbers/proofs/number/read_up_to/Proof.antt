@@ -26,13 +26,4 @@ returns-4 c =
     simp (sym (v .before .before .read-number .ensures) ∙ ap step (v .v .given .1), ne-eqb _ _ (c .before .if1 .left), lt-leb _ _ (c .if2 .left))
 
 pub read-up-to-spec : {M : Type 1} → statement M
-read-up-to-spec =
-    tie.close
-    (tie.spec
-    (λ c κs. search needs)
-    (λ c. search needs)
-    (λ c. search needs)
-    returns
-    returns-2
-    returns-3
-    returns-4)
+read-up-to-spec = tie.close (tie.spec (λ c κs. search needs) (λ c. search needs) (λ c. search needs) returns returns-2 returns-3 returns-4)

@@ -5,11 +5,4 @@ use Rattle.page.proofs.writing.put.Statement.{statement}
 use Rattle.page.proofs.writing.put.Tie as tie
 
 pub put-spec : {M : Type 1} → statement M
-put-spec =
-    tie.close
-    (tie.spec
-    (λ c. search needs)
-    (λ c. search needs)
-    (λ c. search needs)
-    (λ c. search room)
-    (λ c. search full))
+put-spec = tie.close (tie.spec (λ c. search needs) (λ c. search needs) (λ c. search needs) (λ c. search room) (λ c. search full))

@@ -13,16 +13,6 @@ abbrev μ-loop : tie.MeasureT-loop
 
 pub put-all-spec : {M : Type 1} → statement M
 put-all-spec =
-    tie.close
-    (tie.spec
-    Inv-loop
-    μ-loop
-    (λ c. (search needs, search needs, search needs, search none-said))
-    (λ c. search needs)
-    (λ c. search byte-inside)
-    (λ c. search needs)
-    (λ c. search needs)
-    (λ c. search needs)
-    (λ c. (search needs, search needs, search needs, search byte-put))
-    (λ c. search needs)
-    (λ c. search all-said))
+    tie.close (tie.spec Inv-loop μ-loop (λ c. (search needs, search needs, search needs, search none-said)) (λ c. search needs)
+    (λ c. search byte-inside) (λ c. search needs) (λ c. search needs) (λ c. search needs)
+    (λ c. (search needs, search needs, search needs, search byte-put)) (λ c. search needs) (λ c. search all-said))

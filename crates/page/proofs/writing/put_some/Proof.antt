@@ -13,15 +13,5 @@ abbrev μ-loop : tie.MeasureT-loop
 
 pub put-some-spec : {M : Type 1} → statement M
 put-some-spec =
-    tie.close
-    (tie.spec
-    Inv-loop
-    μ-loop
-    (λ c. (search needs, search needs, search none-said))
-    (λ c. search needs)
-    (λ c κs. search needs)
-    (λ c. search needs)
-    (λ c. search needs)
-    (λ c. (search needs, search needs, search byte-said))
-    (λ c. search needs)
-    (λ c. search all-said))
+    tie.close (tie.spec Inv-loop μ-loop (λ c. (search needs, search needs, search none-said)) (λ c. search needs) (λ c κs. search needs)
+    (λ c. search needs) (λ c. search needs) (λ c. (search needs, search needs, search byte-said)) (λ c. search needs) (λ c. search all-said))

@@ -6,17 +6,6 @@ use Rattle.reader.proofs.head.read_head.Tie as tie
 
 pub read-head-spec : {M : Type 1} → statement M
 read-head-spec =
-    tie.close
-    (tie.spec
-    (λ c. search needs)
-    (λ c κs. search needs)
-    (λ c κs. search needs)
-    (λ c. search needs)
-    (λ c. search needs)
-    (λ c κs. search needs)
-    (λ c. search needs)
-    (λ c. search needs)
-    (λ c. search head-no-processors)
-    (λ c. search head-no-count)
-    (λ c. search head-whole)
-    (λ c. search head-unmarked))
+    tie.close (tie.spec (λ c. search needs) (λ c κs. search needs) (λ c κs. search needs) (λ c. search needs) (λ c. search needs)
+    (λ c κs. search needs) (λ c. search needs) (λ c. search needs) (λ c. search head-no-processors) (λ c. search head-no-count)
+    (λ c. search head-whole) (λ c. search head-unmarked))

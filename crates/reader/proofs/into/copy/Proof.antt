@@ -14,17 +14,6 @@ abbrev μ-loop : tie.MeasureT-loop
 
 pub copy-spec : {M : Type 1} → statement M
 copy-spec =
-    tie.close
-    (tie.spec
-    Inv-loop
-    μ-loop
-    (λ c. (search needs, search upto-none))
-    (λ c. search needs)
-    (λ c. search needs)
-    (λ c. search needs)
-    (λ c. search (needs, upto-room))
-    (λ c. search needs)
-    (λ c. search needs)
-    (λ c. (search needs, search upto-set))
-    (λ c. search upto-long)
+    tie.close (tie.spec Inv-loop μ-loop (λ c. (search needs, search upto-none)) (λ c. search needs) (λ c. search needs) (λ c. search needs)
+    (λ c. search (needs, upto-room)) (λ c. search needs) (λ c. search needs) (λ c. (search needs, search upto-set)) (λ c. search upto-long)
     (λ c. search upto-whole))

@@ -6,18 +6,7 @@ use Rattle.reader.proofs.into.read_body.Tie as tie
 
 pub read-body-spec : {M : Type 1} → statement M
 read-body-spec =
-    tie.close
-    (tie.spec
-    (λ c. search needs)
-    (λ c. search needs)
-    (λ c κs. (search few-rows, search own-room, search parts-room))
-    (λ c. search needs)
-    (λ c. search needs)
-    (λ c. search bytes-over)
-    (λ c. search needs)
-    (λ c. search needs)
-    (λ c κs. (search few-rows, search own-inside, search parts-inside))
-    (λ c. search rows-refused)
-    (λ c. search needs)
-    (λ c. search needs)
+    tie.close (tie.spec (λ c. search needs) (λ c. search needs) (λ c κs. (search few-rows, search own-room, search parts-room)) (λ c. search needs)
+    (λ c. search needs) (λ c. search bytes-over) (λ c. search needs) (λ c. search needs)
+    (λ c κs. (search few-rows, search own-inside, search parts-inside)) (λ c. search rows-refused) (λ c. search needs) (λ c. search needs)
     (λ c. search (whole-read, own-room, parts-room)))

@@ -6,13 +6,5 @@ use Rattle.reader.proofs.into.read_into.Tie as tie
 
 pub read-into-spec : {M : Type 1} → statement M
 read-into-spec =
-    tie.close
-    (tie.spec
-    (λ c κs. search needs)
-    (λ c. search needs)
-    (λ c. search needs)
-    (λ c κs. search head-told)
-    (λ c. search head-refused)
-    (λ c. search needs)
-    (λ c. search needs)
-    (λ c. search needs))
+    tie.close (tie.spec (λ c κs. search needs) (λ c. search needs) (λ c. search needs) (λ c κs. search head-told) (λ c. search head-refused)
+    (λ c. search needs) (λ c. search needs) (λ c. search needs))

@@ -6,11 +6,5 @@ use Rattle.reader.proofs.labels.label.Tie as tie
 
 pub label-spec : {M : Type 1} → statement M
 label-spec =
-    tie.close
-    (tie.spec
-    (λ c κs. search needs)
-    (λ c. search (needs, part-ends))
-    (λ c. search needs)
-    (λ c. search needs)
-    (λ c. search part-fits)
+    tie.close (tie.spec (λ c κs. search needs) (λ c. search (needs, part-ends)) (λ c. search needs) (λ c. search needs) (λ c. search part-fits)
     (λ c. search part-shown))

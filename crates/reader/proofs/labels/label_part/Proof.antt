@@ -6,12 +6,5 @@ use Rattle.reader.proofs.labels.label_part.Tie as tie
 
 pub label-part-spec : {M : Type 1} → statement M
 label-part-spec =
-    tie.close
-    (tie.spec
-    (λ c. search needs)
-    (λ c. search needs)
-    (λ c κs. search needs)
-    (λ c. search needs)
-    (λ c κs. search needs)
-    (λ c. search part-was-read)
-    (λ c. search no-part))
+    tie.close (tie.spec (λ c. search needs) (λ c. search needs) (λ c κs. search needs) (λ c. search needs) (λ c κs. search needs)
+    (λ c. search part-was-read) (λ c. search no-part))

@@ -18,19 +18,6 @@ abbrev μ-loop : tie.MeasureT-loop
 
 pub label-parts-spec : {M : Type 1} → statement M
 label-parts-spec =
-    tie.close
-    (tie.spec
-    Inv-loop
-    μ-loop
-    (λ c. search needs)
-    (λ c. search needs)
-    (λ c κs. search needs)
-    (λ c. (search needs, search upto-none, search parts-were-read))
-    (λ c. search needs)
-    (λ c κs. search needs)
-    (λ c. search needs)
-    (λ c. search needs)
-    (λ c. search needs)
-    (λ c. search needs)
-    (λ c. (search needs, search one-part-more, search needs))
-    (λ c. search all-parts))
+    tie.close (tie.spec Inv-loop μ-loop (λ c. search needs) (λ c. search needs) (λ c κs. search needs)
+    (λ c. (search needs, search upto-none, search parts-were-read)) (λ c. search needs) (λ c κs. search needs) (λ c. search needs)
+    (λ c. search needs) (λ c. search needs) (λ c. search needs) (λ c. (search needs, search one-part-more, search needs)) (λ c. search all-parts))

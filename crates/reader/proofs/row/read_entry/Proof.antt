@@ -6,14 +6,5 @@ use Rattle.reader.proofs.row.read_entry.Tie as tie
 
 pub read-entry-spec : {M : Type 1} → statement M
 read-entry-spec =
-    tie.close
-    (tie.spec
-    (λ c κs. search needs)
-    (λ c. search needs)
-    (λ c. search needs)
-    (λ c κs. search needs)
-    (λ c. search needs)
-    (λ c. search needs)
-    (λ c. (search entry-no-label, tt))
-    (λ c. (search entry-no-numbers, tt))
-    (λ c. (search whole-entry, search entry-part)))
+    tie.close (tie.spec (λ c κs. search needs) (λ c. search needs) (λ c. search needs) (λ c κs. search needs) (λ c. search needs)
+    (λ c. search needs) (λ c. (search entry-no-label, tt)) (λ c. (search entry-no-numbers, tt)) (λ c. (search whole-entry, search entry-part)))

@@ -6,16 +6,6 @@ use Rattle.reader.proofs.row.read_label.Tie as tie
 
 pub read-label-spec : {M : Type 1} → statement M
 read-label-spec =
-    tie.close
-    (tie.spec
-    (λ c κs. search needs)
-    (λ c. search needs)
-    (λ c. search needs)
-    (λ c. search label-ends)
-    (λ c. (search label-too-long, tt))
-    (λ c κs. search needs)
-    (λ c. search needs)
-    (λ c. search needs)
-    (λ c. (search label-no-length, tt))
-    (λ c. (search label-bad-byte, tt))
+    tie.close (tie.spec (λ c κs. search needs) (λ c. search needs) (λ c. search needs) (λ c. search label-ends) (λ c. (search label-too-long, tt))
+    (λ c κs. search needs) (λ c. search needs) (λ c. search needs) (λ c. (search label-no-length, tt)) (λ c. (search label-bad-byte, tt))
     (λ c. (search label-whole, search label-lies-at)))

@@ -15,15 +15,5 @@ abbrev μ-loop : tie.MeasureT-loop
 
 pub read-plain-spec : {M : Type 1} → statement M
 read-plain-spec =
-    tie.close
-    (tie.spec
-    Inv-loop
-    μ-loop
-    (λ c. (search needs, refl))
-    (λ c. search needs)
-    (λ c. search plain-low)
-    (λ c. search plain-high)
-    (λ c. search needs)
-    (λ c. search needs)
-    (λ c. (search needs, search plain-more))
-    (λ c. search plain-all))
+    tie.close (tie.spec Inv-loop μ-loop (λ c. (search needs, refl)) (λ c. search needs) (λ c. search plain-low) (λ c. search plain-high)
+    (λ c. search needs) (λ c. search needs) (λ c. (search needs, search plain-more)) (λ c. search plain-all))

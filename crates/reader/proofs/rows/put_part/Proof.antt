@@ -6,14 +6,5 @@ use Rattle.reader.proofs.rows.put_part.Tie as tie
 
 pub put-part-spec : {M : Type 1} → statement M
 put-part-spec =
-    tie.close
-    (tie.spec
-    (λ c. search needs)
-    (λ c. search needs)
-    (λ c. search needs)
-    (λ c. search needs)
-    (λ c. search needs)
-    (λ c. search needs)
-    (λ c. search length-inside)
-    (λ c. search needs)
-    (λ c. search part-set))
+    tie.close (tie.spec (λ c. search needs) (λ c. search needs) (λ c. search needs) (λ c. search needs) (λ c. search needs) (λ c. search needs)
+    (λ c. search length-inside) (λ c. search needs) (λ c. search part-set))

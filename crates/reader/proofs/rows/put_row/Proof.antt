@@ -6,23 +6,6 @@ use Rattle.reader.proofs.rows.put_row.Tie as tie
 
 pub put-row-spec : {M : Type 1} → statement M
 put-row-spec =
-    tie.close
-    (tie.spec
-    (λ c. search needs)
-    (λ c. search needs)
-    (λ c. search needs)
-    (λ c. search needs)
-    (λ c. search needs)
-    (λ c. search needs)
-    (λ c. search needs)
-    (λ c. search second-inside)
-    (λ c. search needs)
-    (λ c. search needs)
-    (λ c. search needs)
-    (λ c. search third-inside)
-    (λ c. search needs)
-    (λ c. search needs)
-    (λ c. search needs)
-    (λ c. search fourth-inside)
-    (λ c. search needs)
-    (λ c. search row-set))
+    tie.close (tie.spec (λ c. search needs) (λ c. search needs) (λ c. search needs) (λ c. search needs) (λ c. search needs) (λ c. search needs)
+    (λ c. search needs) (λ c. search second-inside) (λ c. search needs) (λ c. search needs) (λ c. search needs) (λ c. search third-inside)
+    (λ c. search needs) (λ c. search needs) (λ c. search needs) (λ c. search fourth-inside) (λ c. search needs) (λ c. search row-set))

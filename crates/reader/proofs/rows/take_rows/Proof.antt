@@ -16,24 +16,9 @@ abbrev μ-loop : tie.MeasureT-loop
 
 pub take-rows-spec : {M : Type 1} → statement M
 take-rows-spec =
-    tie.close
-    (tie.spec
-    Inv-loop
-    μ-loop
-    (λ c. search needs)
-    (λ c. search count-inside)
-    (λ c. (search needs, search none-passed, search head-put, search no-part-put))
-    (λ c κs. search needs)
-    (λ c. search needs)
-    (λ c. search list-long)
-    (λ c. search parts-long)
-    (λ c. (search row-refused, tt))
-    (λ c. search needs)
-    (λ c κs. (search needs, search row-room))
-    (λ c κs. (search needs, search part-room))
-    (λ c. search needs)
-    (λ c. search needs)
-    (λ c. (search needs, search one-passed, search row-put, search part-put))
-    (λ c. search list-long)
-    (λ c. search parts-long)
+    tie.close (tie.spec Inv-loop μ-loop (λ c. search needs) (λ c. search count-inside)
+    (λ c. (search needs, search none-passed, search head-put, search no-part-put)) (λ c κs. search needs) (λ c. search needs)
+    (λ c. search list-long) (λ c. search parts-long) (λ c. (search row-refused, tt)) (λ c. search needs) (λ c κs. (search needs, search row-room))
+    (λ c κs. (search needs, search part-room)) (λ c. search needs) (λ c. search needs)
+    (λ c. (search needs, search one-passed, search row-put, search part-put)) (λ c. search list-long) (λ c. search parts-long)
     (λ c. (search all-passed, (search rows-put, search parts-put))))

@@ -29,5 +29,4 @@ unfolding legalRecord
 returns-6 c = search tests
 
 pub is-legal-record-spec : {M : Type 1} → statement M
-is-legal-record-spec =
-    tie.close (tie.spec returns returns-2 returns-3 returns-4 returns-5 returns-6)
+is-legal-record-spec = tie.close (tie.spec returns returns-2 returns-3 returns-4 returns-5 returns-6)

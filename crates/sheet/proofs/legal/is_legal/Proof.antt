@@ -6,14 +6,5 @@ use Rattle.sheet.proofs.legal.is_legal.Tie as tie
 
 pub is-legal-spec : {M : Type 1} → statement M
 is-legal-spec =
-    tie.close
-    (tie.spec
-    (λ c κs. search needs)
-    (λ c κs. search needs)
-    (λ c κs. search needs)
-    (λ c. search rows-scaled)
-    (λ c. search sheet-scaled)
-    (λ c. search ends-before-rows)
-    (λ c κs. (search head-fits, search needs))
-    (λ c. search rows-decide)
-    (λ c. search head-fails))
+    tie.close (tie.spec (λ c κs. search needs) (λ c κs. search needs) (λ c κs. search needs) (λ c. search rows-scaled) (λ c. search sheet-scaled)
+    (λ c. search ends-before-rows) (λ c κs. (search head-fits, search needs)) (λ c. search rows-decide) (λ c. search head-fails))

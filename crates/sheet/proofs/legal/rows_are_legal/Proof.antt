@@ -15,15 +15,6 @@ abbrev μ-loop : tie.MeasureT-loop
 pub rows-are-legal-spec : {M : Type 1} → statement M
 unfolding allOf
 rows-are-legal-spec =
-    tie.close
-    (tie.spec
-    Inv-loop
-    μ-loop
-    (λ c. (search needs, search needs, search needs, refl))
-    (λ c κs. (search needs, search needs))
-    (λ c κs. search needs)
-    (λ c. search needs)
-    (λ c. search needs)
-    (λ c. (search needs, search needs, search needs, search rows-legal-more))
-    (λ c. search rows-legal-fails)
-    (λ c. search rows-legal-done))
+    tie.close (tie.spec Inv-loop μ-loop (λ c. (search needs, search needs, search needs, refl)) (λ c κs. (search needs, search needs))
+    (λ c κs. search needs) (λ c. search needs) (λ c. search needs) (λ c. (search needs, search needs, search needs, search rows-legal-more))
+    (λ c. search rows-legal-fails) (λ c. search rows-legal-done))

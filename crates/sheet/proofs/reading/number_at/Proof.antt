@@ -5,10 +5,4 @@ use Rattle.sheet.proofs.reading.number_at.Statement.{statement}
 use Rattle.sheet.proofs.reading.number_at.Tie as tie
 
 pub number-at-spec : {M : Type 1} → statement M
-number-at-spec =
-    tie.close
-    (tie.spec
-    (λ c. search needs)
-    (λ c. search needs)
-    (λ c. search needs)
-    (λ c. search number-past))
+number-at-spec = tie.close (tie.spec (λ c. search needs) (λ c. search needs) (λ c. search needs) (λ c. search number-past))

@@ -17,17 +17,6 @@ abbrev μ-loop : tie.MeasureT-loop
 pub sheet-in-spec : {M : Type 1} → statement M
 unfolding upto
 sheet-in-spec =
-    tie.close
-    (tie.spec
-    Inv-loop
-    μ-loop
-    (λ c. (search needs, refl))
-    (λ c κs. search needs)
-    (λ c. search needs)
-    (λ c. search needs)
-    (λ c. search needs)
-    (λ c. search needs)
-    (λ c. (search needs, search rows-more))
-    (λ c κs. search needs)
-    (λ c κs. search needs)
+    tie.close (tie.spec Inv-loop μ-loop (λ c. (search needs, refl)) (λ c κs. search needs) (λ c. search needs) (λ c. search needs)
+    (λ c. search needs) (λ c. search needs) (λ c. (search needs, search rows-more)) (λ c κs. search needs) (λ c κs. search needs)
     (λ c. search sheet-read))

@@ -8,11 +8,4 @@ use Rattle.sheet.proofs.writing.cell_by.Tie as tie
 pub cell-by-spec : {M : Type 1} → statement M
 unfolding cellBy
 cell-by-spec =
-    tie.close
-    (tie.spec
-    (λ c. search tests)
-    (λ c. search tests)
-    (λ c. search tests)
-    (λ c. search needs)
-    (λ c κs. search needs)
-    (λ c. search tests))
+    tie.close (tie.spec (λ c. search tests) (λ c. search tests) (λ c. search tests) (λ c. search needs) (λ c κs. search needs) (λ c. search tests))

@@ -14,15 +14,5 @@ abbrev μ-loop : tie.MeasureT-loop
 
 pub clear-from-spec : {M : Type 1} → statement M
 clear-from-spec =
-    tie.close
-    (tie.spec
-    Inv-loop
-    μ-loop
-    (λ c. (search needs, search needs, search clear-none))
-    (λ c. search needs)
-    (λ c. search needs)
-    (λ c. search needs)
-    (λ c. search needs)
-    (λ c. (search needs, search needs, search clear-more))
-    (λ c. search needs)
-    (λ c. search clear-done))
+    tie.close (tie.spec Inv-loop μ-loop (λ c. (search needs, search needs, search clear-none)) (λ c. search needs) (λ c. search needs)
+    (λ c. search needs) (λ c. search needs) (λ c. (search needs, search needs, search clear-more)) (λ c. search needs) (λ c. search clear-done))

@@ -16,19 +16,7 @@ abbrev μ-loop : tie.MeasureT-loop
 
 pub put-sheet-spec : {M : Type 1} → statement M
 put-sheet-spec =
-    tie.close
-    (tie.spec
-    Inv-loop
-    μ-loop
-    (λ c. (search needs, search needs, search upto-none))
-    (λ c κs. search needs)
-    (λ c. search (needs, row-there))
-    (λ c. search (needs, row-there))
-    (λ c κs. search needs)
-    (λ c. search needs)
-    (λ c. search needs)
-    (λ c. search needs)
-    (λ c. search needs)
-    (λ c. (search needs, search needs, search (cell-stored, unmapped)))
-    (λ c. search needs)
+    tie.close (tie.spec Inv-loop μ-loop (λ c. (search needs, search needs, search upto-none)) (λ c κs. search needs)
+    (λ c. search (needs, row-there)) (λ c. search (needs, row-there)) (λ c κs. search needs) (λ c. search needs) (λ c. search needs)
+    (λ c. search needs) (λ c. search needs) (λ c. (search needs, search needs, search (cell-stored, unmapped))) (λ c. search needs)
     (λ c. search fill-done))

@@ -6,10 +6,4 @@ use Rattle.sheet.proofs.writing.row_cell.Tie as tie
 
 pub row-cell-spec : {M : Type 1} → statement M
 unfolding rowCell
-row-cell-spec =
-    tie.close
-    (tie.spec
-    (λ c. search tests)
-    (λ c. search tests)
-    (λ c. search tests)
-    (λ c. search tests))
+row-cell-spec = tie.close (tie.spec (λ c. search tests) (λ c. search tests) (λ c. search tests) (λ c. search tests))

@@ -6,9 +6,4 @@ use Rattle.sheet.proofs.writing.row_of.Tie as tie
 
 pub row-of-spec : {M : Type 1} → statement M
 unfolding rowOf
-row-of-spec =
-    tie.close
-    (tie.spec
-    (λ c. search tests)
-    (λ c. search tests)
-    (λ c. search tests))
+row-of-spec = tie.close (tie.spec (λ c. search tests) (λ c. search tests) (λ c. search tests))

@@ -5,8 +5,5 @@ use Rattle.states.proofs.Inside.ValueLists.{sheet-in-list}
 use Rattle.states.proofs.lists.listed.Statement.{statement}
 use Rattle.states.proofs.lists.listed.Tie as tie
 
-returns : tie.Need-returns
-returns c = search (needs, sheet-in-list, unmapped)
-
 pub listed-spec : {M : Type 1} → statement M
-listed-spec = tie.close (tie.spec (λ c. search needs) (λ c κs. search needs) returns)
+listed-spec = tie.close (tie.spec (λ c. search needs) (λ c κs. search needs) (λ c. search (needs, sheet-in-list, unmapped)))

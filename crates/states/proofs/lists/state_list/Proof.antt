@@ -20,31 +20,8 @@ Inv-loop state list₀ i₀ list i =
 abbrev μ-loop : tie.MeasureT-loop
 μ-loop state list₀ i₀ list i = mostRows - i
 
-loop-holds : tie.Need-loop-holds Inv-loop μ-loop
-loop-holds c = (search needs, search needs, search put-none, refl)
-
-loop-again : tie.Need-loop-again Inv-loop μ-loop
-loop-again c = (search needs, search both-stored, search list-more, search needs)
-
-returns : tie.Need-returns Inv-loop μ-loop
-returns c = search (state-in-list, unmapped)
-
 pub state-list-spec : {M : Type 1} → statement M
 state-list-spec =
-    tie.close
-    (tie.spec
-    Inv-loop
-    μ-loop
-    loop-holds
-    (λ c. search needs)
-    (λ c. search needs)
-    (λ c. search needs)
-    (λ c. search needs)
-    (λ c. search needs)
-    (λ c. search needs)
-    (λ c. search needs)
-    (λ c. search needs)
-    (λ c. search needs)
-    (λ c. search needs)
-    loop-again
-    returns)
+    tie.close (tie.spec Inv-loop μ-loop (λ c. (search needs, search needs, search put-none, refl)) (λ c. search needs) (λ c. search needs)
+    (λ c. search needs) (λ c. search needs) (λ c. search needs) (λ c. search needs) (λ c. search needs) (λ c. search needs) (λ c. search needs)
+    (λ c. search needs) (λ c. (search needs, search both-stored, search list-more, search needs)) (λ c. search (state-in-list, unmapped)))

@@ -6,19 +6,6 @@ use Rattle.tables.proofs.fixed.fixed_sheet.Tie as tie
 
 pub fixed-sheet-spec : {M : Type 1} → statement M
 fixed-sheet-spec =
-    tie.close
-    (tie.spec
-    (λ c κs. search needs)
-    (λ c. search fixed-a)
-    (λ c κs. search needs)
-    (λ c. search fixed-b)
-    (λ c κs. search needs)
-    (λ c. search fixed-c)
-    (λ c κs. search needs)
-    (λ c. search fixed-d)
-    (λ c κs. search needs)
-    (λ c. search fixed-e)
-    (λ c κs. search needs)
-    (λ c. search fixed-f)
-    (λ c κs. search needs)
-    (λ c. search fixed-none))
+    tie.close (tie.spec (λ c κs. search needs) (λ c. search fixed-a) (λ c κs. search needs) (λ c. search fixed-b) (λ c κs. search needs)
+    (λ c. search fixed-c) (λ c κs. search needs) (λ c. search fixed-d) (λ c κs. search needs) (λ c. search fixed-e) (λ c κs. search needs)
+    (λ c. search fixed-f) (λ c κs. search needs) (λ c. search fixed-none))

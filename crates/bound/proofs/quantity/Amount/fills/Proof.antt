@@ -4,8 +4,5 @@ use Rattle.bound.proofs.Durations.{fills-within, fills-most}
 use Rattle.bound.proofs.quantity.Amount.fills.Statement.{statement}
 use Rattle.bound.proofs.quantity.Amount.fills.Tie as tie
 
-returns : tie.Need-returns
-returns c = (search fills-within, search fills-most)
-
 pub fills-spec : {M : Type 1} → statement M
-fills-spec = tie.close (tie.spec (λ c. search needs) returns)
+fills-spec = tie.close (tie.spec (λ c. search needs) (λ c. (search fills-within, search fills-most)))

@@ -4,8 +4,5 @@ use Rattle.bound.proofs.Durations.{rest-fits}
 use Rattle.bound.proofs.quantity.Duration.left.Statement.{statement}
 use Rattle.bound.proofs.quantity.Duration.left.Tie as tie
 
-cast-t6 : tie.Need-cast-t6
-cast-t6 c = search rest-fits
-
 pub left-spec : {M : Type 1} → statement M
-left-spec = tie.close (tie.spec (λ c. search needs) (λ c. search needs) (λ c. search needs) cast-t6 (λ c. search needs))
+left-spec = tie.close (tie.spec (λ c. search needs) (λ c. search needs) (λ c. search needs) (λ c. search rest-fits) (λ c. search needs))

@@ -4,11 +4,5 @@ use Rattle.bound.proofs.Durations.{weighed-fits, part-fits}
 use Rattle.bound.proofs.quantity.Duration.part.Statement.{statement}
 use Rattle.bound.proofs.quantity.Duration.part.Tie as tie
 
-mul-t4 : tie.Need-mul-t4
-mul-t4 c = search weighed-fits
-
-mul-t5 : tie.Need-mul-t5
-mul-t5 c = search part-fits
-
 pub part-spec : {M : Type 1} → statement M
-part-spec = tie.close (tie.spec mul-t4 mul-t5 (λ c. search needs) (λ c. search needs))
+part-spec = tie.close (tie.spec (λ c. search weighed-fits) (λ c. search part-fits) (λ c. search needs) (λ c. search needs))

@@ -4,8 +4,5 @@ use Rattle.bound.proofs.Durations.{rounds-fit}
 use Rattle.bound.proofs.quantity.Duration.rounds.Statement.{statement}
 use Rattle.bound.proofs.quantity.Duration.rounds.Tie as tie
 
-cast-result-3 : tie.Need-cast-result-3
-cast-result-3 c = search rounds-fit
-
 pub rounds-spec : {M : Type 1} → statement M
-rounds-spec = tie.close (tie.spec (λ c. search needs) (λ c. search needs) (λ c. search needs) cast-result-3 (λ c. search needs))
+rounds-spec = tie.close (tie.spec (λ c. search needs) (λ c. search needs) (λ c. search needs) (λ c. search rounds-fit) (λ c. search needs))

@@ -4,8 +4,5 @@ use Rattle.bound.proofs.Durations.{fine-amount-fits}
 use Rattle.bound.proofs.quantity.Fine.on.Statement.{statement}
 use Rattle.bound.proofs.quantity.Fine.on.Tie as tie
 
-mul-t3 : tie.Need-mul-t3
-mul-t3 c = search fine-amount-fits
-
 pub on-spec : {M : Type 1} → statement M
-on-spec = tie.close (tie.spec mul-t3 (λ c. search needs))
+on-spec = tie.close (tie.spec (λ c. search fine-amount-fits) (λ c. search needs))

@@ -4,11 +4,5 @@ use Rattle.records.proofs.Inside.Records.{age-at, age-else}
 use Rattle.records.proofs.record.RowState.aged.Statement.{statement}
 use Rattle.records.proofs.record.RowState.aged.Tie as tie
 
-returns : tie.Need-returns
-returns c = search age-at
-
-returns-2 : tie.Need-returns-2
-returns-2 c = search age-else
-
 pub aged-spec : {M : Type 1} → statement M
-aged-spec = tie.close (tie.spec (λ c κs. search needs) (λ c κs. search needs) returns returns-2)
+aged-spec = tie.close (tie.spec (λ c κs. search needs) (λ c κs. search needs) (λ c. search age-at) (λ c. search age-else))

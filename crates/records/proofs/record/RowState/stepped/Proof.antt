@@ -4,8 +4,5 @@ use Rattle.records.proofs.RowSlots.{stepped-is}
 use Rattle.records.proofs.record.RowState.stepped.Statement.{statement}
 use Rattle.records.proofs.record.RowState.stepped.Tie as tie
 
-returns : tie.Need-returns
-returns c = search stepped-is
-
 pub stepped-spec : {M : Type 1} → statement M
-stepped-spec = tie.close (tie.spec (λ c κs. search needs) (λ c κs. search needs) (λ c κs. search needs) returns)
+stepped-spec = tie.close (tie.spec (λ c κs. search needs) (λ c κs. search needs) (λ c κs. search needs) (λ c. search stepped-is))

@@ -6,11 +6,5 @@ use Rattle.states.proofs.state.State.check_run.Tie as tie
 
 pub check-run-spec : {M : Type 1} → statement M
 check-run-spec =
-    tie.close
-    (tie.spec
-    (λ c κs. search needs)
-    (λ c κs. search needs)
-    (λ c. search needs)
-    (λ c. search needs)
-    (λ c κs. search needs)
+    tie.close (tie.spec (λ c κs. search needs) (λ c κs. search needs) (λ c. search needs) (λ c. search needs) (λ c κs. search needs)
     (λ c. search run-check-by-list))

@@ -6,11 +6,5 @@ use Rattle.states.proofs.state.State.check_slot.Tie as tie
 
 pub check-slot-spec : {M : Type 1} → statement M
 check-slot-spec =
-    tie.close
-    (tie.spec
-    (λ c κs. search needs)
-    (λ c κs. search needs)
-    (λ c. search needs)
-    (λ c. search needs)
-    (λ c κs. search needs)
+    tie.close (tie.spec (λ c κs. search needs) (λ c κs. search needs) (λ c. search needs) (λ c. search needs) (λ c κs. search needs)
     (λ c. search slot-check-by-list))

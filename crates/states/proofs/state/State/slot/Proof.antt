@@ -6,12 +6,6 @@ use Rattle.states.proofs.state.State.slot.Tie as tie
 
 pub slot-spec : {M : Type 1} → statement M
 slot-spec =
-    tie.close
-    (tie.spec
-    (λ c κs. search needs)
-    (λ c. search needs)
-    (λ c. search needs)
-    (λ c κs. (search rows-in-state, search rows-in-list, search rows-in-buffer))
-    (λ c. search slot-is-refused)
-    (λ c. search needs)
+    tie.close (tie.spec (λ c κs. search needs) (λ c. search needs) (λ c. search needs)
+    (λ c κs. (search rows-in-state, search rows-in-list, search rows-in-buffer)) (λ c. search slot-is-refused) (λ c. search needs)
     (λ c. search slot-is-accepted))
