@@ -29,8 +29,11 @@ pub enum Tried {
     Next(Duration, FineAmount),
 }
 
-// The trials after the first that go by what is known, before stretches are guessed.
-const CALM: u64 = 7;
+// The trials that go by what is known, before stretches are guessed.
+const CALM: u64 = 8;
+
+// Where among them, counted from their end, the shares of the rows above are asked for room.
+const ASKED: u64 = 4;
 
 // Where the search is: the length to try, the slots to guess next, and how many trials are left before it guesses.
 pub struct Pursuit {
@@ -114,8 +117,8 @@ fn leap(
     }
 }
 
-// The step from the first length, which fails: past the deadline where the rows above leave no room up to it, else to the next that is known.
-fn from_first(sheet: &[u64], results: &[u64], k: usize, at: Pursuit, next: Duration) -> Pursuit
+// The step from a length at which the shares are asked: past the deadline where the rows above leave no room up to it, else to the next that is known.
+fn by_shares(sheet: &[u64], results: &[u64], k: usize, at: Pursuit, next: Duration) -> Pursuit
     requires { ⌜ (Lent (now sheet) (now results)) × (Ready (sheetIn (now sheet)) (heldIn (now results)) k) × (Length (sheetIn (now sheet)) k (at .length)) × (Skips (sheetIn (now sheet)) (heldIn (now results)) k (at .length) next) ⌝ }
     ensures { λ r. ⌜ Skips (sheetIn (now (sheet .entry))) (heldIn (now (results .entry))) k (at .length) (r .length) ⌝ }
 {
@@ -132,11 +135,11 @@ fn from_first(sheet: &[u64], results: &[u64], k: usize, at: Pursuit, next: Durat
     Pursuit {
         length: next,
         guess,
-        calm: CALM,
+        calm: ASKED - 1,
     }
 }
 
-// The step from a length that fails: from the first one, to the next that is known, and after some trials by a guess.
+// The step from a length that fails: to the next that is known, once by the shares, and after some trials by a guess.
 fn further(
     sheet: &[u64],
     results: &[u64],
@@ -150,8 +153,8 @@ fn further(
 {
     let guess = at.guess;
     let calm = at.calm;
-    if CALM < calm {
-        return from_first(sheet, results, k, at, next);
+    if calm == ASKED {
+        return by_shares(sheet, results, k, at, next);
     }
     if 0 < calm {
         return Pursuit {
@@ -174,7 +177,7 @@ pub(crate) fn bound_of(sheet: &[u64], results: &[u64], k: usize) -> Result
     let mut at = Pursuit {
         length: first,
         guess: Duration(0),
-        calm: CALM + 1,
+        calm: CALM,
     };
     while at.length.0 <= deadline.0 {
         let length = at.length;

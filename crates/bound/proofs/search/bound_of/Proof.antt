@@ -19,7 +19,7 @@ abbrev μ-loop : tie.MeasureT-loop
 
 pub bound-of-spec : {M : Type 1} → statement M
 bound-of-spec =
-    tie.close (tie.spec Inv-loop μ-loop (λ c κs. search needs) (λ c κs. search needs) (λ c. search needs)
+    tie.close (tie.spec Inv-loop μ-loop (λ c κs. search needs) (λ c κs. search needs)
     (λ c. (search needs, search search-starts)) (λ c κs. (search needs, search needs, search length-of-row)) (λ c. search needs) (λ c. search needs)
     (λ c. search search-found) (λ c κs. (search needs, search needs, search length-of-row, search told-next)) (λ c. search (search-less, le-of-lt))
     (λ c. (search search-low, search search-more)) (λ c. search search-ends))
