@@ -154,22 +154,10 @@ module _ (h : Sheet) (R : ℕ → Duration) (k : ℕ) (r : Ready h R k) where
 -- ---- one row above, as the code has it
 
 module _ (m : ℕ) (a o : Row) (v : Duration) where
-  pub carried-wide : a .threads < o .threads → slots (a .budget) ≡ carriedOf m a o v
-  unfolding carriedOf
-  carried-wide w = rw (lt-ltb _ _ w)
-
   pub carried-within : Above o v (C a) → (w : Duration) → w .0 ≡ v .0 - o .budget → Fits w64 (w .0 + a .budget)
   carried-within ab w e = omega (arith, ab)
 
-  pub carried-small : o .threads ≤ a .threads → o .budget ≤ a .budget → (w z : Duration) → w .0 ≡ v .0 - o .budget → z .0 ≡ w .0 + a .budget → z ≡ carriedOf m a o v
+  pub carried-is : (w y : Duration) → w .0 ≡ v .0 - o .budget → y .0 ≡ w .0 + a .budget → (g f e : Bool) → g ≡ ltb m (o .threads + a .threads) → f ≡ leb (o .budget) (a .budget) → e ≡ ltb (a .threads) (o .threads)
+      → (t u z : Duration) → t ≡ pick g v (slots (a .budget)) → u ≡ pick f y t → z ≡ pick e (slots (a .budget)) u → z ≡ carriedOf m a o v
   unfolding carriedOf
-  carried-small n s w z ew ez = rw (le-ltb (a .threads) (o .threads) n, le-leb (o .budget) (a .budget) s) (same z (slots (v .0 - o .budget + a .budget)) (omega arith))
-
-  module _ (n : o .threads ≤ a .threads) (l : a .budget < o .budget) where
-    pub carried-bound : m < o .threads + a .threads → v ≡ carriedOf m a o v
-    unfolding carriedOf
-    carried-bound t = rw (le-ltb (a .threads) (o .threads) n, lt-leb (o .budget) (a .budget) l, lt-ltb m (o .threads + a .threads) t)
-
-    pub carried-none : o .threads + a .threads ≤ m → slots (a .budget) ≡ carriedOf m a o v
-    unfolding carriedOf
-    carried-none t = rw (le-ltb (a .threads) (o .threads) n, lt-leb (o .budget) (a .budget) l, le-ltb m (o .threads + a .threads) t)
+  carried-is w y ew ey g f e eg ef ee t u z et eu ez = let es = same y (plus (minus v (C o)) (C a)) (omega arith) in cc

@@ -1,6 +1,6 @@
 -- The pace at which the sum of the amounts grows with the length: what the loop over the rows above joins.
 -- Assumes nothing.
-use Rattle.basis.specs.Prelude.{ℕ, _+_, _*_, _-_, _%_, _≤_, _<_, min, _≡_, ap, Bool, true, false, mul-le-mul-right, arith, eqb, ne-eqb}
+use Rattle.basis.specs.Prelude.{ℕ, _+_, _*_, _-_, _%_, _≤_, _<_, min, _≡_, ap, Bool, true, false, mul-le-mul-right, arith, ltb, Fits, w64}
 use Rattle.basis.specs.Limits.{mostProcessors, mostSeparation}
 use Rattle.basis.specs.Words.{pick, sum}
 use Rattle.basis.proofs.Inside.Sums.{sum-one-more}
@@ -13,7 +13,7 @@ use Rattle.bound.specs.Inside.Ready.{Ready, Length}
 use Rattle.bound.specs.Inside.Skipping.{Paces, stayOf, joined}
 use Rattle.bound.specs.declared.quantity.Duration.{Duration}
 use Rattle.bound.specs.declared.pace.Pace.{Pace}
-use Rattle.bound.proofs.Durations.{number}
+use Rattle.bound.proofs.Durations.{same, number}
 use Rattle.bound.proofs.Workload.{W-runs-on}
 use Rattle.bound.proofs.Amounts.{few-rows, row, amount-mono, capped-small}
 
@@ -88,10 +88,10 @@ module _ (h : Sheet) (R : ℕ → Duration) (k : ℕ) (r : Ready h R k) (L : Dur
 
     pub paces-more : Paces h R k L (i + 1) t
     unfolding joined
-    paces-more = go (eqb (s .0) 0) et where
-      go : (b : Bool) → t ≡ pick b p (record { width = p .width + g; stay = lesser (p .stay) s }) → Paces h R k L (i + 1) t
-      go true e = rw e left-out
-      go false e = rw e taken-in
+    paces-more = go (ltb 0 (s .0)) et where
+      go : (b : Bool) → t ≡ pick b (record { width = p .width + g; stay = lesser (p .stay) s }) p → Paces h R k L (i + 1) t
+      go true e = rw e taken-in
+      go false e = rw e left-out
 
   pub width-small : (i : ℕ) (p : Pace) → i < k → Paces h R k L i p → p .width ≤ widestRows * mostProcessors
   width-small i p l now = omega (arith, now .width, few-rows h R k r)
@@ -100,10 +100,17 @@ module _ (h : Sheet) (R : ℕ → Duration) (k : ℕ) (r : Ready h R k) (L : Dur
   paces-done i p now a b = let e : i ≡ k = omega arith in rw e at now
 
 -- a pace with a row more, as the code makes it
-pub join-none : (p : Pace) (g : ℕ) (s : Duration) → s .0 ≡ 0 → p ≡ joined p g s
-unfolding joined
-join-none p g s e = rw e
+pub join-fits : (n g w : ℕ) (b : Bool) → n ≤ widestRows * mostProcessors → g ≤ mostProcessors → w ≡ pick b g 0 → Fits w64 (n + w)
+join-fits n g w true few small e = omega arith
+join-fits n g w false few small e = omega arith
 
-pub join-more : (p : Pace) (g : ℕ) (s t : Duration) → (s .0 ≡ 0 → ⊥) → t .0 ≡ min (p .stay .0) (s .0) → _≡_ {A = Pace} (record { width = p .width + g; stay = t }) (joined p g s)
+pub join-more : (p : Pace) (g w : ℕ) (s u t : Duration) (b : Bool) → b ≡ ltb 0 (s .0) → w ≡ pick b g 0 → u ≡ pick b s (p .stay) → t .0 ≡ min (p .stay .0) (u .0)
+    → _≡_ {A = Pace} (record { width = p .width + w; stay = t }) (joined p g s)
 unfolding joined
-join-more p g s t e et = rw (ne-eqb (s .0) 0 e) (ap (λ (n : ℕ). record { width = p .width + g; stay = slots n }) et)
+join-more p g w s u t b eb ew eu et = rw (← eb) (go b ew eu) where
+  go : (b : Bool) → w ≡ pick b g 0 → u ≡ pick b s (p .stay) → _≡_ {A = Pace} (record { width = p .width + w; stay = t }) (pick b (record { width = p .width + g; stay = lesser (p .stay) s }) p)
+  go true ew eu = let e = same t (lesser (p .stay) s) (omega (arith, number eu)) in λ i. record { width = p .width + ew i; stay = e i }
+  go false ew eu =
+      let e = same t (p .stay) (omega (arith, number eu)) in
+      let f : p .width + w ≡ p .width = omega arith in
+      λ i. record { width = f i; stay = e i }

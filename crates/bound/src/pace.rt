@@ -2,6 +2,7 @@
 ghost use mathlib.Core.Path.{_≡_};
 ghost use Prim.Native.Nat.{_*_, _≤_};
 ghost use Rattle.basis.specs.Limits.{mostProcessors};
+ghost use Rattle.basis.specs.Words.{pick};
 ghost use Rattle.sheet.specs.Lists.{sheetIn};
 ghost use Rattle.bound.specs.Quantities.{widestRows};
 ghost use Rattle.bound.specs.Inside.Ready.{heldIn, Lent, Ready, Length, Above};
@@ -35,18 +36,27 @@ fn stay_of_row(row: Row, bound: Duration, length: Duration, X: Duration) -> Dura
     job.plus(W.minus(X))
 }
 
+// The processors that a row with this stay takes in a pace.
+fn taken(stays: bool, capped: u64) -> u64
+    ensures { λ r. ⌜ r ≡ pick stays capped 0 ⌝ }
+{
+    if stays {
+        return capped;
+    }
+    0
+}
+
 // The pace with a row more.
 fn joined(pace: Pace, capped: u64, stay: Duration) -> Pace
     requires { ⌜ (pace .width ≤ widestRows * mostProcessors) × (capped ≤ mostProcessors) ⌝ }
     ensures { λ r. ⌜ r ≡ joined pace capped stay ⌝ }
 {
-    if stay.0 == 0 {
-        return pace;
-    }
-    let shared = pace.stay.lesser(stay);
+    let stays = 0 < stay.0;
+    let width = pace.width + taken(stays, capped);
+    let shared = stay.where_so(stays, pace.stay);
     Pace {
-        width: pace.width + capped,
-        stay: shared,
+        width,
+        stay: pace.stay.lesser(shared),
     }
 }
 

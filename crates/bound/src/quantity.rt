@@ -5,6 +5,7 @@ ghost use Prim.Native.Nat.{_+_, _*_, _≤_, _<_};
 ghost use mir.Val.{Fits};
 ghost use mir.Syntax.{w64};
 ghost use Rattle.basis.specs.Limits.{mostProcessors};
+ghost use Rattle.basis.specs.Words.{pick};
 ghost use Rattle.bound.specs.Quantities.{widestSeparation, plus, minus, lesser, greater, times, into, left, on, noAmount, plusAmount, minusAmount, less, fine, partOf, lesserFine, pieces, onFine, fineAmount, plusFine, minusFine, reaches};
 
 // Slots.
@@ -64,6 +65,16 @@ impl Duration {
             return other;
         }
         self
+    }
+
+    // It where so, else another: of two values that are both there the compiler takes one without a jump.
+    pub(crate) fn where_so(self, so: bool, other: Duration) -> Duration
+        ensures { λ r. ⌜ r ≡ pick so self other ⌝ }
+    {
+        if so {
+            return self;
+        }
+        other
     }
 
     // So many times.

@@ -17,17 +17,11 @@ fn carried(m: u64, row: Row, above: Row, bound: Duration) -> Duration
     ensures { λ r. ⌜ r ≡ carriedOf m row above bound ⌝ }
 {
     let budget = Duration(row.budget);
-    if row.threads < above.threads {
-        return budget;
-    }
-    if above.budget <= row.budget {
-        let waits = bound.after(Duration(above.budget));
-        return waits.plus(budget);
-    }
-    if m < above.threads + row.threads {
-        return bound;
-    }
-    budget
+    let waits = bound.after(Duration(above.budget));
+    let longer = waits.plus(budget);
+    let together = bound.where_so(m < above.threads + row.threads, budget);
+    let later = longer.where_so(above.budget <= row.budget, together);
+    budget.where_so(row.threads < above.threads, later)
 }
 
 // The length of row `k` that the search begins with.

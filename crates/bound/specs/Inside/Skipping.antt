@@ -47,7 +47,7 @@ stayOf row R L X = plus (minus (C row) (left (x row R L) (T row))) (minus (W row
 
 -- A pace with a row more: where the row stays, its threads count, and the pace holds no longer than the row stays.
 unfoldable pub joined : Pace → ℕ → Duration → Pace
-joined p g s = pick (eqb (s .0) 0) p (record { width = p .width + g; stay = lesser (p .stay) s })
+joined p g s = pick (ltb 0 (s .0)) (record { width = p .width + g; stay = lesser (p .stay) s }) p
 
 -- The amounts of the first n rows grow at this pace: by its width with each slot that the length grows by, while it stays.
 pub record Paces (h : Sheet) (R : ℕ → Duration) (k : ℕ) (L : Duration) (n : ℕ) (p : Pace) : Type 0 where
