@@ -173,7 +173,7 @@ uint64_t skipping_bound(const sheet_t *sheet, const uint64_t *bounds, size_t k) 
     uint64_t sum = sum_above(sheet, bounds, k, length, q), room = q * (length - row->budget + 1);
     if (sum < room) return length;
     uint64_t next = next_length(sheet, bounds, k, length, q, sum - room);
-    if (tried == 1 && no_room(sheet, bounds, k, q)) return 0;
+    if (tried == 5 && no_room(sheet, bounds, k, q)) return 0;
     if (tried > 8 && next <= row->deadline) {
       uint64_t twice = 2 * (next - length), reach = smaller(guess < twice ? twice : guess, row->deadline - length);
       if (all_fail(sheet, bounds, k, length, length + reach, q, 256 * (sum - room) + 255)) {
