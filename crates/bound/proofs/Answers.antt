@@ -2,6 +2,7 @@
 -- Assumes nothing.
 use Rattle.basis.specs.Prelude.{ℕ, suc, _≤_, _<_, _≡_, refl, sym, ap, ap₂, _∙_, Bool, true, false, List, arith, length, getD, length-replicate}
 use Rattle.basis.specs.Limits.{mostRows}
+use Rattle.basis.specs.Upto.{upto}
 use Rattle.basis.specs.Refusals.{Outcome, accepted, refused, outcome, orElse, roomFor, handed}
 use Rattle.basis.specs.declared.refusal.Refusal.{Refusal}
 use Rattle.basis.proofs.Refusals.{outcome-one-to-one}
@@ -11,7 +12,7 @@ use Rattle.sheet.specs.Lists.{filled, sheetIn}
 use Rattle.sheet.specs.declared.row.Sheet.{Sheet}
 use Rattle.sheet.proofs.Legality.{legal-is}
 use Rattle.bound.specs.Test.{Test, passes}
-use Rattle.bound.specs.Bound.{Word, bound, none, unreached, word, wordIn, resultOf, allUnreached, holds, Answer, answer, judged, notLegal, boundsBy, boundsOf}
+use Rattle.bound.specs.Bound.{Word, bound, none, unreached, word, wordIn, resultOf, allUnreached, holds, Answer, answer, notLegal, boundsBy, boundsOf}
 use Rattle.bound.specs.Lists.{resultsLong, resultCell, resultsOn, boundsOn}
 use Rattle.bound.specs.declared.results.Result.{Result}
 use Rattle.bound.specs.declared.results.Result.the-variants.{Unreached, Bound, NoBound}
@@ -67,9 +68,10 @@ abbrev pub told : Answer → ℕ → Word
 told a i = getD (a .2) i unreached
 
 module _ (test : Test) (h : Sheet) where
-  pub legal-is-judged : legal h ≡ true → boundsBy test h ≡ judged test h
+  -- the answer to a legal sheet
+  pub legal-answer : legal h ≡ true → boundsBy test h ≡ (accepted, holds test h, upto (h .count) (resultOf test h) allUnreached)
   unfolding boundsBy
-  legal-is-judged e = rw e
+  legal-answer e = rw e
 
   -- a sheet that is not legal is refused by 10 at place 0, does not hold, and reaches no row
   pub refused-by-10 : legal h ≡ false → boundsBy test h ≡ notLegal
@@ -78,24 +80,21 @@ module _ (test : Test) (h : Sheet) where
 
   -- any refusal is that one
   pub only-refused-by-10 : (n p : ℕ) → boundsBy test h .0 ≡ refused n p → boundsBy test h ≡ notLegal
-  unfolding judged
   only-refused-by-10 n p e = go (legal h) refl where
     go : (b : Bool) → legal h ≡ b → boundsBy test h ≡ notLegal
     go false t = refused-by-10 t
-    go true t = absurd (let f : accepted ≡ refused n p = sym (ap (λ (x : Answer). x .0) (legal-is-judged t)) ∙ e in let z : _≡_ {A = ℕ} 0 1 = cc in omega arith)
+    go true t = absurd (let f : accepted ≡ refused n p = sym (ap (λ (x : Answer). x .0) (legal-answer t)) ∙ e in let z : _≡_ {A = ℕ} 0 1 = cc in omega arith)
 
   -- in a legal sheet a row's place has its result
   pub told-is : legal h ≡ true → (i : ℕ) → i < h .count → told (boundsBy test h) i ≡ resultOf test h i
-  unfolding judged
   told-is e i l =
-      ap (λ (x : Answer). told x i) (legal-is-judged e)
+      ap (λ (x : Answer). told x i) (legal-answer e)
       ∙ upto-below (h .count) (resultOf test h) allUnreached unreached i l (omega (arith, legal-is h e .most-rows, length-replicate mostRows unreached))
 
   -- and past the rows, or beside a refusal, no place is reached
   pub past-is-unreached : legal h ≡ true → (i : ℕ) → h .count ≤ i → told (boundsBy test h) i ≡ unreached
-  unfolding judged
   past-is-unreached e i l =
-      ap (λ (x : Answer). told x i) (legal-is-judged e) ∙ upto-past (h .count) (resultOf test h) allUnreached unreached i l ∙ getD-all mostRows i unreached
+      ap (λ (x : Answer). told x i) (legal-answer e) ∙ upto-past (h .count) (resultOf test h) allUnreached unreached i l ∙ getD-all mostRows i unreached
 
   pub refused-is-unreached : legal h ≡ false → (i : ℕ) → told (boundsBy test h) i ≡ unreached
   refused-is-unreached e i = ap (λ (x : Answer). told x i) (refused-by-10 e) ∙ getD-all mostRows i unreached

@@ -3,7 +3,8 @@
 use Rattle.basis.specs.Prelude.{ℕ, _+_, _*_, _-_, _/_, _%_, _≤_, _<_, min, _≡_, refl, ap, _∙_, div-mul-le-self, div-add-mod', mod-lt, mul-le-mul-left, mul-le-mul, arith, Fits, w64}
 use Rattle.basis.specs.Limits.{mostProcessors}
 use Rattle.sheet.specs.declared.row.Row.{Row}
-use Rattle.bound.specs.Quantities.{widestRows, widestSeparation, slots, on, parts, pieces}
+use Rattle.bound.specs.Quantities.{widestRows, widestSeparation, slots, on}
+use Rattle.bound.specs.Inside.Parts.{parts, pieces}
 use Rattle.bound.specs.Test.{x, W, durationOf}
 use Rattle.bound.specs.Inside.Ready.{Above, Spans}
 use Rattle.bound.specs.Inside.Skipping.{stayOf}

@@ -20,14 +20,10 @@ use Rattle.reader.proofs.LentLists.{list-kept, labels-kept, list-has-room, labe
 use Rattle.reader.proofs.Inside.ZeroLists.{lists}
 use Rattle.bound.specs.declared.results.Judgement.{Judgement}
 use Rattle.bound.specs.Test.{passes}
-use Rattle.bound.specs.Bound.{Answer, resultOf, holds, judged, boundsBy, boundsOf}
+use Rattle.bound.specs.Bound.{Answer, resultOf, holds, boundsOf}
 use Rattle.bound.specs.Lists.{resultsLong, resultCell, words, wordAt, judgedBytes}
+use Rattle.bound.proofs.Answers.{legal-answer}
 use Rattle.bound.proofs.Lists.{word-there, word-comes-back}
-
--- the answer to a legal sheet
-pub legal-answer : (h : Sheet) → legal h ≡ true → boundsOf h ≡ (accepted, holds passes h, words h)
-unfolding boundsBy judged
-legal-answer h e = rw e
 
 -- what `judge_bytes` answers
 abbrev pub Found : Type 0
@@ -91,7 +87,7 @@ module _ (s list labels results : List ℕ) where
       unfolding judgedBytes
       read-and-judged h rs eh er =
           let read : readInto s list labels ≡ lists accepted l b = sym e ∙ ap (λ (x : Refusal). lists (outcome x) l b) q in
-          let answer = legal-answer (reading s .1) (sheet-is-legal s list labels (outcome a) l b e accepts) in
+          let answer = legal-answer passes (reading s .1) (sheet-is-legal s list labels (outcome a) l b e accepts) in
           let holds-is : h ≡ boundsOf (reading s .1) .1 = eh ∙ ap (holds passes) front ∙ sym (ap (λ (x : Answer). x .1) answer) in
           let words-are : words (sheetIn (take (n * 4 + 2) l)) ≡ boundsOf (reading s .1) .2 = ap words front ∙ sym (ap (λ (x : Answer). x .2) answer) in
           let results-are : rs ≡ upto (resultsLong (reading s .1 .count)) (resultCell (boundsOf (reading s .1) .2)) results =
@@ -131,7 +127,7 @@ module _ (s list labels results : List ℕ) (o : Outcome) (h : Bool) (l b rs : L
         ∙ ap (λ (x : Outcome). (x, readInto s list labels .1)) (sym done)
 
     answer-so : boundsOf (reading s .1) ≡ (accepted, holds passes (reading s .1), words (reading s .1))
-    answer-so = legal-answer (reading s .1) (sheet-is-legal s list labels accepted l b read-so refl)
+    answer-so = legal-answer passes (reading s .1) (sheet-is-legal s list labels accepted l b read-so refl)
 
     room-for-results : resultsLong (reading s .1 .count) ≤ length results
     room-for-results =

@@ -14,7 +14,7 @@ use Rattle.sheet.specs.Lists.{numberAt, filled, sheetIn, clearedCell}
 use Rattle.sheet.proofs.Legality.{legal-is}
 use Rattle.sheet.proofs.Inside.ClearedLists.{cleared-is-filled}
 use Rattle.bound.specs.Test.{passes}
-use Rattle.bound.specs.Bound.{Word, bound, none, unreached, resultOf, allUnreached, holds, judged, boundsBy}
+use Rattle.bound.specs.Bound.{Word, bound, none, unreached, resultOf, allUnreached, holds, boundsBy}
 use Rattle.bound.specs.Lists.{wordNumber, boundNumber, resultsLong, resultCell, resultsOn, boundsOn, words, putResult, wordAt}
 
 -- ---- the words of a sheet
@@ -108,7 +108,7 @@ legal-is-known h fine e t = sym e ∙ t
 module _ (l b : List ℕ) where
   -- the answer where the sheet is legal and there is room
   pub legal-is-put : legal (sheetIn l) ≡ true → resultsLong (sheetIn l .count) ≤ length b → boundsOn l b ≡ (accepted, (holds passes (sheetIn l), filled (resultCell (words (sheetIn l))) b))
-  unfolding boundsOn resultsOn boundsBy judged
+  unfolding boundsOn resultsOn boundsBy
   legal-is-put e r = rw (e, le-leb (resultsLong (sheetIn l .count)) (length b) r)
 
   -- refused, it does not hold and the list is as it was
@@ -117,7 +117,7 @@ module _ (l b : List ℕ) where
   not-legal-is-kept e = rw e
 
   pub no-room-is-kept : legal (sheetIn l) ≡ true → length b < resultsLong (sheetIn l .count) → boundsOn l b ≡ (refused 15 0, (false, b))
-  unfolding boundsOn resultsOn boundsBy judged
+  unfolding boundsOn resultsOn boundsBy
   no-room-is-kept e r = rw (e, lt-leb (resultsLong (sheetIn l .count)) (length b) r)
 
   module _ (fine : Bool) (ef : fine ≡ legal (sheetIn l)) where

@@ -4,7 +4,8 @@ use Rattle.basis.specs.Prelude.{ℕ, _+_, _*_, _-_, _/_, _%_, _≤_, min, _≡_
 use Rattle.basis.specs.Limits.{mostProcessors}
 use Rattle.basis.proofs.Inside.Workload.{lesser-evenly}
 use Rattle.sheet.specs.declared.row.Row.{Row}
-use Rattle.bound.specs.Quantities.{widestSeparation, slots, plus, on, onFine}
+use Rattle.bound.specs.Quantities.{widestSeparation, slots, plus, on}
+use Rattle.bound.specs.Inside.Parts.{onFine}
 use Rattle.bound.specs.Test.{x, W, durationOf}
 use Rattle.bound.specs.Inside.Skipping.{shareOf, way, Along, RowMeets, lasts}
 use Rattle.bound.specs.declared.quantity.Duration.{Duration}

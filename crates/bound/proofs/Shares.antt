@@ -7,7 +7,8 @@ use Rattle.basis.proofs.Inside.Sums.{sum-one-more}
 use Rattle.sheet.specs.Legal.{rowAt, LegalRow}
 use Rattle.sheet.specs.declared.row.Row.{Row}
 use Rattle.sheet.specs.declared.row.Sheet.{Sheet}
-use Rattle.bound.specs.Quantities.{widestSeparation, slots, onFine}
+use Rattle.bound.specs.Quantities.{widestSeparation, slots}
+use Rattle.bound.specs.Inside.Parts.{onFine}
 use Rattle.bound.specs.Test.{q, X, x, W, durationOf, amountOf, amounts, room, passes}
 use Rattle.bound.specs.Inside.Ready.{Ready, Length}
 use Rattle.bound.specs.Inside.Skipping.{Skips, shareOf, Shares, AllFail}

@@ -6,7 +6,8 @@ use Rattle.basis.proofs.Inside.Sums.{sum-one-more}
 use Rattle.sheet.specs.Legal.{rowAt}
 use Rattle.sheet.specs.declared.row.Row.{Row}
 use Rattle.sheet.specs.declared.row.Sheet.{Sheet}
-use Rattle.bound.specs.Quantities.{widestSeparation, slots, plus, pieces}
+use Rattle.bound.specs.Quantities.{widestSeparation, slots, plus}
+use Rattle.bound.specs.Inside.Parts.{pieces}
 use Rattle.bound.specs.Test.{q, X, amountOf, amounts, room, passes}
 use Rattle.bound.specs.Inside.Ready.{Ready, Length}
 use Rattle.bound.specs.Inside.Skipping.{Skips, way, Stretches, Along, amountAlong, RowMeets, RowsMeet, bothEnds, AllFail}

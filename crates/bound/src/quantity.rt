@@ -5,7 +5,8 @@ ghost use Prim.Native.Nat.{_+_, _*_, _≤_, _<_};
 ghost use mir.Val.{Fits};
 ghost use mir.Syntax.{w64};
 ghost use Rattle.basis.specs.Limits.{mostProcessors};
-ghost use Rattle.bound.specs.Quantities.{widestSeparation, plus, minus, lesser, greater, times, into, left, on, noAmount, plusAmount, minusAmount, less, fine, partOf, lesserFine, pieces, onFine, fineAmount, plusFine, minusFine, reaches};
+ghost use Rattle.bound.specs.Quantities.{widestSeparation, plus, minus, lesser, greater, times, into, left, on, noAmount, plusAmount, minusAmount, less};
+ghost use Rattle.bound.specs.Inside.Parts.{fine, partOf, lesserFine, pieces, onFine, fineAmount, plusFine, minusFine, reaches};
 
 // Slots.
 pub struct Duration(pub(crate) u64);

@@ -17,7 +17,7 @@ use Rattle.sheet.proofs.Ranges.{legal-sheet-long}
 use Rattle.sheet.proofs.RoundTrip.{whole-sheet-comes-back}
 use Rattle.bound.specs.Quantities.{slots}
 use Rattle.bound.specs.Test.{passes}
-use Rattle.bound.specs.Bound.{Word, unreached, bound, none, word, wordIn, isBound, valueOf, boundBy, bounds, bounded, resultOf, allUnreached, holds, Answer, judged, boundsOf}
+use Rattle.bound.specs.Bound.{Word, unreached, bound, none, word, wordIn, isBound, valueOf, boundBy, bounds, bounded, resultOf, allUnreached, holds, Answer, boundsOf}
 use Rattle.bound.specs.Lists.{wordNumber, boundNumber, resultsLong, resultCell, words, putResult, wordAt, boundsOn}
 use Rattle.bound.specs.Inside.Ready.{heldIn, Lent, RowsAbove, SoFar, Ready}
 use Rattle.bound.specs.declared.results.Judged.{Judged}
@@ -25,7 +25,7 @@ use Rattle.bound.specs.declared.results.Result.{Result}
 use Rattle.bound.proofs.Durations.{same, number}
 use Rattle.bound.proofs.Inside.Judging.{passes-local, bound-agrees, agree-self, reached-result, unreached-result, bound-all}
 use Rattle.bound.proofs.Meaning.{bound-in-range, bound-is-first}
-use Rattle.bound.proofs.Answers.{legal-is-judged, refused-by-10}
+use Rattle.bound.proofs.Answers.{legal-answer, refused-by-10}
 use Rattle.bound.proofs.Lists.{word-there, words-long, length-put, words-come-back, zeros-are-unreached, legal-is-put, not-legal-is-kept}
 
 -- ---- one row, by those above
@@ -136,7 +136,6 @@ module _ (h : Sheet) (l₀ l rs : List ℕ) (put : l ≡ filled (sheetCell h) l�
   zeros = replicate (resultsLong mostRows) 0
 
   pub answered : (o : Outcome) (t : Bool) (a : Answer) → (o, (t, rs)) ≡ boundsOn l (replicate (resultsLong mostRows) 0) → a ≡ (o, t, upto mostRows (wordAt rs) allUnreached) → a ≡ boundsOf h
-  unfolding judged
   answered o t a e ea = go (legal h) refl
     where
       go : (b : Bool) → legal h ≡ b → a ≡ boundsOf h
@@ -148,7 +147,7 @@ module _ (h : Sheet) (l₀ l rs : List ℕ) (put : l ≡ filled (sheetCell h) l�
           let ew : upto mostRows (wordAt rs) allUnreached ≡ words h =
           ap (λ (x : Outcome × (Bool × List ℕ)). upto mostRows (wordAt (x .1 .1)) allUnreached) d
           ∙ words-come-back (words (sheetIn l)) zeros (words-long (sheetIn l)) (omega (arith, length-replicate {A = ℕ} (resultsLong mostRows) 0)) ∙ ap words list-is in
-          ea ∙ (λ i. (eo i, et i, ew i)) ∙ sym (legal-is-judged passes h f)
+          ea ∙ (λ i. (eo i, et i, ew i)) ∙ sym (legal-answer passes h f)
       go false f =
           let d = e ∙ not-legal-is-kept l zeros (ap legal list-is ∙ f) in
           let eo : o ≡ refused 10 0 = ap (λ (x : Outcome × (Bool × List ℕ)). x .0) d in

@@ -5,7 +5,8 @@ use Rattle.basis.specs.Words.{pick}
 use Rattle.sheet.specs.Legal.{rowAt}
 use Rattle.sheet.specs.declared.row.Row.{Row}
 use Rattle.sheet.specs.declared.row.Sheet.{Sheet}
-use Rattle.bound.specs.Quantities.{widestSeparation, slots, plus, minus, lesser, left, on, fine, partOf, lesserFine, plusFine}
+use Rattle.bound.specs.Quantities.{widestSeparation, slots, plus, minus, lesser, left, on}
+use Rattle.bound.specs.Inside.Parts.{fine, partOf, lesserFine, plusFine}
 use Rattle.bound.specs.Test.{T, C, X, x, W, durationOf, amounts, passes}
 use Rattle.bound.specs.Inside.Ready.{Length, Above}
 use Rattle.bound.specs.declared.quantity.Duration.{Duration}
