@@ -1,12 +1,12 @@
 -- A list of results: what stands at its places, how it is put together, cleared past the rows and read back, and what `bounds_on` makes of it at each way out.
 -- Assumes nothing.
-use Rattle.basis.specs.Prelude.{ℕ, _+_, _*_, _/_, _%_, _≤_, _<_, _≡_, refl, sym, ap, _∙_, Bool, true, false, List, arith, le-refl, mod-lt, div-add-mod', length, getD, set, replicate, length-set, length-replicate, ext-getD, eqb, le-leb, lt-leb, ne-eqb, Fits, w64}
+use Rattle.basis.specs.Prelude.{ℕ, _+_, _*_, _≤_, _<_, _≡_, refl, sym, ap, _∙_, Bool, true, false, List, arith, le-refl, length, getD, set, replicate, length-set, length-replicate, ext-getD, eqb, le-leb, lt-leb, Fits, w64}
 use Rattle.basis.specs.Limits.{mostRows}
 use Rattle.basis.specs.Words.{pick}
-use Rattle.basis.specs.Upto.{upto, pairCell}
+use Rattle.basis.specs.Upto.{upto}
 use Rattle.basis.specs.Refusals.{accepted, refused}
 use Rattle.basis.proofs.Inside.Upto.{upto-below, upto-past, length-upto}
-use Rattle.basis.proofs.Inside.Pairs.{first-cell, second-cell, first-read, second-read}
+use Rattle.basis.proofs.Inside.Pairs.{first-cell, second-cell, first-read, second-read, pair-zero}
 use Rattle.basis.proofs.Inside.Lists.{getD-all}
 use Rattle.sheet.specs.Legal.{legal, Legal}
 use Rattle.sheet.specs.declared.row.Sheet.{Sheet}
@@ -32,14 +32,8 @@ words-long h = length-upto (h .count) (resultOf passes h) allUnreached ∙ lengt
 
 -- past the rows they are zero
 pub result-cell-past : (h : Sheet) (i : ℕ) → resultsLong (h .count) ≤ i → resultCell (words h) i ≡ 0
-unfolding resultCell pairCell
-result-cell-past h i b =
-    let e = word-past h (i / 2) (omega (arith, div-add-mod' i 2, mod-lt i {m = 2} (omega arith))) in
-    rw e (none-of (eqb (i % 2) 0))
-  where
-    none-of : (t : Bool) → _≡_ {A = ℕ} (pick t 0 0) 0
-    none-of true = refl
-    none-of false = refl
+unfolding resultCell
+result-cell-past h = pair-zero _ _ (h .count) (λ k b. ap wordNumber (word-past h k b)) (λ k b. ap boundNumber (word-past h k b))
 
 -- `put_result`
 pub second-place-there : (l : List ℕ) (k v : ℕ) → resultsLong (k + 1) ≤ length l → k * 2 + 1 < length (set l (k * 2) v)
@@ -65,40 +59,24 @@ pub word-comes-back : (ws : List Word) (rs l : List ℕ) (n k : ℕ) → rs ≡ 
 unfolding wordAt resultCell
 word-comes-back ws rs l n k e r h =
     back (getD ws k unreached) (numberAt rs (k * 2)) (numberAt rs (k * 2 + 1))
-    (ap (λ (z : List ℕ). numberAt z (k * 2)) e ∙ first-read (λ j. wordNumber (getD ws j unreached)) (λ j. boundNumber (getD ws j unreached)) k n l h r)
-    (ap (λ (z : List ℕ). numberAt z (k * 2 + 1)) e ∙ second-read (λ j. wordNumber (getD ws j unreached)) (λ j. boundNumber (getD ws j unreached)) k n l h r)
+    (ap (λ (z : List ℕ). numberAt z (k * 2)) e ∙ first-read _ _ k n l h r) (ap (λ (z : List ℕ). numberAt z (k * 2 + 1)) e ∙ second-read _ _ k n l h r)
 
 -- the words that are put into a list with room for every row come back
 pub words-come-back : (ws : List Word) (l : List ℕ) → length ws ≡ mostRows → resultsLong mostRows ≤ length l → upto mostRows (wordAt (filled (resultCell ws) l)) allUnreached ≡ ws
 unfolding wordAt filled resultCell
 words-come-back ws l long room =
-    ext-getD unreached (upto mostRows (wordAt (filled (resultCell ws) l)) allUnreached) ws
-    (length-upto mostRows (wordAt (filled (resultCell ws) l)) allUnreached ∙ length-replicate mostRows unreached ∙ sym long)
-    (λ i b. let there : i < mostRows = omega (arith, length-upto mostRows (wordAt (filled (resultCell ws) l)) allUnreached, length-replicate mostRows unreached) in
-    upto-below mostRows (wordAt (filled (resultCell ws) l)) allUnreached unreached i there (le-refl mostRows)
+    let f : ℕ → Word = wordAt (filled (resultCell ws) l) in
+    let same-length : length (upto mostRows f allUnreached) ≡ mostRows = length-upto mostRows f allUnreached ∙ length-replicate mostRows unreached in
+    ext-getD unreached (upto mostRows f allUnreached) ws (same-length ∙ sym long)
+    (λ i b. upto-below mostRows f allUnreached unreached i (omega arith) (le-refl mostRows)
     ∙ back (getD ws i unreached) _ _
-    (upto-below (length l) (resultCell ws) l 0 (i * 2) (omega arith) (le-refl (length l)) ∙ first-cell (λ k. wordNumber (getD ws k unreached)) (λ k. boundNumber (getD ws k unreached)) i)
-    (upto-below (length l) (resultCell ws) l 0 (i * 2 + 1) (omega arith) (le-refl (length l)) ∙ second-cell (λ k. wordNumber (getD ws k unreached)) (λ k. boundNumber (getD ws k unreached)) i))
+    (upto-below (length l) (resultCell ws) l 0 (i * 2) (omega arith) (le-refl (length l)) ∙ first-cell _ _ i)
+    (upto-below (length l) (resultCell ws) l 0 (i * 2 + 1) (omega arith) (le-refl (length l)) ∙ second-cell _ _ i))
 
 -- and of zeros no row is reached
 pub zeros-are-unreached : upto mostRows (wordAt (replicate (resultsLong mostRows) 0)) allUnreached ≡ allUnreached
 unfolding upto wordAt
 zeros-are-unreached = refl
-
--- ---- `judged_at`
-
-module _ (l : List ℕ) (k : ℕ) where
-  pub unreached-read : numberAt l (k * 2) ≡ 0 → unreached ≡ wordAt l k
-  unfolding wordAt
-  unreached-read e = rw e
-
-  pub bound-read : numberAt l (k * 2) ≡ 1 → bound (numberAt l (k * 2 + 1)) ≡ wordAt l k
-  unfolding wordAt
-  bound-read e = rw e
-
-  pub none-read : (numberAt l (k * 2) ≡ 0 → ⊥) → (numberAt l (k * 2) ≡ 1 → ⊥) → none ≡ wordAt l k
-  unfolding wordAt
-  none-read a b = rw (ne-eqb (numberAt l (k * 2)) 0 a, ne-eqb (numberAt l (k * 2)) 1 b)
 
 -- ---- `bounds_on`
 

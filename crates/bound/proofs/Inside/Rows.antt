@@ -22,7 +22,7 @@ use Rattle.bound.specs.Lists.{wordNumber, boundNumber, resultsLong, resu
 use Rattle.bound.specs.Inside.Ready.{heldIn, Lent, RowsAbove, SoFar, Ready}
 use Rattle.bound.specs.declared.results.Judged.{Judged}
 use Rattle.bound.specs.declared.results.Result.{Result}
-use Rattle.bound.proofs.Durations.{same, number}
+use Rattle.bound.proofs.Durations.{number}
 use Rattle.bound.proofs.Inside.Judging.{passes-local, bound-agrees, agree-self, reached-result, unreached-result, bound-all}
 use Rattle.bound.proofs.Meaning.{bound-in-range, bound-is-first}
 use Rattle.bound.proofs.Answers.{legal-answer, refused-by-10}
@@ -106,7 +106,7 @@ unfolding resultCell
 rows-above l lent rs reached k n so-far fine room en b =
     let h : Sheet = sheetIn l in
     record {
-      held = λ i m. same (heldIn rs i) (bounds (resultOf passes h) i)
+      held = λ i m. ap slots
           (ap (λ (x : List ℕ). getD x (i * 2 + 1) 0) (so-far .put)
           ∙ second-read (λ j. wordNumber (getD (words h) j unreached)) (λ j. boundNumber (getD (words h) j unreached)) i k lent m (omega (arith, room, so-far-long h lent rs reached k so-far))
           ∙ ap boundNumber (word-there h i fine (omega arith)) ∙ value-of (resultOf passes h i));

@@ -5,4 +5,4 @@ use Rattle.bound.proofs.quantity.Duration.on.Statement.{statement}
 use Rattle.bound.proofs.quantity.Duration.on.Tie as tie
 
 pub on-spec : {M : Type 1} → statement M
-on-spec = tie.close (tie.spec (λ c. search amount-fits) (λ c. search needs))
+on-spec = tie.close (tie.spec (λ c. amount-fits _ _ (search needs) (search needs)) (λ c. search needs))
