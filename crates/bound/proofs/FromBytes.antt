@@ -7,7 +7,7 @@ use Rattle.basis.specs.Refusals.{Outcome, accepted, refused, outcome, orElse, r
 use Rattle.basis.specs.declared.refusal.Refusal.{Refusal}
 use Rattle.basis.specs.declared.refusal.Refusal.the-variants.{Accepted, Refused}
 use Rattle.basis.proofs.Inside.FirstRefusal.{both-accepted}
-use Rattle.basis.proofs.Refusals.{outcome-one-to-one, room-holds, handed-found, handed-done, handed-outcome}
+use Rattle.basis.proofs.Refusals.{room-holds, handed-found, handed-done, handed-outcome}
 use Rattle.basis.proofs.Inside.Upto.{length-upto}
 use Rattle.sheet.specs.Legal.{legal}
 use Rattle.sheet.specs.Lists.{sheetIn, sheetLong}
@@ -22,7 +22,7 @@ use Rattle.bound.specs.declared.results.Judgement.{Judgement}
 use Rattle.bound.specs.Test.{passes}
 use Rattle.bound.specs.Bound.{Answer, resultOf, holds, boundsOf}
 use Rattle.bound.specs.Lists.{resultsLong, resultCell, words, wordAt, judgedBytes}
-use Rattle.bound.proofs.Answers.{legal-answer}
+use Rattle.bound.proofs.Answers.{legal-answer, judgement-same}
 use Rattle.bound.proofs.Lists.{word-there, word-comes-back}
 
 -- what `judge_bytes` answers
@@ -144,7 +144,7 @@ module _ (s list labels results : List ℕ) (o : Outcome) (h : Bool) (l b rs : L
     pub judged-word : (k : ℕ) → k < reading s .1 .count → wordAt rs k ≡ resultOf passes (reading s .1) k
     judged-word k m =
         word-comes-back (words (reading s .1)) rs results (reading s .1 .count) k results-so room-for-results m
-        ∙ word-there (reading s .1) k (legal-is (reading s .1) (sheet-is-legal s list labels accepted l b read-so refl)) m
+        ∙ word-there passes (reading s .1) k (legal-is (reading s .1) (sheet-is-legal s list labels accepted l b read-so refl)) m
 
     pub judged-label : (k : ℕ) → k < reading s .1 .count → partIn b k ≡ labelIn s k
     judged-label = parts-written s list labels accepted l b read-so refl
@@ -166,11 +166,5 @@ pub judge-bytes-same : (s list labels results : List ℕ) (r t : Judgement) (l b
     → found (outcome (r .refusal)) (r .holds) l b rs ≡ judgedBytes s list labels results → found (outcome (t .refusal)) (t .holds) l′ b′ rs′ ≡ judgedBytes s list labels results
     → (r ≡ t) × (l ≡ l′) × (b ≡ b′) × (rs ≡ rs′)
 judge-bytes-same s list labels results r t l b rs l′ b′ rs′ e f =
-    let g = e ∙ sym f in
-    let refusal : r .refusal ≡ t .refusal = outcome-one-to-one (r .refusal) (t .refusal) (ap (λ (x : Found). x .0) g) in
-    let holds-same : r .holds ≡ t .holds = ap (λ (x : Found). x .1 .0) g in (
-      ap₂ (λ (x : Refusal) (y : Bool). record { refusal = x; holds = y }) refusal holds-same,
-      ap (λ (x : Found). x .1 .1 .0) g,
-      ap (λ (x : Found). x .1 .1 .1 .0) g,
-      ap (λ (x : Found). x .1 .1 .1 .1) g,
-    )
+    let (judgement, lists-same) = judgement-same (judgedBytes s list labels results) r t (l, (b, rs)) (l′, (b′, rs′)) e f in
+    (judgement, (λ i. lists-same i .0), (λ i. lists-same i .1 .0), λ i. lists-same i .1 .1)

@@ -13,17 +13,18 @@ use Rattle.sheet.specs.declared.row.Sheet.{Sheet}
 use Rattle.sheet.specs.Lists.{numberAt, filled, sheetIn, clearedCell}
 use Rattle.sheet.proofs.Legality.{legal-is}
 use Rattle.sheet.proofs.Inside.ClearedLists.{cleared-is-filled}
-use Rattle.bound.specs.Test.{passes}
+use Rattle.bound.specs.Test.{Test, passes}
 use Rattle.bound.specs.Bound.{Word, bound, none, unreached, resultOf, allUnreached, holds, boundsBy}
 use Rattle.bound.specs.Lists.{wordNumber, boundNumber, resultsLong, resultCell, resultsOn, boundsOn, words, putResult, wordAt}
 
 -- ---- the words of a sheet
 
-pub word-there : (h : Sheet) (k : ℕ) → Legal h → k < h .count → getD (words h) k unreached ≡ resultOf passes h k
-word-there h k l b = upto-below (h .count) (resultOf passes h) allUnreached unreached k b (omega (arith, l .most-rows, length-replicate mostRows unreached))
+module _ (test : Test) (h : Sheet) (k : ℕ) where
+  pub word-there : Legal h → k < h .count → getD (upto (h .count) (resultOf test h) allUnreached) k unreached ≡ resultOf test h k
+  word-there l b = upto-below (h .count) (resultOf test h) allUnreached unreached k b (omega (arith, l .most-rows, length-replicate mostRows unreached))
 
-pub word-past : (h : Sheet) (k : ℕ) → h .count ≤ k → getD (words h) k unreached ≡ unreached
-word-past h k b = upto-past (h .count) (resultOf passes h) allUnreached unreached k b ∙ getD-all mostRows k unreached
+  pub word-past : h .count ≤ k → getD (upto (h .count) (resultOf test h) allUnreached) k unreached ≡ unreached
+  word-past b = upto-past (h .count) (resultOf test h) allUnreached unreached k b ∙ getD-all mostRows k unreached
 
 pub words-long : (h : Sheet) → length (words h) ≡ mostRows
 words-long h = length-upto (h .count) (resultOf passes h) allUnreached ∙ length-replicate mostRows unreached
@@ -33,7 +34,7 @@ words-long h = length-upto (h .count) (resultOf passes h) allUnreached ∙ lengt
 -- past the rows they are zero
 pub result-cell-past : (h : Sheet) (i : ℕ) → resultsLong (h .count) ≤ i → resultCell (words h) i ≡ 0
 unfolding resultCell
-result-cell-past h = pair-zero _ _ (h .count) (λ k b. ap wordNumber (word-past h k b)) (λ k b. ap boundNumber (word-past h k b))
+result-cell-past h = pair-zero _ _ (h .count) (λ k b. ap wordNumber (word-past passes h k b)) (λ k b. ap boundNumber (word-past passes h k b))
 
 -- `put_result`
 pub second-place-there : (l : List ℕ) (k v : ℕ) → resultsLong (k + 1) ≤ length l → k * 2 + 1 < length (set l (k * 2) v)

@@ -84,7 +84,7 @@ module _ (h : Sheet) (lent rs : List ℕ) (reached : Bool) (k : ℕ) (so-far : S
     pub so-far-more : (m : List ℕ) (t : Bool) → m ≡ putResult rs k (word r) → t ≡ isBound (word r) → SoFar h lent m t (k + 1)
     unfolding resultCell putResult
     so-far-more m t em et =
-        let e : word r ≡ getD (words h) k unreached = er ∙ sym (word-there h k l (omega arith)) in
+        let e : word r ≡ getD (words h) k unreached = er ∙ sym (word-there passes h k l (omega arith)) in
         record {
           put = em ∙ pair-stored (λ j. wordNumber (getD (words h) j unreached)) (λ j. boundNumber (getD (words h) j unreached)) k rs lent (so-far .put)
               (wordNumber (word r)) (boundNumber (word r)) (ap wordNumber e) (ap boundNumber e);
@@ -109,7 +109,7 @@ rows-above l lent rs reached k n so-far fine room en b =
       held = λ i m. ap slots
           (ap (λ (x : List ℕ). getD x (i * 2 + 1) 0) (so-far .put)
           ∙ second-read (λ j. wordNumber (getD (words h) j unreached)) (λ j. boundNumber (getD (words h) j unreached)) i k lent m (omega (arith, room, so-far-long h lent rs reached k so-far))
-          ∙ ap boundNumber (word-there h i fine (omega arith)) ∙ value-of (resultOf passes h i));
+          ∙ ap boundNumber (word-there passes h i fine (omega arith)) ∙ value-of (resultOf passes h i));
       all = so-far .all;
     }
 
@@ -135,23 +135,21 @@ module _ (h : Sheet) (l₀ l rs : List ℕ) (put : l ≡ filled (sheetCell h) l�
   abbrev zeros : List ℕ
   zeros = replicate (resultsLong mostRows) 0
 
+  zeros-long : length zeros ≡ resultsLong mostRows
+  zeros-long = length-replicate {A = ℕ} (resultsLong mostRows) 0
+
+  -- what stands in a list of results, by value
+  abbrev byValue : Outcome × (Bool × List ℕ) → Answer
+  byValue x = (x .0, x .1 .0, upto mostRows (wordAt (x .1 .1)) allUnreached)
+
   pub answered : (o : Outcome) (t : Bool) (a : Answer) → (o, (t, rs)) ≡ boundsOn l (replicate (resultsLong mostRows) 0) → a ≡ (o, t, upto mostRows (wordAt rs) allUnreached) → a ≡ boundsOf h
   answered o t a e ea = go (legal h) refl
     where
       go : (b : Bool) → legal h ≡ b → a ≡ boundsOf h
       go true f =
           let fine : legal (sheetIn l) ≡ true = ap legal list-is ∙ f in
-          let d = e ∙ legal-is-put l zeros fine (omega (arith, legal-is (sheetIn l) fine .most-rows, length-replicate {A = ℕ} (resultsLong mostRows) 0)) in
-          let eo : o ≡ accepted = ap (λ (x : Outcome × (Bool × List ℕ)). x .0) d in
-          let et : t ≡ holds passes h = ap (λ (x : Outcome × (Bool × List ℕ)). x .1 .0) d ∙ ap (holds passes) list-is in
-          let ew : upto mostRows (wordAt rs) allUnreached ≡ words h =
-          ap (λ (x : Outcome × (Bool × List ℕ)). upto mostRows (wordAt (x .1 .1)) allUnreached) d
-          ∙ words-come-back (words (sheetIn l)) zeros (words-long (sheetIn l)) (omega (arith, length-replicate {A = ℕ} (resultsLong mostRows) 0)) ∙ ap words list-is in
-          ea ∙ (λ i. (eo i, et i, ew i)) ∙ sym (legal-answer passes h f)
+          ea ∙ ap byValue (e ∙ legal-is-put l zeros fine (omega (arith, legal-is (sheetIn l) fine .most-rows, zeros-long)))
+          ∙ ap (λ (ws : List Word). (accepted, holds passes (sheetIn l), ws)) (words-come-back (words (sheetIn l)) zeros (words-long (sheetIn l)) (omega (arith, zeros-long)))
+          ∙ ap (λ (x : Sheet). (accepted, holds passes x, words x)) list-is ∙ sym (legal-answer passes h f)
       go false f =
-          let d = e ∙ not-legal-is-kept l zeros (ap legal list-is ∙ f) in
-          let eo : o ≡ refused 10 0 = ap (λ (x : Outcome × (Bool × List ℕ)). x .0) d in
-          let et : t ≡ false = ap (λ (x : Outcome × (Bool × List ℕ)). x .1 .0) d in
-          let ew : upto mostRows (wordAt rs) allUnreached ≡ allUnreached =
-          ap (λ (x : Outcome × (Bool × List ℕ)). upto mostRows (wordAt (x .1 .1)) allUnreached) d ∙ zeros-are-unreached in
-          ea ∙ (λ i. (eo i, et i, ew i)) ∙ sym (refused-by-10 passes h f)
+          ea ∙ ap byValue (e ∙ not-legal-is-kept l zeros (ap legal list-is ∙ f)) ∙ ap (λ (ws : List Word). (refused 10 0, false, ws)) zeros-are-unreached ∙ sym (refused-by-10 passes h f)

@@ -165,7 +165,7 @@ module _ (i : ℕ) (i<n : i < fixedCount) (h : Sheet) (eh : h ≡ fixedSheet i) 
       word-so : (k : ℕ) → k < h .count → wordAt rs k ≡ resultOf passes h k
       word-so k m =
           word-comes-back (words h) rs (zeros (resultsLong mostRows)) mostRows k (ap (λ (x : Outcome × (Bool × List ℕ)). x .1 .1) judged-so ∙ whole-list) (omega (arith, zeros-long (resultsLong mostRows))) (omega (arith, fixed-few i i<n h eh))
-          ∙ word-there h k (legal-is h (legal-so i i<n h eh)) m
+          ∙ word-there passes h k (legal-is h (legal-so i i<n h eh)) m
 
 pub section-said : (p₀ p₁ p₂ p₃ : Page) (i : ℕ) → p₁ ≡ said p₀ (letter i) → p₂ ≡ said p₁ newline → p₃ ≡ said p₂ (board (numbered prefix) (fixedSheet i)) → p₃ ≡ said p₀ (section i)
 unfolding section
