@@ -3,8 +3,7 @@
 use Rattle.basis.specs.Prelude.{ℕ, _+_, _*_, _-_, _%_, _≤_, _<_, min, _≡_, ap, Bool, true, false, mul-le-mul-right, arith, eqb, ne-eqb}
 use Rattle.basis.specs.Limits.{mostProcessors, mostSeparation}
 use Rattle.basis.specs.Words.{pick, sum}
-use Rattle.basis.proofs.Inside.Sums.{sum-one-more}
-use Rattle.sheet.specs.Legal.{rowAt}
+use Rattle.sheet.specs.Legal.{rowAt, LegalRow}
 use Rattle.sheet.specs.declared.row.Row.{Row}
 use Rattle.sheet.specs.declared.row.Sheet.{Sheet}
 use Rattle.bound.specs.Quantities.{widestRows, slots, plus, lesser}
@@ -15,7 +14,7 @@ use Rattle.bound.specs.declared.quantity.Duration.{Duration}
 use Rattle.bound.specs.declared.pace.Pace.{Pace}
 use Rattle.bound.proofs.Durations.{number}
 use Rattle.bound.proofs.Workload.{W-runs-on}
-use Rattle.bound.proofs.Amounts.{few-rows, row, amount-mono, capped-small}
+use Rattle.bound.proofs.Amounts.{few-rows, row, q-small, amounts-more, amount-mono}
 
 capped-grows : (w z g x d : ℕ) → w + min d g ≤ z → d ≤ g + (w - x) → min w x + d ≤ min z (x + d)
 capped-grows w z g x d a b = omega arith
@@ -39,59 +38,41 @@ module _ (h : Sheet) (R : ℕ → Duration) (k : ℕ) (r : Ready h R k) (L : Dur
       → amountOf h R k L i .0 + min (rowAt h i .threads) (q h k) * d ≤ amountOf h R k (plus L (slots d)) i .0
   unfolding amountOf
   amount-grows i d b s =
-      rw (X-more d)
-      (omega (
-        arith,
-        mul-le-mul-right (min (rowAt h i .threads) (q h k))
-            (duration-grows (rowAt h i) (R i) L (X h k L) d (row h R k r i b .some-separation) (omega (arith, row h R k r i b)) (r .low i b) s),
-      ))
+      let o : LegalRow (h .processors) (rowAt h i) = row h R k r i b in
+      rw (X-more d) (omega (arith, mul-le-mul-right (min (rowAt h i .threads) (q h k)) (duration-grows (rowAt h i) (R i) L (X h k L) d (o .some-separation) (omega arith) (r .low i b) s)))
 
   pub paces-none : Paces h R k L 0 (record { width = 0; stay = slots mostSeparation })
   unfolding amounts sum
   paces-none = record { width = omega arith; stay = omega arith; grows = λ d l. omega arith }
 
-  module _ (i b g : ℕ) (a : Row) (v w s : Duration) (p t : Pace) (l : i < k) (now : Paces h R k L i p) (ea : a ≡ rowAt h i) (ev : v ≡ R i) (ew : w ≡ X h k L) (eb : b ≡ q h k)
-      (es : s ≡ stayOf a v L w) (eg : g ≡ min (a .threads) b) (et : t ≡ joined p g s) where
+  pub paces-more : (i b g : ℕ) (a : Row) (v w s : Duration) (p t : Pace) → t ≡ joined p g s → s ≡ stayOf a v L w → g ≡ min (a .threads) b → Paces h R k L i p → i < k → a ≡ rowAt h i → v ≡ R i
+      → w ≡ X h k L → b ≡ q h k → Paces h R k L (i + 1) t
+  unfolding joined
+  paces-more i b g a v w s p t et es eg now l ea ev ew eb = go (eqb (s .0) 0) et where
     stay-is : s ≡ stayOf (rowAt h i) (R i) L (X h k L)
-    stay-is = cc
+    stay-is = rw (ea, ev, ew) at es
 
     capped-is : g ≡ min (rowAt h i .threads) (q h k)
-    capped-is = cc
+    capped-is = rw (ea, eb) at eg
 
-    more : (n : Duration) → amounts h R k n (i + 1) .0 ≡ amounts h R k n i .0 + amountOf h R k n i .0
-    unfolding amounts
-    more n = sum-one-more i (λ j. amountOf h R k n j .0)
-
-    left-out : Paces h R k L (i + 1) p
-    left-out =
-        record {
+    go : (e : Bool) → t ≡ pick e p (record { width = p .width + g; stay = lesser (p .stay) s }) → Paces h R k L (i + 1) t
+    go true e =
+        rw e
+        (record {
           width = omega (arith, now .width);
           stay = now .stay;
-          grows = λ d m. omega (arith, now .grows d m, more L, more (plus L (slots d)), amount-mono h R k r L (plus L (slots d)) i (omega arith) l);
-        }
-
-    taken-in : Paces h R k L (i + 1) (record { width = p .width + g; stay = lesser (p .stay) s })
-    taken-in =
-        record {
-          width = omega (arith, now .width, capped-small h k (r .legal) (r .below) b g (a .threads) eb eg);
+          grows = λ d m.
+              omega (arith, now .grows d m, amounts-more h R k r L i, amounts-more h R k r (plus L (slots d)) i, amount-mono h R k r L (plus L (slots d)) i (omega arith) l);
+        })
+    go false e =
+        rw e
+        (record {
+          width = omega (arith, now .width, q-small h R k r, capped-is);
           stay = omega (arith, now .stay);
           grows = λ d m.
-              omega (
-                arith,
-                now .grows d (omega arith),
-                more L,
-                more (plus L (slots d)),
-                ap (λ (n : ℕ). n * d) capped-is,
-                amount-grows i d l (omega (arith, number stay-is)),
-              );
-        }
-
-    pub paces-more : Paces h R k L (i + 1) t
-    unfolding joined
-    paces-more = go (eqb (s .0) 0) et where
-      go : (b : Bool) → t ≡ pick b p (record { width = p .width + g; stay = lesser (p .stay) s }) → Paces h R k L (i + 1) t
-      go true e = rw e left-out
-      go false e = rw e taken-in
+              rw capped-is
+              (omega (arith, now .grows d (omega arith), amounts-more h R k r L i, amounts-more h R k r (plus L (slots d)) i, amount-grows i d l (omega (arith, number stay-is))));
+        })
 
   pub width-small : (i : ℕ) (p : Pace) → i < k → Paces h R k L i p → p .width ≤ widestRows * mostProcessors
   width-small i p l now = omega (arith, now .width, few-rows h R k r)

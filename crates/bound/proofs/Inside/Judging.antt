@@ -29,35 +29,13 @@ abbrev pub Local : Test → Type 0
 Local test =
     (h s : Sheet) (R Q : ℕ → Duration) (k : ℕ) → Agree h s (suc k) → ((i : ℕ) → i < k → R i ≡ Q i) → (L : Duration) → test h R k L ≡ test s Q k L
 
-module _ (h s : Sheet) (R Q : ℕ → Duration) (k : ℕ) (a : Agree h s (suc k)) (e : (i : ℕ) → i < k → R i ≡ Q i) (L : Duration) where
-  here : rowAt h k ≡ rowAt s k
-  here = a .rows k (omega arith)
-
-  q-agrees : q h k ≡ q s k
-  unfolding q
-  q-agrees = ap₂ (λ (m : ℕ) (r : Row). m - r .threads + 1) (a .processors) here
-
-  X-agrees : X h k L ≡ X s k L
-  unfolding X
-  X-agrees = ap (λ (r : Row). slots (L .0 - r .budget + 1)) here
-
-  amount-agrees : (i : ℕ) → i < k → amountOf h R k L i .0 ≡ amountOf s Q k L i .0
-  unfolding amountOf
-  amount-agrees i b =
-      let r : rowAt h i ≡ rowAt s i = a .rows i (omega arith) in
-      let v : R i ≡ Q i = e i b in
-      rw (r, v, X-agrees, q-agrees)
-
-  room-agrees : room h k L .0 ≡ room s k L .0
-  unfolding room
-  room-agrees = rw (X-agrees, q-agrees)
-
-  passes-agrees : passes h R k L ≡ passes s Q k L
-  unfolding passes amounts
-  passes-agrees = ap₂ ltb (sum-same k (λ i. amountOf h R k L i .0) (λ i. amountOf s Q k L i .0) amount-agrees) room-agrees
-
 pub passes-local : Local passes
-passes-local h s R Q k a e L = passes-agrees h s R Q k a e L
+unfolding passes amounts amountOf room q X
+passes-local h s R Q k a e L =
+    let here : rowAt h k ≡ rowAt s k = a .rows k (omega arith) in
+    let there : h .processors ≡ s .processors = a .processors in
+    let own : (i : ℕ) → i < k → rowAt h i ≡ rowAt s i = λ i b. a .rows i (omega arith) in
+    rw (here, there) (ap₂ ltb (sum-same k _ _ (λ i b. rw (own i b, e i b))) refl)
 
 module _ (test : Test) (loc : Local test) where
   pub bound-agrees : (h s : Sheet) (R Q : ℕ → Duration) (k : ℕ) → Agree h s (suc k) → ((i : ℕ) → i < k → R i ≡ Q i) → boundBy test h R k ≡ boundBy test s Q k

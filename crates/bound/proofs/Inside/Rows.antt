@@ -32,23 +32,19 @@ use Rattle.bound.proofs.Lists.{word-there, words-long, length-put, word
 
 module _ (h : Sheet) (rs : List ℕ) (k : ℕ) (reached : Bool) (above : RowsAbove h rs reached k) where
   module _ (yes : reached ≡ true) where
-    range : (i : ℕ) → i < k → (rowAt h i .budget ≤ bounds (resultOf passes h) i .0) × (bounds (resultOf passes h) i .0 ≤ rowAt h i .deadline)
-    range i b =
-        bound-in-range passes passes-local h i (all-at k (bounded (resultOf passes h)) (sym (above .all) ∙ yes) i b)
-
-    first : (i : ℕ) → i < k → (l : ℕ) → rowAt h i .budget ≤ l → l < heldIn rs i .0 → passes h (heldIn rs) i (slots l) ≡ false
-    first i b l low high =
-        passes-local h h (heldIn rs) (bounds (resultOf passes h)) i (agree-self h (suc i)) (λ j c. above .held j (omega arith)) (slots l)
-        ∙ bound-is-first passes passes-local h i (all-at k (bounded (resultOf passes h)) (sym (above .all) ∙ yes) i b) l low (omega (arith, number (above .held i b)))
+    all-bounded : (i : ℕ) → i < k → isBound (resultOf passes h i) ≡ true
+    all-bounded = all-at k (bounded (resultOf passes h)) (sym (above .all) ∙ yes)
 
     pub ready : Legal h → k < h .count → Ready h (heldIn rs) k
     ready l below =
         record {
           legal = l;
           below = below;
-          low = λ i b. omega (arith, range i b, number (above .held i b));
-          high = λ i b. omega (arith, range i b, number (above .held i b));
-          smallest = first;
+          low = λ i b. omega (arith, bound-in-range passes passes-local h i (all-bounded i b), number (above .held i b));
+          high = λ i b. omega (arith, bound-in-range passes passes-local h i (all-bounded i b), number (above .held i b));
+          smallest = λ i b l low high.
+              passes-local h h (heldIn rs) (bounds (resultOf passes h)) i (agree-self h (suc i)) (λ j c. above .held j (omega arith)) (slots l)
+              ∙ bound-is-first passes passes-local h i (all-bounded i b) l low (omega (arith, number (above .held i b)));
         }
 
     pub judged-reached : (r : Result) → word r ≡ boundBy passes h (heldIn rs) k → word r ≡ resultOf passes h k
@@ -69,11 +65,6 @@ lists-are-lent l b n e en r = record { sheet-long = rw en at (legal-sheet-long l
 pub so-far-none : (h : Sheet) (rs : List ℕ) → SoFar h rs rs true 0
 unfolding upto allOf
 so-far-none h rs = record { put = refl; all = refl }
-
-value-of : (w : Word) → boundNumber w ≡ valueOf w .0
-value-of (bound r) = refl
-value-of none = refl
-value-of unreached = refl
 
 module _ (h : Sheet) (lent rs : List ℕ) (reached : Bool) (k : ℕ) (so-far : SoFar h lent rs reached k) where
   pub so-far-long : length rs ≡ length lent
@@ -109,7 +100,7 @@ rows-above l lent rs reached k n so-far fine room en b =
       held = λ i m. ap slots
           (ap (λ (x : List ℕ). getD x (i * 2 + 1) 0) (so-far .put)
           ∙ second-read (λ j. wordNumber (getD (words h) j unreached)) (λ j. boundNumber (getD (words h) j unreached)) i k lent m (omega (arith, room, so-far-long h lent rs reached k so-far))
-          ∙ ap boundNumber (word-there passes h i fine (omega arith)) ∙ value-of (resultOf passes h i));
+          ∙ ap boundNumber (word-there passes h i fine (omega arith)));
       all = so-far .all;
     }
 
