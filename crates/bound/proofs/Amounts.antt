@@ -8,7 +8,7 @@ use Rattle.sheet.specs.Legal.{rowAt, LegalRow, Legal}
 use Rattle.sheet.specs.declared.row.Row.{Row}
 use Rattle.sheet.specs.declared.row.Sheet.{Sheet}
 use Rattle.bound.specs.Quantities.{widestRows, widestSeparation, slots, on}
-use Rattle.bound.specs.Test.{q, X, x, W, durationOf, amountOf, amounts, room, passes}
+use Rattle.bound.specs.Test.{q, X, x, durationOf, amountOf, amounts, room, passes}
 use Rattle.bound.specs.Inside.Ready.{Ready, Length, Above}
 use Rattle.bound.specs.declared.quantity.Duration.{Duration}
 use Rattle.bound.specs.declared.quantity.Amount.{Amount}

@@ -1,9 +1,9 @@
 -- What the definitions mean, for any test that looks at no lower row: a bound is the smallest length that passes, none is that no length passes, and not reached is
 -- every row after the first none.
 -- Assumes nothing.
-use Rattle.basis.specs.Prelude.{ℕ, zero, suc, _+_, _-_, _*_, _≤_, _<_, _≡_, refl, sym, ap, _∙_, Bool, true, false, mul-le-mul, arith, ltb, lt-ltb}
+use Rattle.basis.specs.Prelude.{ℕ, zero, suc, _+_, _*_, _≤_, _<_, _≡_, refl, sym, ap, _∙_, Bool, true, false, mul-le-mul, arith, ltb, lt-ltb}
 use Rattle.basis.specs.Words.{sum, allOf}
-use Rattle.basis.proofs.Inside.Words.{true-not-false, all-at, all-fails}
+use Rattle.basis.proofs.Inside.Words.{true-not-false, all-fails}
 use Rattle.sheet.specs.Legal.{rowAt, Legal}
 use Rattle.sheet.specs.declared.row.Sheet.{Sheet}
 use Rattle.bound.specs.Quantities.{slots}

@@ -1,6 +1,6 @@
 -- A straight line that a row's amount is never below along a stretch, for each of three ways to choose it: its own amounts, its shares, and level.
 -- Assumes nothing.
-use Rattle.basis.specs.Prelude.{ℕ, _+_, _*_, _-_, _/_, _%_, _≤_, min, _≡_, sym, _∙_, Bool, true, mul-le-mul-left, mul-le-mul-right, le-of-mul-le-mul-right, div-mul-le-self, mod-lt, arith, leb-true, leb, Fits, w64}
+use Rattle.basis.specs.Prelude.{ℕ, _+_, _*_, _-_, _%_, _≤_, min, _≡_, sym, _∙_, Bool, true, mul-le-mul-left, mul-le-mul-right, le-of-mul-le-mul-right, div-mul-le-self, mod-lt, arith, leb-true, leb, Fits, w64}
 use Rattle.basis.specs.Limits.{mostProcessors}
 use Rattle.basis.proofs.Inside.Workload.{lesser-evenly}
 use Rattle.sheet.specs.declared.row.Row.{Row}
@@ -13,7 +13,7 @@ use Rattle.bound.specs.declared.quantity.Amount.{Amount}
 use Rattle.bound.specs.declared.quantity.FineAmount.{FineAmount}
 use Rattle.bound.specs.declared.stretch.Stretch.{Stretch}
 use Rattle.bound.specs.declared.stretch.Ends.{Ends}
-use Rattle.bound.proofs.Durations.{number-in, most-fine}
+use Rattle.bound.proofs.Durations.{most-fine}
 use Rattle.bound.proofs.Workload.{W-mono, W-shares, W-evenly}
 
 -- shares of x slots and of c + d more are under the line of what is no less than its share

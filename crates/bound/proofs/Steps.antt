@@ -1,6 +1,6 @@
 -- The step from a length that fails to the next that can pass: every length between fails.
 -- Assumes nothing.
-use Rattle.basis.specs.Prelude.{ℕ, _+_, _*_, _-_, _≤_, _<_, min, max, _≡_, sym, _∙_, Bool, false, ⊎-elim, mul-le-mul-right, mul-le-mul-left, arith, ltb-false, ltb, Fits, w64}
+use Rattle.basis.specs.Prelude.{ℕ, _+_, _*_, _-_, _≤_, min, max, _≡_, sym, _∙_, Bool, false, ⊎-elim, mul-le-mul-right, mul-le-mul-left, arith, ltb-false, ltb, Fits, w64}
 use Rattle.basis.specs.Limits.{mostProcessors}
 use Rattle.basis.proofs.Inside.Words.{lt-or-le}
 use Rattle.sheet.specs.declared.row.Sheet.{Sheet}

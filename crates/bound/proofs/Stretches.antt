@@ -7,7 +7,7 @@ use Rattle.sheet.specs.declared.row.Row.{Row}
 use Rattle.sheet.specs.declared.row.Sheet.{Sheet}
 use Rattle.bound.specs.Quantities.{widestSeparation, slots, plus}
 use Rattle.bound.specs.Inside.Parts.{pieces}
-use Rattle.bound.specs.Test.{q, X, amountOf, amounts, room, passes}
+use Rattle.bound.specs.Test.{q, X, amountOf, room}
 use Rattle.bound.specs.Inside.Ready.{Ready, Length}
 use Rattle.bound.specs.Inside.Skipping.{Skips, way, Stretches, Along, amountAlong, RowMeets, RowsMeet, bothEnds, AllFail}
 use Rattle.bound.specs.declared.quantity.Duration.{Duration}

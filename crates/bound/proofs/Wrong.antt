@@ -1,6 +1,6 @@
 -- Wrong bounds are shut out: on a named sheet no answer with the fault meets the promise.
 -- Assumes nothing.
-use Rattle.basis.specs.Prelude.{ℕ, _≡_, refl, sym, ap, _∙_, Bool, List, [], _∷_, arith, getD}
+use Rattle.basis.specs.Prelude.{ℕ, _≡_, refl, Bool, List, [], _∷_, arith, getD}
 use Rattle.basis.specs.Words.{allOf, sum}
 use Rattle.basis.specs.Readers.{begins}
 use Rattle.basis.specs.Upto.{upto, pairCell}

@@ -1,7 +1,6 @@
 -- The smallest number of which a test holds: found, passed over, in range; and the turns of the search.
 -- Assumes nothing.
 use Rattle.basis.specs.Prelude.{ℕ, zero, suc, _+_, _-_, _≤_, _<_, _≡_, refl, sym, ap, _∙_, Bool, true, false, _⊎_, inl, inr, ⊎-elim, eq-or-lt-of-le, arith}
-use Rattle.basis.specs.Words.{pick}
 use Rattle.basis.proofs.Inside.Words.{lt-or-le}
 use Rattle.sheet.specs.Legal.{rowAt}
 use Rattle.sheet.specs.declared.row.Row.{Row}

@@ -9,7 +9,7 @@ use Rattle.basis.proofs.Inside.Words.{all-at}
 use Rattle.basis.proofs.Inside.Upto.{upto-set, length-upto}
 use Rattle.basis.proofs.Inside.Pairs.{pair-stored, second-read}
 use Rattle.basis.proofs.Inside.Lists.{map-set}
-use Rattle.sheet.specs.Legal.{rowAt, legal, Legal}
+use Rattle.sheet.specs.Legal.{legal, Legal}
 use Rattle.sheet.specs.declared.row.Sheet.{Sheet}
 use Rattle.sheet.specs.Lists.{filled, sheetCell, sheetIn, sheetLong}
 use Rattle.sheet.proofs.Legality.{legal-is}
@@ -17,7 +17,7 @@ use Rattle.sheet.proofs.Ranges.{legal-sheet-long}
 use Rattle.sheet.proofs.RoundTrip.{whole-sheet-comes-back}
 use Rattle.bound.specs.Quantities.{slots}
 use Rattle.bound.specs.Test.{passes}
-use Rattle.bound.specs.Bound.{Word, unreached, bound, none, word, wordIn, isBound, valueOf, boundBy, bounds, bounded, resultOf, allUnreached, holds, Answer, boundsOf}
+use Rattle.bound.specs.Bound.{Word, unreached, word, wordIn, isBound, boundBy, bounds, bounded, resultOf, allUnreached, holds, Answer, boundsOf}
 use Rattle.bound.specs.Lists.{wordNumber, boundNumber, resultsLong, resultCell, words, putResult, wordAt, boundsOn}
 use Rattle.bound.specs.Inside.Ready.{heldIn, Lent, RowsAbove, SoFar, Ready}
 use Rattle.bound.specs.declared.results.Judged.{Judged}
