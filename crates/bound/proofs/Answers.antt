@@ -100,8 +100,7 @@ module _ (test : Test) (h : Sheet) where
 -- two legal sheets that agree in m and rows 0 to k have equal results for rows 0 to k
 pub rows-above-decide : (h s : Sheet) (k : ℕ) → legal h ≡ true → legal s ≡ true → k < h .count → k < s .count → Agree h s (suc k)
     → (i : ℕ) → i ≤ k → told (boundsOf h) i ≡ told (boundsOf s) i
-rows-above-decide h s k eh es lh ls a i l =
-    told-is passes h eh i (omega arith) ∙ result-agrees passes passes-local h s k a i l ∙ sym (told-is passes s es i (omega arith))
+rows-above-decide h s k eh es lh ls a i l = told-is passes h eh i (omega arith) ∙ result-agrees passes passes-local h s k a i l ∙ sym (told-is passes s es i (omega arith))
 
 -- ---- the answer in a list is the answer by value
 

@@ -124,8 +124,7 @@ module _ (h : Sheet) (R : ℕ → Duration) (k : ℕ) (r : Ready h R k) where
         go false ee false ef false eg = start-at-budget (rowAt h k) refl
 
   pub start-later : (a b c : Duration) → Starts h R k a → Starts h R k b → c .0 ≡ max (a .0) (b .0) → Starts h R k c
-  start-later a b c sa sb e =
-      record { low = omega (arith, sa .low); fails = λ l low d. ⊎-elim (λ s. sa .fails l low s) (λ s. sb .fails l low (omega arith)) (lt-or-le l (a .0)) }
+  start-later a b c sa sb e = record { low = omega (arith, sa .low); fails = λ l low d. ⊎-elim (λ s. sa .fails l low s) (λ s. sb .fails l low (omega arith)) (lt-or-le l (a .0)) }
 
 -- ---- one row above, as the code has it
 

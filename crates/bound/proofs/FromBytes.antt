@@ -85,8 +85,7 @@ module _ (s list labels results : List ℕ) where
       pub read-and-judged : (h : Bool) (rs : List ℕ) → h ≡ holds passes (sheetIn (take (n * 4 + 2) l)) → rs ≡ upto (resultsLong n) (resultCell (words (sheetIn (take (n * 4 + 2) l)))) results
           → found accepted h l b rs ≡ judgedBytes s list labels results
       unfolding judgedBytes
-      read-and-judged h rs eh er =
-          simp (le-leb (length labels) (length results) r, ← read, legal-answer passes (reading s .1) sheet-legal) (rw (eh, er, front, rows-are))
+      read-and-judged h rs eh er = simp (le-leb (length labels) (length results) r, ← read, legal-answer passes (reading s .1) sheet-legal) (rw (eh, er, front, rows-are))
 
 -- what is known after it
 module _ (s list labels results : List ℕ) (o : Outcome) (h : Bool) (l b rs : List ℕ) (e : found o h l b rs ≡ judgedBytes s list labels results) where

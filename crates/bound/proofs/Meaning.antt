@@ -55,8 +55,7 @@ module _ (test : Test) (loc : Local test) (h : Sheet) (k : ℕ) where
 
   pub no-length-passes-means-none : Reached test h k → NoLength test h k → resultOf test h k ≡ none
   unfolding boundBy
-  no-length-passes-means-none y f =
-      reached-result test loc h k y ∙ none-is-least (passing test h k) (rowAt h k .budget) (rowAt h k .deadline + 1) (λ j a b. f j a (omega arith))
+  no-length-passes-means-none y f = reached-result test loc h k y ∙ none-is-least (passing test h k) (rowAt h k .budget) (rowAt h k .deadline + 1) (λ j a b. f j a (omega arith))
 
   -- a row that is reached has a bound or none
   pub reached-is-not-unreached : Reached test h k → resultOf test h k ≡ unreached → ⊥

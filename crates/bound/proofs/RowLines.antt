@@ -112,8 +112,7 @@ module _ (row : Row) (R : Duration) (s : Stretch) (b : ℕ) (al : Along row R s 
       }
 
   pub meets-still : (m : Ends) (n t o : FineAmount) → RowMeets row R s b m → n ≡ m .now → t ≡ m .then → RowMeets row R s b (record { now = n; then = t; spare = o })
-  meets-still m n t o a en et =
-      record { small-now = rw en (a .small-now); small-then = rw et (a .small-then); under = rw (en, et) (a .under) }
+  meets-still m n t o a en et = record { small-now = rw en (a .small-now); small-then = rw et (a .small-then); under = rw (en, et) (a .under) }
 
 pub told-true : (t b : Bool) → t ≡ b → t ≡ true → b ≡ true
 told-true t b e f = sym e ∙ f

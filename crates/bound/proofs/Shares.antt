@@ -62,16 +62,14 @@ none-left y Y Q a s l some h m =
 
 module _ (h : Sheet) (R : ℕ → Duration) (k : ℕ) (r : Ready h R k) (L : Duration) (len : Length h k L) where
   module _ (i : ℕ) (b : i < k) (l : ℕ) (low : rowAt h k .budget ≤ l) (high : l ≤ L .0) where
-    duration-shares : X h k (slots l) .0 * shareOf (rowAt h i) (R i) L (X h k L) .0
-        ≤ X h k L .0 * (256 * durationOf (rowAt h i) (R i) (slots l) (X h k (slots l)) .0)
+    duration-shares : X h k (slots l) .0 * shareOf (rowAt h i) (R i) L (X h k L) .0 ≤ X h k L .0 * (256 * durationOf (rowAt h i) (R i) (slots l) (X h k (slots l)) .0)
     unfolding durationOf shareOf X x
     duration-shares =
         let i-row : LegalRow (h .processors) (rowAt h i) = row h R k r i b in
         share-in-proportion (rowAt h i .budget) (rowAt h i .separation) (rowAt h k .budget) l (L .0) (R i .0) _ (i-row .some-separation) (r .low i b) (own-row h R k r .some-budget) low high
         (W-shares (rowAt h i) (i-row .some-separation) (omega arith) (l + R i .0 - rowAt h i .budget))
 
-    amount-shares : X h k (slots l) .0 * (shareOf (rowAt h i) (R i) L (X h k L) .0 * min (rowAt h i .threads) (q h k))
-        ≤ X h k L .0 * (256 * amountOf h R k (slots l) i .0)
+    amount-shares : X h k (slots l) .0 * (shareOf (rowAt h i) (R i) L (X h k L) .0 * min (rowAt h i .threads) (q h k)) ≤ X h k L .0 * (256 * amountOf h R k (slots l) i .0)
     unfolding amountOf
     amount-shares = omega (arith, mul-le-mul-right (min (rowAt h i .threads) (q h k)) duration-shares)
 
@@ -127,5 +125,4 @@ module _ (h : Sheet) (R : ℕ → Duration) (k : ℕ) (row : Row) (er : row ≡ 
   -- past it, where no length up to it passes
   pub past-deadline : (t : Bool) (L z : Duration) → z .0 ≡ row .deadline + 1 → AllFail h R k (rowAt h k .budget) (row .deadline) t → t ≡ true → Length h k L → Skips h R k L z
   past-deadline false L z ez s e len = absurd (let w : _≡_ {A = ℕ} 0 1 = cc in omega arith)
-  past-deadline true L z ez s e len =
-      record { further = omega (arith, rw (← er) at (len .high)); fails = λ l low high. s l (omega (arith, len .low)) (omega arith) }
+  past-deadline true L z ez s e len = record { further = omega (arith, rw (← er) at (len .high)); fails = λ l low high. s l (omega (arith, len .low)) (omega arith) }

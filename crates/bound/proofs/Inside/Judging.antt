@@ -26,8 +26,7 @@ agree-self h n = record { processors = refl; rows = λ i b. refl }
 
 -- a test of row k looks at m, at rows 0 to k and at the bounds above k only
 abbrev pub Local : Test → Type 0
-Local test =
-    (h s : Sheet) (R Q : ℕ → Duration) (k : ℕ) → Agree h s (suc k) → ((i : ℕ) → i < k → R i ≡ Q i) → (L : Duration) → test h R k L ≡ test s Q k L
+Local test = (h s : Sheet) (R Q : ℕ → Duration) (k : ℕ) → Agree h s (suc k) → ((i : ℕ) → i < k → R i ≡ Q i) → (L : Duration) → test h R k L ≡ test s Q k L
 
 pub passes-local : Local passes
 unfolding passes amounts amountOf room q X
@@ -91,7 +90,6 @@ module _ (test : Test) (loc : Local test) where
     -- a row has a bound exactly where it is reached and has one
     pub bound-all : isBound (resultOf test h k) ≡ allOf (k + 1) (bounded (resultOf test h))
     bound-all = go (allOf k (bounded (resultOf test h))) refl ∙ sym (all-one-more k (bounded (resultOf test h))) where
-      go : (b : Bool) → allOf k (bounded (resultOf test h)) ≡ b
-          → isBound (resultOf test h k) ≡ both (allOf k (bounded (resultOf test h))) (isBound (resultOf test h k))
+      go : (b : Bool) → allOf k (bounded (resultOf test h)) ≡ b → isBound (resultOf test h k) ≡ both (allOf k (bounded (resultOf test h))) (isBound (resultOf test h k))
       go true t = rw t
       go false t = rw t (ap isBound (unreached-result t))

@@ -115,10 +115,8 @@ module _ (h : Sheet) (R : ℕ → Duration) (k : ℕ) (row : Row) (er : row ≡ 
       pub search-found : (t : Tried) → Says h R k L t → t ≡ Passes → L .0 ≤ row .deadline → bound (L .0) ≡ boundBy passes h R k
       search-found t s e b = sym (least-hit (passesAt passes h R k) (L .0) (rowAt h k .deadline + 1) (omega (arith, same-deadline)) (told-passes t s e)) ∙ i
 
-      pub search-more : (n : Duration) → Skips h R k L n
-          → least (passesAt passes h R k) (n .0) (rowAt h k .deadline + 1 - n .0) ≡ boundBy passes h R k
-      search-more n w =
-          sym (least-skip (passesAt passes h R k) (n .0 - L .0) (L .0) (n .0) (rowAt h k .deadline + 1) (omega (arith, w .further)) (w .fails)) ∙ i
+      pub search-more : (n : Duration) → Skips h R k L n → least (passesAt passes h R k) (n .0) (rowAt h k .deadline + 1 - n .0) ≡ boundBy passes h R k
+      search-more n w = sym (least-skip (passesAt passes h R k) (n .0 - L .0) (L .0) (n .0) (rowAt h k .deadline + 1) (omega (arith, w .further)) (w .fails)) ∙ i
 
       pub search-ends : row .deadline < L .0 → none ≡ boundBy passes h R k
       search-ends b = sym (least-none (passesAt passes h R k) (L .0) (rowAt h k .deadline + 1) (omega (arith, same-deadline))) ∙ i
