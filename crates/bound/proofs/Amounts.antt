@@ -34,9 +34,6 @@ module _ (h : Sheet) (k : ℕ) where
   unfolding room
   room-by-q L = refl
 
-  pub less-room : (L : Duration) (s a : Amount) (b : Bool) → a ≡ room h k L → b ≡ ltb (s .0) (a .0) → b ≡ ltb (s .0) (room h k L .0)
-  less-room L s a b ea eb = rw ea at eb
-
   module _ (l : Legal h) (b : k < h .count) where
     module _ (m : ℕ) (row : Row) (em : m ≡ h .processors) (er : row ≡ rowAt h k) where
       pub threads-fit : row .threads ≤ m

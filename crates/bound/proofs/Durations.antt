@@ -94,17 +94,10 @@ module _ (row : Row) (s : Duration) (f : Spans row s) (n : ℕ) (en : n ≡ s .0
 
 -- the duration, and its amount
 module _ (row : Row) (R L X : Duration) where
-  pub duration-is : (s w d : Duration) → s ≡ x row R L → w ≡ W row s → d .0 ≡ min (w .0) (X .0) → d ≡ durationOf row R L X
+  pub amount-is : (s w d : Duration) (b g : ℕ) (a : Amount) → a .0 ≡ d .0 * g → d .0 ≡ min (w .0) (X .0) → w ≡ W row s → s ≡ x row R L → g ≡ min (row .threads) b
+      → a ≡ on (durationOf row R L X) (min (row .threads) b)
   unfolding durationOf
-  duration-is s w d es ew ed = ap slots (rw (← es, ← ew) ed)
-
-  module _ (d : Duration) (ed : d ≡ durationOf row R L X) where
-    pub duration-small : X .0 ≤ widestSeparation → d .0 ≤ widestSeparation
-    unfolding durationOf
-    duration-small l = omega (arith, number ed)
-
-    pub amount-is : (b g : ℕ) (a : Amount) → g ≡ min (row .threads) b → a .0 ≡ d .0 * g → a ≡ on (durationOf row R L X) (min (row .threads) b)
-    amount-is b g a eg ea = same-amount (ea ∙ rw (ed, eg))
+  amount-is s w d b g a ea ed ew es eg = same-amount (rw (← es, ← ew, ← ed, ← eg) ea)
 
   pub amount-most : (b : ℕ) (a : Amount) → a ≡ on (durationOf row R L X) (min (row .threads) b) → X .0 ≤ widestSeparation → b ≤ mostProcessors → a .0 ≤ widestSeparation * mostProcessors
   unfolding durationOf

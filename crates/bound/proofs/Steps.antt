@@ -28,9 +28,9 @@ divides h k b e = omega (arith, q-some h k)
 
 -- ---- a length that passes, and one that does not
 
-pub trial-is : (h : Sheet) (R : ℕ → Duration) (k : ℕ) (L : Duration) (s : Amount) (t u : Bool) → s ≡ amounts h R k L k → t ≡ ltb (s .0) (room h k L .0) → t ≡ u → passes h R k L ≡ u
+pub trial-is : (h : Sheet) (R : ℕ → Duration) (k : ℕ) (L : Duration) (s a : Amount) (t u : Bool) → t ≡ ltb (s .0) (a .0) → s ≡ amounts h R k L k → a ≡ room h k L → t ≡ u → passes h R k L ≡ u
 unfolding passes
-trial-is h R k L s t u es et e = rw (← es) (sym et ∙ e)
+trial-is h R k L s a t u et es ea e = rw (← es, ← ea) (sym et ∙ e)
 
 module _ (h : Sheet) (R : ℕ → Duration) (k : ℕ) (r : Ready h R k) (L : Duration) (len : Length h k L) where
   -- what it can spare fits

@@ -9,7 +9,7 @@ use Rattle.bound.specs.Quantities.{widestSeparation, slots, plus}
 use Rattle.bound.specs.Inside.Parts.{pieces}
 use Rattle.bound.specs.Test.{q, X, amountOf, room}
 use Rattle.bound.specs.Inside.Ready.{Ready, Length}
-use Rattle.bound.specs.Inside.Skipping.{Skips, way, Stretches, Along, amountAlong, RowMeets, RowsMeet, bothEnds, AllFail}
+use Rattle.bound.specs.Inside.Skipping.{Skips, way, Stretches, Along, amountAlong, RowMeets, RowsMeet, AllFail}
 use Rattle.bound.specs.declared.quantity.Duration.{Duration}
 use Rattle.bound.specs.declared.quantity.Amount.{Amount}
 use Rattle.bound.specs.declared.quantity.FineAmount.{FineAmount}
@@ -62,15 +62,13 @@ module _ (h : Sheet) (R : ℕ → Duration) (k : ℕ) (r : Ready h R k) (s : Str
       unfolding amountOf
       along-is d = rw (er, ev, eb, X-more h R k r (s .from) (st .from) d, ← st .early)
 
-      pub meet-more : (t : Ends) → t ≡ bothEnds e m → RowsMeet h R k s (i + 1) t
-      unfolding bothEnds
-      meet-more t et =
-          rw et
-          (record {
+      pub meet-more : (n t o : FineAmount) → n .0 ≡ e .now .0 + m .now .0 → t .0 ≡ e .then .0 + m .then .0 → RowsMeet h R k s (i + 1) (record { now = n; then = t; spare = o })
+      meet-more n t o en et =
+          record {
             small-now = omega (arith, now .small-now, one .small-now);
             small-then = omega (arith, now .small-then, one .small-then);
-            under = λ c d w. rw (amounts-more h R k r (plus (s .from) (slots d)) i, ← along-is d) (omega (arith, now .under c d w, one .under c d w));
-          })
+            under = λ c d w. rw (en, et, amounts-more h R k r (plus (s .from) (slots d)) i, ← along-is d) (omega (arith, now .under c d w, one .under c d w));
+          }
 
   pub meet-done : (i : ℕ) (e : Ends) → RowsMeet h R k s i e → i ≤ k → k ≤ i → RowsMeet h R k s k e
   meet-done i e m a b = let z : i ≡ k = omega arith in rw z at m
@@ -99,11 +97,6 @@ module _ (h : Sheet) (R : ℕ → Duration) (k : ℕ) (r : Ready h R k) (s : Str
         (rw (X-more h R k r (s .from) (st .from) d) (ends-decide c d (e .now .0) (e .then .0) _ _ (q h k) (omega (arith, st .further)) (m .under c d w) first last)))
 
 -- ---- a step over a stretch
-
-pub both-ends-are : (a b : Ends) (n t o : FineAmount) → n .0 ≡ a .now .0 + b .now .0 → t .0 ≡ a .then .0 + b .then .0 → o ≡ b .spare
-    → _≡_ {A = Ends} (record { now = n; then = t; spare = o }) (bothEnds a b)
-unfolding bothEnds
-both-ends-are a b n t o en et eo = λ i. record { now = pieces (en i); then = pieces (et i); spare = eo i }
 
 module _ (h : Sheet) (R : ℕ → Duration) (k : ℕ) (r : Ready h R k) (row : Row) (er : row ≡ rowAt h k) where
   same-deadline : row .deadline ≡ rowAt h k .deadline

@@ -6,6 +6,6 @@ use Rattle.bound.proofs.search.try_length.Tie as tie
 
 pub try-length-spec : {M : Type 1} → statement M
 try-length-spec =
-    tie.close (tie.spec (λ c κs. search needs) (λ c κs. search needs) (λ c. search trial-is)
-    (λ c κs. (search needs, search needs, search needs, search needs, search trial-is)) (λ c κs. search needs) (λ c κs. search needs)
-    (λ c κs. search spare-fits) (λ c. search needs))
+    tie.close (tie.spec (λ c κs. search needs) (λ c κs. search needs) (λ c κs. search needs) (λ c. search trial-is)
+    (λ c κs. (search needs, search needs, search needs, search needs, search trial-is)) (λ c κs. search needs) (λ c κs. search spare-fits)
+    (λ c. search needs))

@@ -7,4 +7,4 @@ use Rattle.bound.proofs.stretch.with_row.Tie as tie
 pub with-row-spec : {M : Type 1} → statement M
 with-row-spec =
     tie.close (tie.spec (λ c κs. search needs) (λ c κs. search needs) (λ c. search needs) (λ c. search needs) (λ c. search needs)
-    (λ c. search needs) (λ c κs. search row-along) (λ c κs. (search now-fits, search then-fits)) (λ c. search meet-more))
+    (λ c. search needs) (λ c κs. search row-along) (λ c κs. search now-fits) (λ c κs. search then-fits) (λ c. search meet-more))
