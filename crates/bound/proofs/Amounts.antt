@@ -1,6 +1,6 @@
 -- q, X and the sum of the amounts: they fit, and the sum never falls as the length grows.
 -- Assumes nothing.
-use Rattle.basis.specs.Prelude.{ℕ, _+_, _*_, _-_, _≤_, _<_, min, _≡_, refl, ap, _∙_, Bool, false, le-ltb, ltb, mul-le-mul-right, arith, Fits, w64}
+use Rattle.basis.specs.Prelude.{ℕ, _+_, _*_, _-_, _≤_, _<_, min, _≡_, refl, ap, _∙_, false, le-ltb, mul-le-mul-right, arith, Fits, w64}
 use Rattle.basis.specs.Limits.{mostProcessors}
 use Rattle.basis.specs.Words.{sum}
 use Rattle.basis.proofs.Inside.Sums.{sum-le, sum-most, sum-one-more}

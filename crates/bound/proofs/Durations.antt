@@ -1,6 +1,6 @@
 -- The quantities of one row above: each fits, and each is the definition's.
 -- Assumes nothing.
-use Rattle.basis.specs.Prelude.{ℕ, _+_, _*_, _-_, _/_, _%_, _≤_, _<_, min, _≡_, refl, ap, _∙_, div-mul-le-self, div-add-mod', mod-lt, mul-le-mul-left, mul-le-mul, arith, Fits, w64}
+use Rattle.basis.specs.Prelude.{ℕ, _+_, _*_, _-_, _/_, _%_, _≤_, _<_, min, _≡_, refl, ap, div-mul-le-self, div-add-mod', mod-lt, mul-le-mul-left, mul-le-mul, arith, Fits, w64}
 use Rattle.basis.specs.Limits.{mostProcessors}
 use Rattle.sheet.specs.declared.row.Row.{Row}
 use Rattle.bound.specs.Quantities.{widestRows, widestSeparation, slots, on}
@@ -35,20 +35,20 @@ most-fine d g a b = omega (arith, mul-le-mul a b)
 pub part-below : (a c : ℕ) → a ≤ 2 * widestSeparation → c ≤ widestSeparation → 256 * (a * c) < 9223372036854775808
 part-below a c l m = omega (arith, mul-le-mul l m)
 
--- what is in 256ths fits
-pub weighed-fits : (a c : ℕ) → a ≤ 2 * widestSeparation → c ≤ widestSeparation → Fits w64 (a * c)
-weighed-fits a c l m = omega (arith, part-below a c l m)
-
-pub part-fits : (a c w : ℕ) → w ≡ a * c → a ≤ 2 * widestSeparation → c ≤ widestSeparation → Fits w64 (256 * w)
-part-fits a c w e l m = omega (arith, part-below a c l m)
+-- so what is in 256ths fits
+pub part-fits : (a c : ℕ) → a ≤ 2 * widestSeparation → c ≤ widestSeparation → Fits w64 (256 * (a * c))
+part-fits a c l m = omega (arith, part-below a c l m)
 
 -- and so is the largest sum, rounded up
 pub sum-below : (n a : ℕ) → n ≤ widestRows → a ≤ n * (256 * (widestSeparation * mostProcessors)) → a + 256 < 9223372036854775808
 sum-below n a l m = omega arith
 
 -- an amount fits, in 256ths too, and how often it is filled
-pub amount-fits : (d g : ℕ) → d ≤ 256 * widestSeparation → g ≤ mostProcessors → Fits w64 (d * g)
-amount-fits d g a b = omega (arith, most-fine d g a b)
+pub amount-fits : (d g : ℕ) → d ≤ widestSeparation → g ≤ mostProcessors → Fits w64 (d * g)
+amount-fits d g a b = omega (arith, most-amount d g a b)
+
+pub fine-fits : (d g : ℕ) → d ≤ 256 * widestSeparation → g ≤ mostProcessors → Fits w64 (d * g)
+fine-fits d g a b = omega (arith, most-fine d g a b)
 
 pub fills-most : (a q : ℕ) → 1 ≤ q → a < (a / q + 1) * q
 fills-most a q l = omega (arith, div-add-mod' a q, mod-lt a l)

@@ -1,6 +1,6 @@
 -- Bytes read and judged: what is known at each step, and each way out.
 -- Assumes nothing.
-use Rattle.basis.specs.Prelude.{ℕ, _+_, _*_, _≤_, _<_, _≡_, refl, sym, ap, ap₂, _∙_, Bool, true, false, List, arith, length, take, length-take-le, lt-leb, le-leb, w64, Fits}
+use Rattle.basis.specs.Prelude.{ℕ, _+_, _*_, _≤_, _<_, _≡_, refl, sym, ap, _∙_, Bool, true, false, List, arith, length, take, length-take-le, lt-leb, le-leb, w64, Fits}
 use Rattle.basis.specs.Limits.{mostRows}
 use Rattle.basis.specs.Upto.{upto}
 use Rattle.basis.specs.Refusals.{Outcome, accepted, refused, outcome, orElse, roomFor}
@@ -11,7 +11,6 @@ use Rattle.basis.proofs.Refusals.{room-holds, handed-found, handed-done, handed
 use Rattle.basis.proofs.Inside.Upto.{length-upto}
 use Rattle.sheet.specs.Legal.{legal}
 use Rattle.sheet.specs.Lists.{sheetIn, sheetLong}
-use Rattle.sheet.specs.declared.row.Sheet.{Sheet}
 use Rattle.sheet.proofs.Legality.{legal-is}
 use Rattle.reader.specs.Answers.{reading, labelIn}
 use Rattle.reader.specs.Lists.{labelsLong, readInto}

@@ -81,9 +81,6 @@ zeros-are-unreached = refl
 
 -- ---- `bounds_on`
 
-pub legal-is-known : (h : Sheet) (fine : Bool) → fine ≡ legal h → fine ≡ true → legal h ≡ true
-legal-is-known h fine e t = sym e ∙ t
-
 module _ (l b : List ℕ) where
   -- the answer where the sheet is legal and there is room
   pub legal-is-put : legal (sheetIn l) ≡ true → resultsLong (sheetIn l .count) ≤ length b → boundsOn l b ≡ (accepted, (holds passes (sheetIn l), filled (resultCell (words (sheetIn l))) b))

@@ -1,6 +1,6 @@
 -- A straight line that a row's amount is never below along a stretch, for each of three ways to choose it: its own amounts, its shares, and level.
 -- Assumes nothing.
-use Rattle.basis.specs.Prelude.{ℕ, _+_, _*_, _-_, _%_, _≤_, min, _≡_, sym, _∙_, Bool, true, mul-le-mul-left, mul-le-mul-right, le-of-mul-le-mul-right, div-mul-le-self, mod-lt, arith, leb-true, leb, Fits, w64}
+use Rattle.basis.specs.Prelude.{ℕ, _+_, _*_, _-_, _%_, _≤_, min, _≡_, true, mul-le-mul-left, mul-le-mul-right, le-of-mul-le-mul-right, div-mul-le-self, mod-lt, arith, leb-true, leb, Fits, w64}
 use Rattle.basis.specs.Limits.{mostProcessors}
 use Rattle.basis.proofs.Inside.Workload.{lesser-evenly}
 use Rattle.sheet.specs.declared.row.Row.{Row}
@@ -113,6 +113,3 @@ module _ (row : Row) (R : Duration) (s : Stretch) (b : ℕ) (al : Along row R s 
 
   pub meets-still : (m : Ends) (n t o : FineAmount) → RowMeets row R s b m → n ≡ m .now → t ≡ m .then → RowMeets row R s b (record { now = n; then = t; spare = o })
   meets-still m n t o a en et = record { small-now = rw en (a .small-now); small-then = rw et (a .small-then); under = rw (en, et) (a .under) }
-
-pub told-true : (t b : Bool) → t ≡ b → t ≡ true → b ≡ true
-told-true t b e f = sym e ∙ f

@@ -1,12 +1,11 @@
 -- A stretch of lengths is decided at its two ends: where the sum of straight lines that the rows above are never below reaches the room at both, every length between
 -- fails; and the step over such a stretch.
 -- Assumes nothing.
-use Rattle.basis.specs.Prelude.{ℕ, _+_, _*_, _-_, _≤_, _<_, _≡_, sym, ap, _∙_, Bool, true, false, mul-le-mul-left, le-of-mul-le-mul-left, arith, ltb-true, ltb, Fits, w64}
+use Rattle.basis.specs.Prelude.{ℕ, _+_, _*_, _-_, _≤_, _<_, _≡_, sym, _∙_, Bool, true, false, mul-le-mul-left, le-of-mul-le-mul-left, arith, ltb-true, ltb, Fits, w64}
 use Rattle.sheet.specs.Legal.{rowAt}
 use Rattle.sheet.specs.declared.row.Row.{Row}
 use Rattle.sheet.specs.declared.row.Sheet.{Sheet}
 use Rattle.bound.specs.Quantities.{widestSeparation, slots, plus}
-use Rattle.bound.specs.Inside.Parts.{pieces}
 use Rattle.bound.specs.Test.{q, X, amountOf, room}
 use Rattle.bound.specs.Inside.Ready.{Ready, Length}
 use Rattle.bound.specs.Inside.Skipping.{Skips, way, Stretches, Along, amountAlong, RowMeets, RowsMeet, AllFail}
@@ -99,15 +98,12 @@ module _ (h : Sheet) (R : ℕ → Duration) (k : ℕ) (r : Ready h R k) (s : Str
 -- ---- a step over a stretch
 
 module _ (h : Sheet) (R : ℕ → Duration) (k : ℕ) (r : Ready h R k) (row : Row) (er : row ≡ rowAt h k) where
-  same-deadline : row .deadline ≡ rowAt h k .deadline
-  same-deadline = ap (λ (z : Row). z .deadline) er
-
   pub deadline-small : row .deadline ≤ widestSeparation
-  deadline-small = omega (arith, same-deadline, own-row h R k r)
+  deadline-small = rw er (omega (arith, own-row h R k r))
 
   module _ (L d e : Duration) (len : Length h k L) (ee : e .0 ≡ L .0 + d .0) (m : L .0 + d .0 ≤ row .deadline) where
     pub end-is-length : Length h k e
-    end-is-length = record { low = omega (arith, len .low); high = omega (arith, same-deadline) }
+    end-is-length = record { low = omega (arith, len .low); high = omega (arith, rw er at m) }
 
     pub after-end-fits : (n : ℕ) → n ≤ widestSeparation → Fits w64 (e .0 + n)
     after-end-fits n l = omega (arith, deadline-small)

@@ -101,7 +101,7 @@ impl Duration {
 
     // So many slots of every period of it, in 256ths.
     pub(crate) fn part(self, budget: u64, period: Duration) -> Fine
-        requires { ⌜ (self .0 ≤ 2 * widestSeparation) × (budget ≤ widestSeparation) × (1 ≤ period .0) ⌝ }
+        requires { ⌜ (Fits w64 (256 * (self .0 * budget))) × (1 ≤ period .0) ⌝ }
         ensures { λ r. ⌜ r .0 ≡ partOf self budget period .0 ⌝ }
     {
         Fine(256 * (self.0 * budget) / period.0)
@@ -109,7 +109,7 @@ impl Duration {
 
     // Its amount on so many processors: the only way from a duration to an amount.
     pub(crate) fn on(self, capped: u64) -> Amount
-        requires { ⌜ (self .0 ≤ widestSeparation) × (capped ≤ mostProcessors) ⌝ }
+        requires { ⌜ Fits w64 (self .0 * capped) ⌝ }
         ensures { λ r. ⌜ r .0 ≡ on self capped .0 ⌝ }
     {
         Amount(self.0 * capped)
@@ -186,7 +186,7 @@ impl Fine {
 
     // Its amount on so many processors.
     pub(crate) fn on(self, capped: u64) -> FineAmount
-        requires { ⌜ (self .0 ≤ 256 * widestSeparation) × (capped ≤ mostProcessors) ⌝ }
+        requires { ⌜ Fits w64 (self .0 * capped) ⌝ }
         ensures { λ r. ⌜ r .0 ≡ onFine self capped .0 ⌝ }
     {
         FineAmount(self.0 * capped)

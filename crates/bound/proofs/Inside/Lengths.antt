@@ -1,6 +1,6 @@
 -- The smallest number of which a test holds: found, passed over, in range; and the turns of the search.
 -- Assumes nothing.
-use Rattle.basis.specs.Prelude.{ℕ, zero, suc, _+_, _-_, _≤_, _<_, _≡_, refl, sym, ap, _∙_, Bool, true, false, _⊎_, inl, inr, ⊎-elim, eq-or-lt-of-le, arith}
+use Rattle.basis.specs.Prelude.{ℕ, zero, suc, _+_, _-_, _≤_, _<_, _≡_, refl, sym, _∙_, Bool, true, false, _⊎_, inl, inr, ⊎-elim, eq-or-lt-of-le, arith}
 use Rattle.basis.proofs.Inside.Words.{lt-or-le}
 use Rattle.sheet.specs.Legal.{rowAt}
 use Rattle.sheet.specs.declared.row.Row.{Row}
@@ -17,6 +17,10 @@ use Rattle.bound.specs.declared.search.Tried.the-variants.{Passes, Next}
 -- what cannot be: two words for one result
 pub never : {A : Type 0} → _≡_ {A = ℕ} 0 1 → A
 never z = absurd (omega arith)
+
+-- a test that is told to hold does
+pub told-true : (t b : Bool) → t ≡ b → t ≡ true → b ≡ true
+told-true t b e f = sym e ∙ f
 
 -- ---- the numbers from l on, below e
 
@@ -90,11 +94,8 @@ search-starts h R k L s =
     sym (least-skip (passesAt passes h R k) (L .0 - rowAt h k .budget) (rowAt h k .budget) (L .0) (rowAt h k .deadline + 1) (omega (arith, s .low)) (s .fails))
 
 module _ (h : Sheet) (R : ℕ → Duration) (k : ℕ) (row : Row) (er : row ≡ rowAt h k) where
-  same-deadline : row .deadline ≡ rowAt h k .deadline
-  same-deadline = ap (λ (z : Row). z .deadline) er
-
   pub length-of-row : (L : Duration) → rowAt h k .budget ≤ L .0 → L .0 ≤ row .deadline → Length h k L
-  length-of-row L a b = record { low = a; high = omega (arith, same-deadline) }
+  length-of-row L a b = record { low = a; high = rw er at b }
 
   module _ (L : Duration) where
     told-passes : (t : Tried) → Says h R k L t → t ≡ Passes → passes h R k L ≡ true
@@ -106,17 +107,17 @@ module _ (h : Sheet) (R : ℕ → Duration) (k : ℕ) (row : Row) (er : row ≡ 
     told-next (Next m u) n o s e = let z : m ≡ n = cc in rw z at s
 
     pub search-less : (n : Duration) → Skips h R k L n → L .0 ≤ row .deadline → rowAt h k .deadline + 1 - n .0 < rowAt h k .deadline + 1 - L .0
-    search-less n s b = omega (arith, same-deadline, s .further)
+    search-less n s b = omega (arith, rw er at b, s .further)
 
     pub search-low : (n : Duration) → Skips h R k L n → rowAt h k .budget ≤ L .0 → rowAt h k .budget ≤ n .0
     search-low n s b = omega (arith, s .further)
 
     module _ (i : least (passesAt passes h R k) (L .0) (rowAt h k .deadline + 1 - L .0) ≡ boundBy passes h R k) where
       pub search-found : (t : Tried) → Says h R k L t → t ≡ Passes → L .0 ≤ row .deadline → bound (L .0) ≡ boundBy passes h R k
-      search-found t s e b = sym (least-hit (passesAt passes h R k) (L .0) (rowAt h k .deadline + 1) (omega (arith, same-deadline)) (told-passes t s e)) ∙ i
+      search-found t s e b = sym (least-hit (passesAt passes h R k) (L .0) (rowAt h k .deadline + 1) (omega (arith, rw er at b)) (told-passes t s e)) ∙ i
 
       pub search-more : (n : Duration) → Skips h R k L n → least (passesAt passes h R k) (n .0) (rowAt h k .deadline + 1 - n .0) ≡ boundBy passes h R k
       search-more n w = sym (least-skip (passesAt passes h R k) (n .0 - L .0) (L .0) (n .0) (rowAt h k .deadline + 1) (omega (arith, w .further)) (w .fails)) ∙ i
 
       pub search-ends : row .deadline < L .0 → none ≡ boundBy passes h R k
-      search-ends b = sym (least-none (passesAt passes h R k) (L .0) (rowAt h k .deadline + 1) (omega (arith, same-deadline))) ∙ i
+      search-ends b = sym (least-none (passesAt passes h R k) (L .0) (rowAt h k .deadline + 1) (omega (arith, rw er at b))) ∙ i

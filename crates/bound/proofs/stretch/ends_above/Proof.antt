@@ -1,6 +1,7 @@
 -- `ends_above` has such ends, whichever it takes. Assumes nothing.
 use Rattle.basis.specs.Prelude.{needs}
-use Rattle.bound.proofs.RowLines.{told-true, meets-still}
+use Rattle.bound.proofs.Inside.Lengths.{told-true}
+use Rattle.bound.proofs.RowLines.{meets-still}
 use Rattle.bound.proofs.stretch.ends_above.Statement.{statement}
 use Rattle.bound.proofs.stretch.ends_above.Tie as tie
 
