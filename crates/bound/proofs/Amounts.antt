@@ -39,9 +39,6 @@ module _ (h : Sheet) (k : ℕ) where
       pub threads-fit : row .threads ≤ m
       threads-fit = rw (em, er) (l .rows k b .most-threads)
 
-      pub q-fits : Fits w64 (m - row .threads + 1)
-      q-fits = omega (arith, l .most-processors)
-
       pub q-is : m - row .threads + 1 ≡ q h k
       unfolding q
       q-is = rw (em, er)

@@ -1,6 +1,6 @@
 -- A bound carried over from a row above that is no wider: lengths that fail for that row, weighed for row k, fail for it too.
 -- Assumes nothing.
-use Rattle.basis.specs.Prelude.{ℕ, _+_, _*_, _-_, _≤_, _<_, min, max, _≡_, refl, ap, Bool, true, false, ⊎-elim, mul-le-mul, mul-le-mul-left, mul-le-mul-right, le-of-mul-le-mul-right, arith, ltb-true, ltb-false, le-ltb, leb-true, leb-false, le-leb, ltb, leb, Fits, w64}
+use Rattle.basis.specs.Prelude.{ℕ, _+_, _*_, _-_, _≤_, _<_, min, max, _≡_, refl, ap, Bool, true, false, ⊎-elim, mul-le-mul, mul-le-mul-left, mul-le-mul-right, le-of-mul-le-mul-right, arith, ltb-true, ltb-false, le-ltb, leb-true, leb-false, le-leb, ltb, leb}
 use Rattle.basis.specs.Limits.{mostProcessors}
 use Rattle.basis.specs.Words.{pick, sum}
 use Rattle.basis.proofs.Inside.Words.{lt-or-le}
@@ -128,10 +128,6 @@ module _ (h : Sheet) (R : ℕ → Duration) (k : ℕ) (r : Ready h R k) where
 
 -- ---- one row above, as the code has it
 
-module _ (m : ℕ) (a o : Row) (v w : Duration) (ew : w .0 ≡ v .0 - o .budget) where
-  pub carried-within : Above o v (C a) → Fits w64 (w .0 + a .budget)
-  carried-within ab = omega arith
-
-  pub carried-small : o .threads ≤ a .threads → o .budget ≤ a .budget → (z : Duration) → z .0 ≡ w .0 + a .budget → z ≡ carriedOf m a o v
-  unfolding carriedOf
-  carried-small n s z ez = rw (le-ltb (a .threads) (o .threads) n, le-leb (o .budget) (a .budget) s) (ap slots (omega arith))
+pub carried-small : (m : ℕ) (a o : Row) (v w z : Duration) → w .0 ≡ v .0 - o .budget → z .0 ≡ w .0 + a .budget → o .threads ≤ a .threads → o .budget ≤ a .budget → z ≡ carriedOf m a o v
+unfolding carriedOf
+carried-small m a o v w z ew ez n s = rw (le-ltb (a .threads) (o .threads) n, le-leb (o .budget) (a .budget) s) (ap slots (omega arith))

@@ -134,7 +134,7 @@ module _ (s list labels results : List ℕ) (o : Outcome) (h : Bool) (l b rs : L
 
     pub judged-word : (k : ℕ) → k < reading s .1 .count → wordAt rs k ≡ resultOf passes (reading s .1) k
     judged-word k m =
-        word-comes-back (words (reading s .1)) rs results (reading s .1 .count) k results-so room-for-results m
+        word-comes-back (words (reading s .1)) rs results (resultsLong (reading s .1 .count)) k results-so room-for-results (omega arith)
         ∙ word-there passes (reading s .1) k (legal-is (reading s .1) legal-so) m
 
     pub judged-label : (k : ℕ) → k < reading s .1 .count → partIn b k ≡ labelIn s k

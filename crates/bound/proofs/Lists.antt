@@ -6,11 +6,11 @@ use Rattle.basis.specs.Words.{pick}
 use Rattle.basis.specs.Upto.{upto}
 use Rattle.basis.specs.Refusals.{accepted, refused}
 use Rattle.basis.proofs.Inside.Upto.{upto-below, upto-past, length-upto}
-use Rattle.basis.proofs.Inside.Pairs.{first-cell, second-cell, first-read, second-read, pair-zero}
+use Rattle.basis.proofs.Inside.Pairs.{first-cell, second-cell, pair-zero}
 use Rattle.basis.proofs.Inside.Lists.{getD-all}
 use Rattle.sheet.specs.Legal.{legal, Legal}
 use Rattle.sheet.specs.declared.row.Sheet.{Sheet}
-use Rattle.sheet.specs.Lists.{numberAt, filled, sheetIn, clearedCell}
+use Rattle.sheet.specs.Lists.{filled, sheetIn, clearedCell}
 use Rattle.sheet.proofs.Legality.{legal-is}
 use Rattle.sheet.proofs.Inside.ClearedLists.{cleared-is-filled}
 use Rattle.bound.specs.Test.{Test, passes}
@@ -55,24 +55,21 @@ back (bound r) a b ea eb = rw (ea, eb)
 back none a b ea eb = rw ea
 back unreached a b ea eb = rw ea
 
--- a word of n that are put into a list
-pub word-comes-back : (ws : List Word) (rs l : List ℕ) (n k : ℕ) → rs ≡ upto (resultsLong n) (resultCell ws) l → resultsLong n ≤ length l → k < n → wordAt rs k ≡ getD ws k unreached
+-- a word that is put into a list
+pub word-comes-back : (ws : List Word) (rs l : List ℕ) (n k : ℕ) → rs ≡ upto n (resultCell ws) l → n ≤ length l → k * 2 + 1 < n → wordAt rs k ≡ getD ws k unreached
 unfolding wordAt resultCell
 word-comes-back ws rs l n k e r h =
-    back (getD ws k unreached) (numberAt rs (k * 2)) (numberAt rs (k * 2 + 1))
-    (ap (λ (z : List ℕ). numberAt z (k * 2)) e ∙ first-read _ _ k n l h r) (ap (λ (z : List ℕ). numberAt z (k * 2 + 1)) e ∙ second-read _ _ k n l h r)
+    rw e
+    (back (getD ws k unreached) _ _ (upto-below n (resultCell ws) l 0 (k * 2) (omega arith) r ∙ first-cell _ _ k) (upto-below n (resultCell ws) l 0 (k * 2 + 1) h r ∙ second-cell _ _ k))
 
 -- the words that are put into a list with room for every row come back
 pub words-come-back : (ws : List Word) (l : List ℕ) → length ws ≡ mostRows → resultsLong mostRows ≤ length l → upto mostRows (wordAt (filled (resultCell ws) l)) allUnreached ≡ ws
-unfolding wordAt filled resultCell
+unfolding filled
 words-come-back ws l long room =
     let f : ℕ → Word = wordAt (filled (resultCell ws) l) in
     let same-length : length (upto mostRows f allUnreached) ≡ mostRows = length-upto mostRows f allUnreached ∙ length-replicate mostRows unreached in
     ext-getD unreached (upto mostRows f allUnreached) ws (same-length ∙ sym long)
-    (λ i b. upto-below mostRows f allUnreached unreached i (omega arith) (le-refl mostRows)
-    ∙ back (getD ws i unreached) _ _
-    (upto-below (length l) (resultCell ws) l 0 (i * 2) (omega arith) (le-refl (length l)) ∙ first-cell _ _ i)
-    (upto-below (length l) (resultCell ws) l 0 (i * 2 + 1) (omega arith) (le-refl (length l)) ∙ second-cell _ _ i))
+    (λ i b. upto-below mostRows f allUnreached unreached i (omega arith) (le-refl mostRows) ∙ word-comes-back ws _ l (length l) i refl (le-refl (length l)) (omega arith))
 
 -- and of zeros no row is reached
 pub zeros-are-unreached : upto mostRows (wordAt (replicate (resultsLong mostRows) 0)) allUnreached ≡ allUnreached

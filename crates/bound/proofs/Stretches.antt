@@ -111,9 +111,6 @@ module _ (h : Sheet) (R : ℕ → Duration) (k : ℕ) (r : Ready h R k) (row : R
     pub twice-fits : Fits w64 (2 * d .0)
     twice-fits = omega (arith, deadline-small)
 
-pub end-further : (L d e : Duration) → e .0 ≡ L .0 + d .0 → 1 ≤ d .0 → L .0 < e .0
-end-further L d e ee l = omega arith
-
 pub over-skips : (h : Sheet) (R : ℕ → Duration) (k : ℕ) (L d e z : Duration) (t : Bool) → z .0 ≡ e .0 + 1 → AllFail h R k (L .0) (e .0) t → t ≡ true → e .0 ≡ L .0 + d .0
     → Skips h R k L z
 over-skips h R k L d e z false ez f t ee = absurd (let w : _≡_ {A = ℕ} 0 1 = cc in omega arith)

@@ -17,6 +17,7 @@ use Rattle.bound.specs.Test.{q, X, x, W, durationOf, amountOf, amounts, 
 use Rattle.bound.specs.Bound.{unreached, least, boundBy, judge, resultsTo, resultOf, holds, Answer, boundsBy, boundsOf}
 use Rattle.bound.specs.Lists.{boundNumber, resultCell, resultsOn, boundsOn, judgedBytes}
 use Rattle.tables.specs.Tables.{sheetA, sheetC, sheetE, sheetF}
+use Rattle.bound.proofs.FromBytes.{Found}
 use Rattle.bound.specs.Wrong.{withoutCap, shortX, insideOnly, orEqual, alwaysNone, alwaysDeadline, judgedOn, goesOn, refusedHolds, refusedBy16, listUntouched, pastLeft, roomIgnored, clearedOnRefusal, threeRows, afterNone, listF}
 
 -- whether the sheet holds, as a number
@@ -30,13 +31,6 @@ boundAt k a = boundNumber (getD (a .2) k unreached)
 -- the number at place i of the list afterwards
 abbrev listAt : ℕ → Outcome × (Bool × List ℕ) → ℕ
 listAt i a = getD (a .1 .1) i 0
-
--- the number of the refusal, and the first number of the sheet's list afterwards
-abbrev refusalOf : Outcome × (Bool × (List ℕ × (List ℕ × List ℕ))) → ℕ
-refusalOf a = numberOf (a .0)
-
-abbrev firstNumber : Outcome × (Bool × (List ℕ × (List ℕ × List ℕ))) → ℕ
-firstNumber a = getD (a .1 .1 .0) 0 0
 
 -- ---- `bounds`, by a wrong test
 
@@ -104,9 +98,9 @@ past-left-is-shut-out = apart (listAt 2) (pastLeft listF (9 ∷ 9 ∷ 9 ∷ []))
 -- no bytes, a list of labels, and no room for results
 pub room-ignored-is-shut-out : NoneMeets (roomIgnored [] [] (9 ∷ 9 ∷ []) []) (judgedBytes [] [] (9 ∷ 9 ∷ []) [])
 unfolding begins headBy sheetBy intoLists readInto judgedBytes roomIgnored
-room-ignored-is-shut-out = apart refusalOf (roomIgnored [] [] (9 ∷ 9 ∷ []) []) (judgedBytes [] [] (9 ∷ 9 ∷ []) []) 1 15 refl refl (λ e. omega arith)
+room-ignored-is-shut-out = apart (λ (a : Found). numberOf (a .0)) (roomIgnored [] [] (9 ∷ 9 ∷ []) []) (judgedBytes [] [] (9 ∷ 9 ∷ []) []) 1 15 refl refl (λ e. omega arith)
 
 -- no bytes, and a sheet's list of one number
 pub cleared-on-refusal-is-shut-out : NoneMeets (clearedOnRefusal [] (9 ∷ []) [] []) (judgedBytes [] (9 ∷ []) [] [])
 unfolding begins upto filled headBy sheetBy intoLists readInto judgedBytes clearedOnRefusal
-cleared-on-refusal-is-shut-out = apart firstNumber (clearedOnRefusal [] (9 ∷ []) [] []) (judgedBytes [] (9 ∷ []) [] []) 0 9 refl refl (λ e. omega arith)
+cleared-on-refusal-is-shut-out = apart (λ (a : Found). getD (a .1 .1 .0) 0 0) (clearedOnRefusal [] (9 ∷ []) [] []) (judgedBytes [] (9 ∷ []) [] []) 0 9 refl refl (λ e. omega arith)

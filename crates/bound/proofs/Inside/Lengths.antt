@@ -109,9 +109,6 @@ module _ (h : Sheet) (R : ℕ → Duration) (k : ℕ) (row : Row) (er : row ≡ 
     pub search-less : (n : Duration) → Skips h R k L n → L .0 ≤ row .deadline → rowAt h k .deadline + 1 - n .0 < rowAt h k .deadline + 1 - L .0
     search-less n s b = omega (arith, rw er at b, s .further)
 
-    pub search-low : (n : Duration) → Skips h R k L n → rowAt h k .budget ≤ L .0 → rowAt h k .budget ≤ n .0
-    search-low n s b = omega (arith, s .further)
-
     module _ (i : least (passesAt passes h R k) (L .0) (rowAt h k .deadline + 1 - L .0) ≡ boundBy passes h R k) where
       pub search-found : (t : Tried) → Says h R k L t → t ≡ Passes → L .0 ≤ row .deadline → bound (L .0) ≡ boundBy passes h R k
       search-found t s e b = sym (least-hit (passesAt passes h R k) (L .0) (rowAt h k .deadline + 1) (omega (arith, rw er at b)) (told-passes t s e)) ∙ i

@@ -76,11 +76,7 @@ module _ (h : Sheet) (lent rs : List ℕ) (reached : Bool) (k : ℕ) (so-far : S
     unfolding resultCell putResult
     so-far-more m t em et =
         let e : word r ≡ getD (words h) k unreached = er ∙ sym (word-there passes h k l (omega arith)) in
-        record {
-          put = em ∙ pair-stored (λ j. wordNumber (getD (words h) j unreached)) (λ j. boundNumber (getD (words h) j unreached)) k rs lent (so-far .put)
-              (wordNumber (word r)) (boundNumber (word r)) (ap wordNumber e) (ap boundNumber e);
-          all = et ∙ ap isBound er ∙ bound-all passes passes-local h k;
-        }
+        record { put = em ∙ pair-stored _ _ k rs lent (so-far .put) _ _ (ap wordNumber e) (ap boundNumber e); all = et ∙ ap isBound er ∙ bound-all passes passes-local h k }
 
   -- every row is judged
   module _ (n : ℕ) (en : n ≡ h .count) (a : k ≤ n) (b : n ≤ k) where
@@ -95,12 +91,10 @@ module _ (h : Sheet) (lent rs : List ℕ) (reached : Bool) (k : ℕ) (so-far : S
 pub rows-above : (l lent rs : List ℕ) (reached : Bool) (k n : ℕ) → SoFar (sheetIn l) lent rs reached k → Legal (sheetIn l) → Lent l rs → n ≡ sheetIn l .count → k < n → RowsAbove (sheetIn l) rs reached k
 unfolding resultCell
 rows-above l lent rs reached k n so-far fine room en b =
-    let h : Sheet = sheetIn l in
     record {
       held = λ i m. ap slots
-          (ap (λ (x : List ℕ). getD x (i * 2 + 1) 0) (so-far .put)
-          ∙ second-read (λ j. wordNumber (getD (words h) j unreached)) (λ j. boundNumber (getD (words h) j unreached)) i k lent m (omega (arith, room, so-far-long h lent rs reached k so-far))
-          ∙ ap boundNumber (word-there passes h i fine (omega arith)));
+          (ap (λ (x : List ℕ). getD x (i * 2 + 1) 0) (so-far .put) ∙ second-read _ _ i k lent m (omega (arith, room, so-far-long (sheetIn l) lent rs reached k so-far))
+          ∙ ap boundNumber (word-there passes (sheetIn l) i fine (omega arith)));
       all = so-far .all;
     }
 
