@@ -1,12 +1,12 @@
 -- The pace at which the sum of the amounts grows with the length: what the loop over the rows above joins.
 -- Assumes nothing.
 use Rattle.basis.specs.Prelude.{ℕ, _+_, _*_, _-_, _%_, _≤_, _<_, min, _≡_, ap, Bool, true, false, mul-le-mul-right, arith, eqb, ne-eqb}
-use Rattle.basis.specs.Limits.{mostProcessors, mostSeparation}
+use Rattle.basis.specs.Limits.{mostSeparation}
 use Rattle.basis.specs.Words.{pick, sum}
 use Rattle.sheet.specs.Legal.{rowAt, LegalRow}
 use Rattle.sheet.specs.declared.row.Row.{Row}
 use Rattle.sheet.specs.declared.row.Sheet.{Sheet}
-use Rattle.bound.specs.Quantities.{widestRows, slots, plus, lesser}
+use Rattle.bound.specs.Quantities.{slots, plus, lesser}
 use Rattle.bound.specs.Test.{q, X, x, W, durationOf, amountOf, amounts}
 use Rattle.bound.specs.Inside.Ready.{Ready, Length}
 use Rattle.bound.specs.Inside.Skipping.{Paces, stayOf, joined}
@@ -14,7 +14,7 @@ use Rattle.bound.specs.declared.quantity.Duration.{Duration}
 use Rattle.bound.specs.declared.pace.Pace.{Pace}
 use Rattle.bound.proofs.Durations.{number}
 use Rattle.bound.proofs.Workload.{W-runs-on}
-use Rattle.bound.proofs.Amounts.{few-rows, row, q-small, amounts-more, amount-mono}
+use Rattle.bound.proofs.Amounts.{row, q-small, amounts-more, amount-mono}
 
 capped-grows : (w z g x d : ℕ) → w + min d g ≤ z → d ≤ g + (w - x) → min w x + d ≤ min z (x + d)
 capped-grows w z g x d a b = omega arith
@@ -73,9 +73,6 @@ module _ (h : Sheet) (R : ℕ → Duration) (k : ℕ) (r : Ready h R k) (L : Dur
               rw capped-is
               (omega (arith, now .grows d (omega arith), amounts-more h R k r L i, amounts-more h R k r (plus L (slots d)) i, amount-grows i d l (omega (arith, number stay-is))));
         })
-
-  pub width-small : (i : ℕ) (p : Pace) → i < k → Paces h R k L i p → p .width ≤ widestRows * mostProcessors
-  width-small i p l now = omega (arith, now .width, few-rows h R k r)
 
   pub paces-done : (i : ℕ) (p : Pace) → Paces h R k L i p → i ≤ k → k ≤ i → Paces h R k L k p
   paces-done i p now a b = let e : i ≡ k = omega arith in rw e at now

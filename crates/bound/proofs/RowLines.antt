@@ -12,7 +12,6 @@ use Rattle.bound.specs.declared.quantity.Duration.{Duration}
 use Rattle.bound.specs.declared.quantity.Amount.{Amount}
 use Rattle.bound.specs.declared.quantity.FineAmount.{FineAmount}
 use Rattle.bound.specs.declared.stretch.Stretch.{Stretch}
-use Rattle.bound.specs.declared.stretch.Ends.{Ends}
 use Rattle.bound.proofs.Durations.{most-fine}
 use Rattle.bound.proofs.Workload.{W-mono, W-shares, W-evenly}
 
@@ -110,6 +109,3 @@ module _ (row : Row) (R : Duration) (s : Stretch) (b : ℕ) (al : Along row R s 
         small-then = share-most (s .to) (s .late) t et (al .most-late);
         under = λ c d e. rw (en, et) (omega (arith, mul-le-mul-right (min (row .threads) b) (share-under c d e)));
       }
-
-  pub meets-still : (m : Ends) (n t o : FineAmount) → RowMeets row R s b m → n ≡ m .now → t ≡ m .then → RowMeets row R s b (record { now = n; then = t; spare = o })
-  meets-still m n t o a en et = record { small-now = rw en (a .small-now); small-then = rw et (a .small-then); under = rw (en, et) (a .under) }

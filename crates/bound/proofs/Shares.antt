@@ -109,9 +109,6 @@ module _ (h : Sheet) (R : ℕ → Duration) (k : ℕ) (r : Ready h R k) (L : Dur
       (none-left (X h k (slots l) .0) (X h k L .0) (q h k) (a .0) (amounts h R k (slots l) k .0) (X-mono h k (slots l) L high) (X-some h k L) (s .reached l low high)
       (rw (eo, room-by-q) at (ltb-true (256 * o .0) (a .0 + 256) (sym e))))
 
-  pub shares-round : (a : FineAmount) → Shares h R k L k a → Fits w64 (a .0 + 256)
-  shares-round a s = omega (arith, s .small, few-rows h R k r)
-
 -- ---- past the deadline
 
 module _ (h : Sheet) (R : ℕ → Duration) (k : ℕ) (row : Row) (er : row ≡ rowAt h k) where

@@ -50,12 +50,6 @@ module _ (h : Sheet) (R : ℕ → Duration) (k : ℕ) (r : Ready h R k) (s : Str
   meet-none n t o en et = record { small-now = omega arith; small-then = omega arith; under = λ c d e. rw (en, et) (omega arith) }
 
   module _ (i b : ℕ) (row : Row) (v : Duration) (e m : Ends) (one : RowMeets row v s b m) (now : RowsMeet h R k s i e) (l : i < k) where
-    pub now-fits : Fits w64 (e .now .0 + m .now .0)
-    now-fits = omega (arith, now .small-now, one .small-now, few-rows h R k r)
-
-    pub then-fits : Fits w64 (e .then .0 + m .then .0)
-    then-fits = omega (arith, now .small-then, one .small-then, few-rows h R k r)
-
     module _ (er : row ≡ rowAt h i) (ev : v ≡ R i) (eb : b ≡ q h k) where
       along-is : (d : ℕ) → amountAlong row v s b d ≡ amountOf h R k (plus (s .from) (slots d)) i
       unfolding amountOf
@@ -73,9 +67,6 @@ module _ (h : Sheet) (R : ℕ → Duration) (k : ℕ) (r : Ready h R k) (s : Str
   meet-done i e m a b = let z : i ≡ k = omega arith in rw z at m
 
   module _ (e : Ends) (m : RowsMeet h R k s k e) where
-    pub now-rounds : (n : FineAmount) → n ≡ e .now → Fits w64 (n .0 + 256)
-    now-rounds n en = omega (arith, number-in en, m .small-now, few-rows h R k r)
-
     pub then-rounds : (n : FineAmount) → n ≡ e .then → Fits w64 (n .0 + 256)
     then-rounds n en = omega (arith, number-in en, m .small-then, few-rows h R k r)
 
