@@ -4,7 +4,7 @@ use Rattle.basis.specs.Prelude.{ℕ, suc, _≤_, _<_, _≡_, refl, sym, ap, _�
 use Rattle.basis.specs.Limits.{mostRows}
 use Rattle.basis.specs.Upto.{upto}
 use Rattle.basis.specs.Refusals.{Outcome, accepted, refused, outcome, orElse, roomFor, handed}
-use Rattle.basis.proofs.Refusals.{outcome-one-to-one}
+use Rattle.basis.proofs.Refusals.{outcome-one-to-one, handed-found}
 use Rattle.sheet.specs.Legal.{legal}
 use Rattle.sheet.specs.Lists.{filled, sheetIn}
 use Rattle.sheet.specs.declared.row.Sheet.{Sheet}
@@ -104,11 +104,6 @@ rows-above-decide h s k eh es lh ls a i l = told-is passes h eh i (omega arith) 
 
 -- ---- the answer in a list is the answer by value
 
--- a refusal hands over what was found
-found-is-handed : {A : Type 0} (o : Outcome) (done found : A) (n p : ℕ) → handed o done found .0 ≡ refused n p → handed o done found ≡ (refused n p, found)
-found-is-handed accepted done found n p e = never (cc)
-found-is-handed {A} (refused k q) done found n p e = ap (λ (o : Outcome). (o, found)) e
-
 module _ (l b : List ℕ) where
   -- its refusal first, then the room; whether the sheet holds, and each row's result
   pub put-is-the-answer : boundsOn l b
@@ -119,4 +114,4 @@ module _ (l b : List ℕ) where
   -- any refusal leaves the list as it was, and the sheet does not hold
   pub refused-list-is-kept : (n p : ℕ) → boundsOn l b .0 ≡ refused n p → boundsOn l b ≡ (refused n p, (false, b))
   unfolding boundsOn resultsOn
-  refused-list-is-kept n p e = found-is-handed (orElse (boundsOf (sheetIn l) .0) (roomFor (resultsLong (sheetIn l .count)) (length b))) _ (false, b) n p e
+  refused-list-is-kept n p e = λ i. (e i, handed-found _ (false, b) (orElse (boundsOf (sheetIn l) .0) (roomFor (resultsLong (sheetIn l .count)) (length b))) n p e i)
