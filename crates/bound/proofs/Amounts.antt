@@ -45,7 +45,7 @@ module _ (h : Sheet) (k : ℕ) where
 
     pub q-of-small : (c : ℕ) → c ≡ q h k → c ≤ mostProcessors
     unfolding q
-    q-of-small c e = omega (arith, l .most-processors, l .rows k b)
+    q-of-small c e = omega (arith, l .rows k b)
 
     pub capped-small : (c e g : ℕ) → c ≡ q h k → e ≡ min g c → e ≤ mostProcessors
     capped-small c e g ec ee = omega (arith, q-of-small c ec)
@@ -96,19 +96,19 @@ module _ (h : Sheet) (R : ℕ → Duration) (k : ℕ) (r : Ready h R k) where
   X-small L n = window-small h k (r .legal) (r .below) L n (X h k L) refl
 
   pub row : (i : ℕ) → i < k → LegalRow (h .processors) (rowAt h i)
-  row i b = r .legal .rows i (omega (arith, r .below))
+  row i b = r .legal .rows i (omega arith)
 
   pub length-small : (L : Duration) → Length h k L → L .0 ≤ widestSeparation
   length-small L n = omega (arith, own-row)
 
   pub few-rows : k < widestRows
-  few-rows = omega (arith, r .below, r .legal .most-rows)
+  few-rows = omega arith
 
   pub row-above : (i : ℕ) (a : Row) (v L : Duration) → i < k → a ≡ rowAt h i → v ≡ R i → Length h k L → Above a v L
   row-above i a v L b ea e n =
       rw ea
       (record {
-        most-threads = omega (arith, row i b, r .legal .most-processors);
+        most-threads = omega (arith, row i b);
         some-budget = row i b .some-budget;
         low = omega (arith, r .low i b, number e);
         high = omega (arith, r .high i b, row i b, number e);

@@ -102,7 +102,7 @@ module _ (h : Sheet) (R : ℕ → Duration) (k : ℕ) (r : Ready h R k) where
   start-at-budget a ea = rw ea (record { low = omega arith; fails = λ l c d. absurd (omega arith) })
 
   pub threads-small : (a : Row) → a ≡ rowAt h k → a .threads ≤ mostProcessors
-  threads-small a ea = rw ea (omega (arith, own-row h R k r, r .legal .most-processors))
+  threads-small a ea = rw ea (omega (arith, own-row h R k r))
 
   module _ (j m : ℕ) (b : j < k) (a o : Row) (v : Duration) (ea : a ≡ rowAt h k) (eo : o ≡ rowAt h j) (ev : v ≡ R j) where
     pub above-budget : Above o v (C a)
@@ -124,7 +124,7 @@ module _ (h : Sheet) (R : ℕ → Duration) (k : ℕ) (r : Ready h R k) where
         go false ee false ef false eg = start-at-budget (rowAt h k) refl
 
   pub start-later : (a b c : Duration) → Starts h R k a → Starts h R k b → c .0 ≡ max (a .0) (b .0) → Starts h R k c
-  start-later a b c sa sb e = record { low = omega (arith, sa .low); fails = λ l low d. ⊎-elim (λ s. sa .fails l low s) (λ s. sb .fails l low (omega arith)) (lt-or-le l (a .0)) }
+  start-later a b c sa sb e = record { low = omega arith; fails = λ l low d. ⊎-elim (λ s. sa .fails l low s) (λ s. sb .fails l low (omega arith)) (lt-or-le l (a .0)) }
 
 -- ---- one row above, as the code has it
 

@@ -21,7 +21,7 @@ use Rattle.bound.specs.Lists.{wordNumber, boundNumber, resultsLong, resu
 
 module _ (test : Test) (h : Sheet) (k : ℕ) where
   pub word-there : Legal h → k < h .count → getD (upto (h .count) (resultOf test h) allUnreached) k unreached ≡ resultOf test h k
-  word-there l b = upto-below (h .count) (resultOf test h) allUnreached unreached k b (omega (arith, l .most-rows, length-replicate mostRows unreached))
+  word-there l b = upto-below (h .count) (resultOf test h) allUnreached unreached k b (omega (arith, length-replicate mostRows unreached))
 
   pub word-past : h .count ≤ k → getD (upto (h .count) (resultOf test h) allUnreached) k unreached ≡ unreached
   word-past b = upto-past (h .count) (resultOf test h) allUnreached unreached k b ∙ getD-all mostRows k unreached

@@ -32,7 +32,7 @@ duration-grows r R L X d pos fits low h =
 module _ (h : Sheet) (R : ℕ → Duration) (k : ℕ) (r : Ready h R k) (L : Duration) (len : Length h k L) where
   pub X-more : (d : ℕ) → X h k (plus L (slots d)) ≡ plus (X h k L) (slots d)
   unfolding X
-  X-more d = ap slots (omega (arith, len .low))
+  X-more d = ap slots (omega arith)
 
   amount-grows : (i d : ℕ) → i < k → d ≤ stayOf (rowAt h i) (R i) L (X h k L) .0
       → amountOf h R k L i .0 + min (rowAt h i .threads) (q h k) * d ≤ amountOf h R k (plus L (slots d)) i .0
@@ -59,7 +59,7 @@ module _ (h : Sheet) (R : ℕ → Duration) (k : ℕ) (r : Ready h R k) (L : Dur
     go true e =
         rw e
         (record {
-          width = omega (arith, now .width);
+          width = omega arith;
           stay = now .stay;
           grows = λ d m.
               omega (arith, now .grows d m, amounts-more h R k r L i, amounts-more h R k r (plus L (slots d)) i, amount-mono h R k r L (plus L (slots d)) i (omega arith) l);
@@ -67,8 +67,8 @@ module _ (h : Sheet) (R : ℕ → Duration) (k : ℕ) (r : Ready h R k) (L : Dur
     go false e =
         rw e
         (record {
-          width = omega (arith, now .width, q-small h R k r, capped-is);
-          stay = omega (arith, now .stay);
+          width = omega (arith, q-small h R k r);
+          stay = omega arith;
           grows = λ d m.
               rw capped-is
               (omega (arith, now .grows d (omega arith), amounts-more h R k r L i, amounts-more h R k r (plus L (slots d)) i, amount-grows i d l (omega (arith, number stay-is))));

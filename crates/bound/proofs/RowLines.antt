@@ -23,10 +23,10 @@ share-evenly C T x c d s t w pos hs ht hw = le-of-mul-le-mul-right {k = T} (omeg
 
 module _ (row : Row) (R : Duration) (s : Stretch) (b : ℕ) (al : Along row R s b) where
   some-separation : 1 ≤ row .separation
-  some-separation = omega (arith, al .from)
+  some-separation = omega arith
 
   most-budget : row .budget ≤ row .separation
-  most-budget = omega (arith, al .from)
+  most-budget = omega arith
 
   -- x at the start of the stretch
   abbrev x₀ : ℕ
@@ -34,13 +34,13 @@ module _ (row : Row) (R : Duration) (s : Stretch) (b : ℕ) (al : Along row R s 
 
   module _ (c d : ℕ) (e : c + d ≡ way s) where
     at-end : s .to .0 + R .0 - row .budget ≡ s .from .0 + R .0 - row .budget + (c + d)
-    at-end = omega (arith, al .from, al .further)
+    at-end = omega arith
 
     between : s .from .0 + d + R .0 - row .budget ≡ s .from .0 + R .0 - row .budget + d
-    between = omega (arith, al .from)
+    between = omega arith
 
     late-is : s .late .0 ≡ s .early .0 + (c + d)
-    late-is = omega (arith, al .late)
+    late-is = omega arith
 
     -- its own amounts, while its present separation lasts
     exact-under : lasts row R s ≡ true
@@ -75,7 +75,7 @@ module _ (row : Row) (R : Duration) (s : Stretch) (b : ℕ) (al : Along row R s 
   -- whether its present separation lasts
   module _ (z ran w : Duration) (er : ran .0 ≡ z .0 % row .separation) (ew : w .0 ≡ s .to .0 - s .from .0) where
     pub lasts-fits : Fits w64 (ran .0 + w .0)
-    lasts-fits = omega (arith, mod-lt (z .0) some-separation, al .from, al .to)
+    lasts-fits = omega (arith, mod-lt (z .0) some-separation)
 
     pub lasts-is : (e : Duration) → z ≡ x row R (s .from) → e .0 ≡ ran .0 + w .0 → leb (e .0) (row .separation) ≡ lasts row R s
     unfolding lasts
@@ -99,7 +99,7 @@ module _ (row : Row) (R : Duration) (s : Stretch) (b : ℕ) (al : Along row R s 
 
   share-most : (L Y : Duration) (n : FineAmount) → n ≡ onFine (shareOf row R L Y) (min (row .threads) b) → Y .0 ≤ widestSeparation → n .0 ≤ 256 * (widestSeparation * mostProcessors)
   unfolding shareOf
-  share-most L Y n e l = rw e (most-fine _ _ (omega arith) (omega (arith, al .most-q)))
+  share-most L Y n e l = rw e (most-fine _ _ (omega arith) (omega arith))
 
   pub share-meets : (n t o : FineAmount) → n ≡ onFine (shareOf row R (s .from) (s .early)) (min (row .threads) b)
       → t ≡ onFine (shareOf row R (s .to) (s .late)) (min (row .threads) b) → RowMeets row R s b (record { now = n; then = t; spare = o })

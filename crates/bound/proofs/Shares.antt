@@ -15,6 +15,7 @@ use Rattle.bound.specs.declared.quantity.Duration.{Duration}
 use Rattle.bound.specs.declared.quantity.Amount.{Amount}
 use Rattle.bound.specs.declared.quantity.Fine.{Fine}
 use Rattle.bound.specs.declared.quantity.FineAmount.{FineAmount}
+use Rattle.bound.proofs.Inside.Lengths.{never}
 use Rattle.bound.proofs.Durations.{number-in, most-fine}
 use Rattle.bound.proofs.Workload.{W-shares}
 use Rattle.bound.proofs.Amounts.{few-rows, row, own-row, q-small, X-small, X-some, X-mono, room-by-q, fails-where, amounts-more}
@@ -38,7 +39,7 @@ in-proportion C T y Y a w s pos l hw hs = le-of-mul-le-mul-right {k = T} (omega 
 capped-in-proportion : (y Y w s : ℕ) → y * s ≤ Y * (256 * w) → y * min s (256 * Y) ≤ Y * (256 * min w y)
 capped-in-proportion y Y w s h =
     ⊎-elim
-    (λ l. let e : min w y ≡ w = omega arith in rw e (omega (arith, h, mul-le-mul-left {m = min s (256 * Y)} {n = s} y (omega arith))))
+    (λ l. let e : min w y ≡ w = omega arith in rw e (omega (arith, mul-le-mul-left {m = min s (256 * Y)} {n = s} y (omega arith))))
     (λ l. let e : min w y ≡ y = omega arith in rw e (omega (arith, mul-le-mul-left {m = min s (256 * Y)} {n = 256 * Y} y (omega arith))))
     (lt-or-le w y)
 
@@ -50,7 +51,7 @@ share-in-proportion C T B l L R w pos low some from to work =
     let eL : L + R - C ≡ L - B + 1 + (B - 1 + (R - C)) = omega arith in
     let s : ℕ = 256 * ((L + R - C) * C) / T in
     let share : s * T ≤ (L + R - C) * (256 * C) = omega (arith, div-mul-le-self (256 * ((L + R - C) * C)) T) in
-    let fine : (l + R - C) * (256 * C) ≤ 256 * w * T = omega (arith, work) in
+    let fine : (l + R - C) * (256 * C) ≤ 256 * w * T = omega arith in
     capped-in-proportion (l - B + 1) (L - B + 1) w s
     (in-proportion (256 * C) T (l - B + 1) (L - B + 1) (B - 1 + (R - C)) (256 * w) s pos (omega arith) (rw (← el) fine) (rw (← eL) share))
 
@@ -121,5 +122,5 @@ module _ (h : Sheet) (R : ℕ → Duration) (k : ℕ) (row : Row) (er : row ≡ 
 
   -- past it, where no length up to it passes
   pub past-deadline : (t : Bool) (L z : Duration) → z .0 ≡ row .deadline + 1 → AllFail h R k (rowAt h k .budget) (row .deadline) t → t ≡ true → Length h k L → Skips h R k L z
-  past-deadline false L z ez s e len = absurd (let w : _≡_ {A = ℕ} 0 1 = cc in omega arith)
-  past-deadline true L z ez s e len = record { further = omega (arith, rw (← er) at (len .high)); fails = λ l low high. s l (omega (arith, len .low)) (omega arith) }
+  past-deadline false L z ez s e len = never (cc)
+  past-deadline true L z ez s e len = record { further = omega (arith, rw (← er) at (len .high)); fails = λ l low high. s l (omega arith) (omega arith) }

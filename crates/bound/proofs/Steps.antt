@@ -59,7 +59,7 @@ module _ (h : Sheet) (R : ℕ → Duration) (k : ℕ) (r : Ready h R k) (L : Dur
           (λ i. omega (
             arith,
             over-is,
-            c .grows d (omega (arith, st .within-stay)),
+            c .grows d (omega arith),
             rw eb at (st .within-over),
             mul-le-mul-right (q h k - p .width) i,
             mul-le-mul-left {m = q h k} {n = p .width + (q h k - p .width)} d (omega arith),

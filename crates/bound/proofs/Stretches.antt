@@ -14,6 +14,7 @@ use Rattle.bound.specs.declared.quantity.Amount.{Amount}
 use Rattle.bound.specs.declared.quantity.FineAmount.{FineAmount}
 use Rattle.bound.specs.declared.stretch.Stretch.{Stretch}
 use Rattle.bound.specs.declared.stretch.Ends.{Ends}
+use Rattle.bound.proofs.Inside.Lengths.{never}
 use Rattle.bound.proofs.Durations.{number, number-in}
 use Rattle.bound.proofs.Amounts.{few-rows, own-row, row-above, q-small, X-small, room-by-q, fails-where, amounts-more}
 use Rattle.bound.proofs.Paces.{X-more}
@@ -32,7 +33,7 @@ ends-decide c d a b s y Q some h m n =
 module _ (h : Sheet) (R : ℕ → Duration) (k : ℕ) (r : Ready h R k) (s : Stretch) (st : Stretches h k s) where
   late-later : s .late .0 ≡ s .early .0 + way s
   unfolding X
-  late-later = omega (arith, number (st .early), number (st .late), st .from .low, st .further)
+  late-later = omega (arith, number (st .early), number (st .late))
 
   pub row-along : (i b : ℕ) (a : Row) (v : Duration) → i < k → a ≡ rowAt h i → v ≡ R i → b ≡ q h k → Along a v s b
   row-along i b a v l ea ev eb =
@@ -49,26 +50,26 @@ module _ (h : Sheet) (R : ℕ → Duration) (k : ℕ) (r : Ready h R k) (s : Str
   pub meet-none : (n t o : FineAmount) → n .0 ≡ 0 → t .0 ≡ 0 → RowsMeet h R k s 0 (record { now = n; then = t; spare = o })
   meet-none n t o en et = record { small-now = omega arith; small-then = omega arith; under = λ c d e. rw (en, et) (omega arith) }
 
-  module _ (i b : ℕ) (row : Row) (v : Duration) (e m : Ends) (one : RowMeets row v s b m) (now : RowsMeet h R k s i e) (l : i < k) where
-    module _ (er : row ≡ rowAt h i) (ev : v ≡ R i) (eb : b ≡ q h k) where
-      along-is : (d : ℕ) → amountAlong row v s b d ≡ amountOf h R k (plus (s .from) (slots d)) i
-      unfolding amountOf
-      along-is d = rw (er, ev, eb, X-more h R k r (s .from) (st .from) d, ← st .early)
+  module _ (i b : ℕ) (row : Row) (v : Duration) (e m : Ends) (one : RowMeets row v s b m) (now : RowsMeet h R k s i e) (l : i < k) (er : row ≡ rowAt h i) (ev : v ≡ R i)
+      (eb : b ≡ q h k) where
+    along-is : (d : ℕ) → amountAlong row v s b d ≡ amountOf h R k (plus (s .from) (slots d)) i
+    unfolding amountOf
+    along-is d = rw (er, ev, eb, X-more h R k r (s .from) (st .from) d, ← st .early)
 
-      pub meet-more : (n t o : FineAmount) → n .0 ≡ e .now .0 + m .now .0 → t .0 ≡ e .then .0 + m .then .0 → RowsMeet h R k s (i + 1) (record { now = n; then = t; spare = o })
-      meet-more n t o en et =
-          record {
-            small-now = omega (arith, now .small-now, one .small-now);
-            small-then = omega (arith, now .small-then, one .small-then);
-            under = λ c d w. rw (en, et, amounts-more h R k r (plus (s .from) (slots d)) i, ← along-is d) (omega (arith, now .under c d w, one .under c d w));
-          }
+    pub meet-more : (n t o : FineAmount) → n .0 ≡ e .now .0 + m .now .0 → t .0 ≡ e .then .0 + m .then .0 → RowsMeet h R k s (i + 1) (record { now = n; then = t; spare = o })
+    meet-more n t o en et =
+        record {
+          small-now = omega arith;
+          small-then = omega arith;
+          under = λ c d w. rw (en, et, amounts-more h R k r (plus (s .from) (slots d)) i, ← along-is d) (omega (arith, now .under c d w, one .under c d w));
+        }
 
   pub meet-done : (i : ℕ) (e : Ends) → RowsMeet h R k s i e → i ≤ k → k ≤ i → RowsMeet h R k s k e
   meet-done i e m a b = let z : i ≡ k = omega arith in rw z at m
 
   module _ (e : Ends) (m : RowsMeet h R k s k e) where
     pub then-rounds : (n : FineAmount) → n ≡ e .then → Fits w64 (n .0 + 256)
-    then-rounds n en = omega (arith, number-in en, m .small-then, few-rows h R k r)
+    then-rounds n en = omega (arith, number-in en, few-rows h R k r)
 
     -- each length of the stretch fails
     pub stretch-told : (n t : FineAmount) (f z : Amount) (v u : Bool) (from to : Duration) → n ≡ e .now → t ≡ e .then → f ≡ room h k from → z ≡ room h k to → s .from ≡ from
@@ -84,7 +85,7 @@ module _ (h : Sheet) (R : ℕ → Duration) (k : ℕ) (r : Ready h R k) (s : Str
         let last : 256 * ((X h k (s .from) .0 + (c + d)) * q h k) < e .then .0 + 256 = rw (et, ez, ← eto, room-by-q, late-is) at (ltb-true (256 * z .0) (t .0 + 256) (sym eu)) in
         rw g
         (fails-where h R k (plus (s .from) (slots d))
-        (rw (X-more h R k r (s .from) (st .from) d) (ends-decide c d (e .now .0) (e .then .0) _ _ (q h k) (omega (arith, st .further)) (m .under c d w) first last)))
+        (rw (X-more h R k r (s .from) (st .from) d) (ends-decide c d (e .now .0) (e .then .0) _ _ (q h k) (omega arith) (m .under c d w) first last)))
 
 -- ---- a step over a stretch
 
@@ -94,7 +95,7 @@ module _ (h : Sheet) (R : ℕ → Duration) (k : ℕ) (r : Ready h R k) (row : R
 
   module _ (L d e : Duration) (len : Length h k L) (ee : e .0 ≡ L .0 + d .0) (m : L .0 + d .0 ≤ row .deadline) where
     pub end-is-length : Length h k e
-    end-is-length = record { low = omega (arith, len .low); high = omega (arith, rw er at m) }
+    end-is-length = record { low = omega arith; high = omega (arith, rw er at m) }
 
     pub after-end-fits : (n : ℕ) → n ≤ widestSeparation → Fits w64 (e .0 + n)
     after-end-fits n l = omega (arith, deadline-small)
@@ -104,5 +105,5 @@ module _ (h : Sheet) (R : ℕ → Duration) (k : ℕ) (r : Ready h R k) (row : R
 
 pub over-skips : (h : Sheet) (R : ℕ → Duration) (k : ℕ) (L d e z : Duration) (t : Bool) → z .0 ≡ e .0 + 1 → AllFail h R k (L .0) (e .0) t → t ≡ true → e .0 ≡ L .0 + d .0
     → Skips h R k L z
-over-skips h R k L d e z false ez f t ee = absurd (let w : _≡_ {A = ℕ} 0 1 = cc in omega arith)
+over-skips h R k L d e z false ez f t ee = never (cc)
 over-skips h R k L d e z true ez f t ee = record { further = omega arith; fails = λ l a b. f l a (omega arith) }

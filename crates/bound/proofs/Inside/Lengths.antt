@@ -53,7 +53,7 @@ module _ (p : ℕ → Bool) where
     pub first : (j : ℕ) → l ≤ j → j < r → p j ≡ false
 
   pub smallest-is-least : (l e r : ℕ) → Smallest l e r → least p l (e - l) ≡ bound r
-  smallest-is-least l e r s = least-skip (r - l) l r e (omega (arith, s .low)) (s .first) ∙ least-hit r e (s .high) (s .holds)
+  smallest-is-least l e r s = least-skip (r - l) l r e (omega arith) (s .first) ∙ least-hit r e (s .high) (s .holds)
 
   pub none-is-least : (l e : ℕ) → ((j : ℕ) → l ≤ j → j < e → p j ≡ false) → least p l (e - l) ≡ none
   none-is-least l e f = ⊎-elim (λ h. least-skip (e - l) l e e (omega arith) f ∙ least-none e e (omega arith)) (λ h. least-none l e h) (lt-or-le l e)
@@ -66,7 +66,7 @@ module _ (p : ℕ → Bool) where
         → ((r : ℕ) × (Smallest l e r)) ⊎ ((j : ℕ) → l ≤ j → j < e → p j ≡ false)
     go true t f = inl (l, record { low = omega arith; high = omega arith; holds = t; first = λ j a b. absurd (omega arith) })
     go false t (inl (r, s)) =
-        inl (r, record { low = omega (arith, s .low); high = s .high; holds = s .holds; first = λ j a b. ⊎-elim (λ q. rw q at t) (λ q. s .first j q b) (eq-or-lt-of-le a) })
+        inl (r, record { low = omega arith; high = s .high; holds = s .holds; first = λ j a b. ⊎-elim (λ q. rw q at t) (λ q. s .first j q b) (eq-or-lt-of-le a) })
     go false t (inr f) = inr (λ j a b. ⊎-elim (λ q. rw q at t) (λ q. f j q b) (eq-or-lt-of-le a))
 
   module _ (l e : ℕ) where
@@ -91,7 +91,7 @@ least-same p s e (suc n) l = rw (e l, least-same p s e n (suc l))
 pub search-starts : (h : Sheet) (R : ℕ → Duration) (k : ℕ) (L : Duration) → Starts h R k L → least (passesAt passes h R k) (L .0) (rowAt h k .deadline + 1 - L .0) ≡ boundBy passes h R k
 unfolding boundBy
 search-starts h R k L s =
-    sym (least-skip (passesAt passes h R k) (L .0 - rowAt h k .budget) (rowAt h k .budget) (L .0) (rowAt h k .deadline + 1) (omega (arith, s .low)) (s .fails))
+    sym (least-skip (passesAt passes h R k) (L .0 - rowAt h k .budget) (rowAt h k .budget) (L .0) (rowAt h k .deadline + 1) (omega arith) (s .fails))
 
 module _ (h : Sheet) (R : ℕ → Duration) (k : ℕ) (row : Row) (er : row ≡ rowAt h k) where
   pub length-of-row : (L : Duration) → rowAt h k .budget ≤ L .0 → L .0 ≤ row .deadline → Length h k L
@@ -107,14 +107,14 @@ module _ (h : Sheet) (R : ℕ → Duration) (k : ℕ) (row : Row) (er : row ≡ 
     told-next (Next m u) n o s e = let z : m ≡ n = cc in rw z at s
 
     pub search-less : (n : Duration) → Skips h R k L n → L .0 ≤ row .deadline → rowAt h k .deadline + 1 - n .0 < rowAt h k .deadline + 1 - L .0
-    search-less n s b = omega (arith, rw er at b, s .further)
+    search-less n s b = omega (arith, rw er at b)
 
     module _ (i : least (passesAt passes h R k) (L .0) (rowAt h k .deadline + 1 - L .0) ≡ boundBy passes h R k) where
       pub search-found : (t : Tried) → Says h R k L t → t ≡ Passes → L .0 ≤ row .deadline → bound (L .0) ≡ boundBy passes h R k
       search-found t s e b = sym (least-hit (passesAt passes h R k) (L .0) (rowAt h k .deadline + 1) (omega (arith, rw er at b)) (told-passes t s e)) ∙ i
 
       pub search-more : (n : Duration) → Skips h R k L n → least (passesAt passes h R k) (n .0) (rowAt h k .deadline + 1 - n .0) ≡ boundBy passes h R k
-      search-more n w = sym (least-skip (passesAt passes h R k) (n .0 - L .0) (L .0) (n .0) (rowAt h k .deadline + 1) (omega (arith, w .further)) (w .fails)) ∙ i
+      search-more n w = sym (least-skip (passesAt passes h R k) (n .0 - L .0) (L .0) (n .0) (rowAt h k .deadline + 1) (omega arith) (w .fails)) ∙ i
 
       pub search-ends : row .deadline < L .0 → none ≡ boundBy passes h R k
       search-ends b = sym (least-none (passesAt passes h R k) (L .0) (rowAt h k .deadline + 1) (omega (arith, rw er at b))) ∙ i

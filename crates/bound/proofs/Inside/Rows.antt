@@ -93,7 +93,7 @@ unfolding resultCell
 rows-above l lent rs reached k n so-far fine room en b =
     record {
       held = λ i m. ap slots
-          (ap (λ (x : List ℕ). getD x (i * 2 + 1) 0) (so-far .put) ∙ second-read _ _ i k lent m (omega (arith, room, so-far-long (sheetIn l) lent rs reached k so-far))
+          (ap (λ (x : List ℕ). getD x (i * 2 + 1) 0) (so-far .put) ∙ second-read _ _ i k lent m (omega (arith, so-far-long (sheetIn l) lent rs reached k so-far))
           ∙ ap boundNumber (word-there passes (sheetIn l) i fine (omega arith)));
       all = so-far .all;
     }
@@ -133,8 +133,8 @@ module _ (h : Sheet) (l₀ l rs : List ℕ) (put : l ≡ filled (sheetCell h) l�
       go : (b : Bool) → legal h ≡ b → a ≡ boundsOf h
       go true f =
           let fine : legal (sheetIn l) ≡ true = ap legal list-is ∙ f in
-          ea ∙ ap byValue (e ∙ legal-is-put l zeros fine (omega (arith, legal-is (sheetIn l) fine .most-rows, zeros-long)))
-          ∙ ap (λ (ws : List Word). (accepted, holds passes (sheetIn l), ws)) (words-come-back (words (sheetIn l)) zeros (words-long (sheetIn l)) (omega (arith, zeros-long)))
+          ea ∙ ap byValue (e ∙ legal-is-put l zeros fine (omega (arith, legal-is (sheetIn l) fine .most-rows)))
+          ∙ ap (λ (ws : List Word). (accepted, holds passes (sheetIn l), ws)) (words-come-back (words (sheetIn l)) zeros (words-long (sheetIn l)) (omega arith))
           ∙ ap (λ (x : Sheet). (accepted, holds passes x, words x)) list-is ∙ sym (legal-answer passes h f)
       go false f =
           ea ∙ ap byValue (e ∙ not-legal-is-kept l zeros (ap legal list-is ∙ f)) ∙ ap (λ (ws : List Word). (refused 10 0, false, ws)) zeros-are-unreached ∙ sym (refused-by-10 passes h f)
