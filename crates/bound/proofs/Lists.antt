@@ -104,7 +104,7 @@ module _ (l b : List ℕ) where
       pub no-room-told : length b < n * 2 → (refused 15 0, (false, b)) ≡ boundsOn l b
       no-room-told r = sym (no-room-is-kept (sym ef ∙ legal-so) (rw en at r))
 
-      pub results-told : (t : Bool) (m d : List ℕ) → t ≡ holds passes (sheetIn l) → m ≡ upto (resultsLong n) (resultCell (words (sheetIn l))) b → d ≡ filled (clearedCell (n * 2) m) m → n * 2 ≤ length b
+      pub results-told : (t : Bool) (m d : List ℕ) → t ≡ holds passes (sheetIn l) → m ≡ upto (n * 2) (resultCell (words (sheetIn l))) b → d ≡ filled (clearedCell (n * 2) m) m → n * 2 ≤ length b
           → (accepted, (t, d)) ≡ boundsOn l b
       results-told t m d et em ed r =
           let e : d ≡ filled (resultCell (words (sheetIn l))) b = ed ∙ cleared-is-filled (resultCell (words (sheetIn l))) (n * 2) b m em r (λ i g. result-cell-past (sheetIn l) i (rw en at g)) in

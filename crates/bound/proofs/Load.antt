@@ -39,5 +39,5 @@ module _ (h : Sheet) (R : ℕ → Duration) (k : ℕ) (r : Ready h R k) (Q l : �
   pub load-reaches-q : 1 ≤ Q → q h k * Q ≤ sum k (load h k Q) → passes h R k (slots l) ≡ false
   unfolding amounts
   load-reaches-q some full =
-      fails-where h R k (slots l)
-      (le-of-mul-le-mul-right {k = Q} (omega (arith, sum-weighed k (X h k (slots l) .0) Q (load h k Q) (λ i. amountOf h R k (slots l) i .0) amount-loaded, mul-le-mul-left (X h k (slots l) .0) full)) some)
+      let loads = sum-weighed k (X h k (slots l) .0) Q (load h k Q) (λ i. amountOf h R k (slots l) i .0) amount-loaded in
+      fails-where h R k (slots l) (le-of-mul-le-mul-right {k = Q} (omega (arith, mul-le-mul-left (X h k (slots l) .0) full)) some)

@@ -12,7 +12,7 @@ use Rattle.bound.specs.Bound.{Word, bound, none, unreached, isBound, val
 use Rattle.bound.specs.declared.quantity.Duration.{Duration}
 use Rattle.bound.proofs.Inside.Lengths.{never, Smallest, least-hit, least-found, smallest-is-least, none-holds, none-is-least, least-never-unreached}
 use Rattle.bound.proofs.Amounts.{q-some, X-some, room-by-q}
-use Rattle.bound.proofs.Inside.Judging.{Local, reached-result, unreached-result}
+use Rattle.bound.proofs.Inside.Judging.{Local, result-where}
 
 -- every row above row k has a bound
 abbrev pub Reached : Test → Sheet → ℕ → Type 0
@@ -35,8 +35,8 @@ module _ (test : Test) (loc : Local test) (h : Sheet) (k : ℕ) where
       → (Reached test h k → resultOf test h k ≡ boundBy test h (bounds (resultOf test h)) k → A) → A
   by-reached {A} f g = go (allOf k (bounded (resultOf test h))) refl where
     go : (b : Bool) → allOf k (bounded (resultOf test h)) ≡ b → A
-    go true e = g e (reached-result test loc h k e)
-    go false e = f e (unreached-result test loc h k e)
+    go true e = g e (result-where test loc h k true e)
+    go false e = f e (result-where test loc h k false e)
 
   -- a bound: the smallest length that passes, of a row that is reached
   pub bound-is-smallest : (r : ℕ) → resultOf test h k ≡ bound r → Reached test h k × SmallestLength test h k r
@@ -45,7 +45,7 @@ module _ (test : Test) (loc : Local test) (h : Sheet) (k : ℕ) where
 
   pub smallest-is-bound : (r : ℕ) → Reached test h k → SmallestLength test h k r → resultOf test h k ≡ bound r
   unfolding boundBy
-  smallest-is-bound r y s = reached-result test loc h k y ∙ smallest-is-least (passing test h k) (rowAt h k .budget) (rowAt h k .deadline + 1) r s
+  smallest-is-bound r y s = result-where test loc h k true y ∙ smallest-is-least (passing test h k) (rowAt h k .budget) (rowAt h k .deadline + 1) r s
 
   -- none: no length passes, of a row that is reached
   pub none-means-no-length-passes : resultOf test h k ≡ none → Reached test h k × NoLength test h k
@@ -55,17 +55,17 @@ module _ (test : Test) (loc : Local test) (h : Sheet) (k : ℕ) where
 
   pub no-length-passes-means-none : Reached test h k → NoLength test h k → resultOf test h k ≡ none
   unfolding boundBy
-  no-length-passes-means-none y f = reached-result test loc h k y ∙ none-is-least (passing test h k) (rowAt h k .budget) (rowAt h k .deadline + 1) (λ j a b. f j a (omega arith))
+  no-length-passes-means-none y f = result-where test loc h k true y ∙ none-is-least (passing test h k) (rowAt h k .budget) (rowAt h k .deadline + 1) (λ j a b. f j a (omega arith))
 
   -- a row that is reached has a bound or none
   pub reached-is-not-unreached : Reached test h k → resultOf test h k ≡ unreached → ⊥
   unfolding boundBy
-  reached-is-not-unreached y e = least-never-unreached (passing test h k) (rowAt h k .budget) (rowAt h k .deadline + 1) (sym (reached-result test loc h k y) ∙ e)
+  reached-is-not-unreached y e = least-never-unreached (passing test h k) (rowAt h k .budget) (rowAt h k .deadline + 1) (sym (result-where test loc h k true y) ∙ e)
 
 module _ (test : Test) (loc : Local test) (h : Sheet) where
   -- not reached: after a row with none
   pub unreached-after-none : (i k : ℕ) → i < k → resultOf test h i ≡ none → resultOf test h k ≡ unreached
-  unreached-after-none i k l e = unreached-result test loc h k (all-fails k (bounded (resultOf test h)) i l (ap isBound e))
+  unreached-after-none i k l e = result-where test loc h k false (all-fails k (bounded (resultOf test h)) i l (ap isBound e))
 
   some-none : (k : ℕ) → allOf k (bounded (resultOf test h)) ≡ false → (i : ℕ) × (i < k) × (resultOf test h i ≡ none)
   unfolding allOf

@@ -79,17 +79,14 @@ module _ (test : Test) (loc : Local test) where
   result-is h k = judge-agrees h h (resultsTo test h k) (resultOf test h) k (agree-self h (suc k)) (result-to h k)
 
   module _ (h : Sheet) (k : ℕ) where
-    pub reached-result : allOf k (bounded (resultOf test h)) ≡ true → resultOf test h k ≡ boundBy test h (bounds (resultOf test h)) k
+    -- where each row above has a bound, and where one has none
+    pub result-where : (b : Bool) → allOf k (bounded (resultOf test h)) ≡ b → resultOf test h k ≡ pick b (boundBy test h (bounds (resultOf test h)) k) unreached
     unfolding judge
-    reached-result e = result-is h k ∙ ap (λ (b : Bool). pick b (boundBy test h (bounds (resultOf test h)) k) unreached) e
-
-    pub unreached-result : allOf k (bounded (resultOf test h)) ≡ false → resultOf test h k ≡ unreached
-    unfolding judge
-    unreached-result e = result-is h k ∙ ap (λ (b : Bool). pick b (boundBy test h (bounds (resultOf test h)) k) unreached) e
+    result-where b e = result-is h k ∙ rw e
 
     -- a row has a bound exactly where it is reached and has one
     pub bound-all : isBound (resultOf test h k) ≡ allOf (k + 1) (bounded (resultOf test h))
     bound-all = go (allOf k (bounded (resultOf test h))) refl ∙ sym (all-one-more k (bounded (resultOf test h))) where
       go : (b : Bool) → allOf k (bounded (resultOf test h)) ≡ b → isBound (resultOf test h k) ≡ both (allOf k (bounded (resultOf test h))) (isBound (resultOf test h k))
       go true t = rw t
-      go false t = rw t (ap isBound (unreached-result t))
+      go false t = rw t (ap isBound (result-where false t))

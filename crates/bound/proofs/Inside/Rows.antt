@@ -1,6 +1,6 @@
 -- The loop over the rows: what a row is judged by, what stands in the list of results, and the answer by value.
 -- Assumes nothing.
-use Rattle.basis.specs.Prelude.{ℕ, suc, _+_, _*_, _≤_, _<_, _≡_, refl, sym, ap, _∙_, Bool, true, false, List, map, arith, length, getD, set, replicate, length-replicate}
+use Rattle.basis.specs.Prelude.{ℕ, suc, _+_, _*_, _≤_, _<_, _≡_, refl, sym, ap, _∙_, Bool, true, false, List, map, arith, length, getD, set, replicate}
 use Rattle.basis.specs.Limits.{mostRows}
 use Rattle.basis.specs.Words.{allOf}
 use Rattle.basis.specs.Upto.{upto}
@@ -23,7 +23,7 @@ use Rattle.bound.specs.Inside.Ready.{heldIn, Lent, RowsAbove, SoFar, Rea
 use Rattle.bound.specs.declared.results.Judged.{Judged}
 use Rattle.bound.specs.declared.results.Result.{Result}
 use Rattle.bound.proofs.Durations.{number}
-use Rattle.bound.proofs.Inside.Judging.{passes-local, bound-agrees, agree-self, reached-result, unreached-result, bound-all}
+use Rattle.bound.proofs.Inside.Judging.{passes-local, bound-agrees, agree-self, result-where, bound-all}
 use Rattle.bound.proofs.Meaning.{bound-in-range, bound-is-first}
 use Rattle.bound.proofs.Answers.{legal-answer, refused-by-10}
 use Rattle.bound.proofs.Lists.{word-there, words-long, length-put, words-come-back, zeros-are-unreached, legal-is-put, not-legal-is-kept}
@@ -50,10 +50,10 @@ module _ (h : Sheet) (rs : List ℕ) (k : ℕ) (reached : Bool) (above : RowsAbo
     pub judged-reached : (r : Result) → word r ≡ boundBy passes h (heldIn rs) k → word r ≡ resultOf passes h k
     judged-reached r e =
         e ∙ bound-agrees passes passes-local h h (heldIn rs) (bounds (resultOf passes h)) k (agree-self h (suc k)) (above .held)
-        ∙ sym (reached-result passes passes-local h k (sym (above .all) ∙ yes))
+        ∙ sym (result-where passes passes-local h k true (sym (above .all) ∙ yes))
 
   pub judged-unreached : reached ≡ false → unreached ≡ resultOf passes h k
-  judged-unreached not-yet = sym (unreached-result passes passes-local h k (sym (above .all) ∙ not-yet))
+  judged-unreached not-yet = sym (result-where passes passes-local h k false (sym (above .all) ∙ not-yet))
 
 -- ---- the loop
 
@@ -88,12 +88,12 @@ module _ (h : Sheet) (lent rs : List ℕ) (reached : Bool) (k : ℕ) (so-far : S
     results-put = let e : k ≡ n = omega arith in rw e at (so-far .put)
 
 -- what stands in the list of the rows above
-pub rows-above : (l lent rs : List ℕ) (reached : Bool) (k n : ℕ) → SoFar (sheetIn l) lent rs reached k → Legal (sheetIn l) → Lent l rs → n ≡ sheetIn l .count → k < n → RowsAbove (sheetIn l) rs reached k
+pub rows-above : (l lent rs : List ℕ) (t : Bool) (k n : ℕ) → SoFar (sheetIn l) lent rs t k → Legal (sheetIn l) → Lent l rs → n ≡ sheetIn l .count → k < n → RowsAbove (sheetIn l) rs t k
 unfolding resultCell
-rows-above l lent rs reached k n so-far fine room en b =
+rows-above l lent rs t k n so-far fine room en b =
     record {
       held = λ i m. ap slots
-          (ap (λ (x : List ℕ). getD x (i * 2 + 1) 0) (so-far .put) ∙ second-read _ _ i k lent m (omega (arith, so-far-long (sheetIn l) lent rs reached k so-far))
+          (ap (λ (x : List ℕ). getD x (i * 2 + 1) 0) (so-far .put) ∙ second-read _ _ i k lent m (omega (arith, so-far-long (sheetIn l) lent rs t k so-far))
           ∙ ap boundNumber (word-there passes (sheetIn l) i fine (omega arith)));
       all = so-far .all;
     }
@@ -105,12 +105,12 @@ still-lent l b m k w e lent = record { sheet-long = lent .sheet-long; results-lo
 -- ---- by value
 
 -- `results_of`
-pub rows-more : (l : List ℕ) (i : ℕ) (js : List Judged) (j : Judged) → map wordIn js ≡ upto i (wordAt l) allUnreached → wordIn j ≡ wordAt l i → map wordIn (set js i j) ≡ upto (i + 1) (wordAt l) allUnreached
-rows-more l i js j e ej = map-set wordIn js i j ∙ upto-set i (wordAt l) (map wordIn js) allUnreached (wordIn j) e ej
+module _ (l : List ℕ) (i : ℕ) (js : List Judged) (e : map wordIn js ≡ upto i (wordAt l) allUnreached) where
+  pub rows-more : (j : Judged) → wordIn j ≡ wordAt l i → map wordIn (set js i j) ≡ upto (i + 1) (wordAt l) allUnreached
+  rows-more j ej = map-set wordIn js i j ∙ upto-set i (wordAt l) (map wordIn js) allUnreached (wordIn j) e ej
 
-pub rows-done : (l : List ℕ) (i : ℕ) (js : List Judged) (o : Outcome) (t : Bool) → map wordIn js ≡ upto i (wordAt l) allUnreached → i ≤ mostRows → mostRows ≤ i
-    → _≡_ {A = Answer} (o, t, map wordIn js) (o, t, upto mostRows (wordAt l) allUnreached)
-rows-done l i js o t e a b = let f : i ≡ mostRows = omega arith in ap (λ (ws : List Word). (o, t, ws)) (rw f at e)
+  pub rows-done : (o : Outcome) (t : Bool) → i ≤ mostRows → mostRows ≤ i → _≡_ {A = Answer} (o, t, map wordIn js) (o, t, upto mostRows (wordAt l) allUnreached)
+  rows-done o t a b = let f : i ≡ mostRows = omega arith in ap (λ (ws : List Word). (o, t, ws)) (rw f at e)
 
 -- `bounds`: the sheet comes back from the list that it is put into, and its results from theirs
 module _ (h : Sheet) (l₀ l rs : List ℕ) (put : l ≡ filled (sheetCell h) l₀) (long : sheetLong mostRows ≤ length l₀) (rows : length (h .rows) ≡ mostRows) where
@@ -119,9 +119,6 @@ module _ (h : Sheet) (l₀ l rs : List ℕ) (put : l ≡ filled (sheetCell h) l�
 
   abbrev zeros : List ℕ
   zeros = replicate (resultsLong mostRows) 0
-
-  zeros-long : length zeros ≡ resultsLong mostRows
-  zeros-long = length-replicate {A = ℕ} (resultsLong mostRows) 0
 
   -- what stands in a list of results, by value
   abbrev byValue : Outcome × (Bool × List ℕ) → Answer
