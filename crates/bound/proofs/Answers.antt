@@ -1,25 +1,26 @@
 -- Laws of the answers: a word stands for one result of the code, two answers that a promise allows are equal, and what a refusal says.
 -- Assumes nothing.
-use Rattle.basis.specs.Prelude.{ℕ, suc, _≤_, _<_, _≡_, refl, sym, ap, ap₂, _∙_, Bool, true, false, List, arith, length, getD, length-replicate}
+use Rattle.basis.specs.Prelude.{ℕ, suc, _≤_, _<_, _≡_, refl, sym, ap, _∙_, Bool, true, false, List, arith, length, getD}
 use Rattle.basis.specs.Limits.{mostRows}
+use Rattle.basis.specs.Upto.{upto}
 use Rattle.basis.specs.Refusals.{Outcome, accepted, refused, outcome, orElse, roomFor, handed}
-use Rattle.basis.specs.declared.refusal.Refusal.{Refusal}
-use Rattle.basis.proofs.Refusals.{outcome-one-to-one}
-use Rattle.basis.proofs.Inside.Upto.{upto-below, upto-past}
+use Rattle.basis.proofs.Refusals.{outcome-one-to-one, handed-found}
 use Rattle.sheet.specs.Legal.{legal}
 use Rattle.sheet.specs.Lists.{filled, sheetIn}
 use Rattle.sheet.specs.declared.row.Sheet.{Sheet}
 use Rattle.sheet.proofs.Legality.{legal-is}
 use Rattle.bound.specs.Test.{Test, passes}
-use Rattle.bound.specs.Bound.{Word, bound, none, unreached, word, wordIn, resultOf, allUnreached, holds, Answer, answer, judged, notLegal, boundsBy, boundsOf}
+use Rattle.bound.specs.Bound.{Word, bound, none, unreached, word, wordIn, resultOf, allUnreached, holds, Answer, answer, notLegal, boundsBy, boundsOf}
 use Rattle.bound.specs.Lists.{resultsLong, resultCell, resultsOn, boundsOn}
 use Rattle.bound.specs.declared.results.Result.{Result}
 use Rattle.bound.specs.declared.results.Result.the-variants.{Unreached, Bound, NoBound}
-use Rattle.bound.specs.declared.results.Judged.{Judged}
 use Rattle.bound.specs.declared.results.Results.{Results}
 use Rattle.bound.specs.declared.results.Judgement.{Judgement}
+use Rattle.basis.proofs.Same.{same-by, outcome-same}
 use Rattle.basis.proofs.Inside.Lists.{map-one-to-one, getD-all}
+use Rattle.bound.proofs.Inside.Lengths.{never}
 use Rattle.bound.proofs.Inside.Judging.{Agree, passes-local, result-agrees}
+use Rattle.bound.proofs.Lists.{word-there, word-past}
 
 -- ---- one word, one result
 
@@ -43,22 +44,23 @@ answer-one-to-one a b e =
     let refusal : a .refusal ≡ b .refusal = outcome-one-to-one (a .refusal) (b .refusal) (ap (λ (x : Answer). x .0) e) in
     let rows : a .rows ≡ b .rows =
     map-one-to-one wordIn (λ i j f. ap (λ (r : Result). record { result = r }) (word-one-to-one (i .result) (j .result) f)) (a .rows) (b .rows) (ap (λ (x : Answer). x .2) e) in
-    ap (λ (x : Refusal). record { refusal = x; holds = a .holds; rows = a .rows }) refusal
-    ∙ ap₂ (λ (h : Bool) (rs : List Judged). record { refusal = b .refusal; holds = h; rows = rs }) (ap (λ (x : Answer). x .1) e) rows
+    λ i. record { refusal = refusal i; holds = e i .1; rows = rows i }
 
 -- ---- two answers that a promise allows are equal
 
 -- `bounds`
 pub bounds-same : (h : Sheet) (a b : Results) → answer a ≡ boundsOf h → answer b ≡ boundsOf h → a ≡ b
-bounds-same h a b e f = answer-one-to-one a b (e ∙ sym f)
+bounds-same h = same-by answer answer-one-to-one (boundsOf h)
+
+-- a judgement, and what is lent beside it
+pub judgement-same : {A : Type 0} (x : Outcome × (Bool × A)) (r s : Judgement) (m d : A) → (outcome (r .refusal), (r .holds, m)) ≡ x → (outcome (s .refusal), (s .holds, d)) ≡ x → (r ≡ s) × (m ≡ d)
+judgement-same x r s m d e f =
+    let (refusal, rest) = outcome-same x (r .refusal) (s .refusal) (r .holds, m) (s .holds, d) e f in
+    ((λ i. record { refusal = refusal i; holds = rest i .0 }), λ i. rest i .1)
 
 -- `bounds_on`: the judgement, and the list after it
 pub bounds-on-same : (l b : List ℕ) (r s : Judgement) (m d : List ℕ) → (outcome (r .refusal), (r .holds, m)) ≡ boundsOn l b → (outcome (s .refusal), (s .holds, d)) ≡ boundsOn l b → (r ≡ s) × (m ≡ d)
-bounds-on-same l b r s m d e f =
-    let g = e ∙ sym f in
-    let refusal : r .refusal ≡ s .refusal = outcome-one-to-one (r .refusal) (s .refusal) (ap (λ (x : Outcome × (Bool × List ℕ)). x .0) g) in
-    let holds : r .holds ≡ s .holds = ap (λ (x : Outcome × (Bool × List ℕ)). x .1 .0) g in
-    (ap₂ (λ (x : Refusal) (t : Bool). record { refusal = x; holds = t }) refusal holds, ap (λ (x : Outcome × (Bool × List ℕ)). x .1 .1) g)
+bounds-on-same l b = judgement-same (boundsOn l b)
 
 -- ---- what an answer tells of a row
 
@@ -67,9 +69,10 @@ abbrev pub told : Answer → ℕ → Word
 told a i = getD (a .2) i unreached
 
 module _ (test : Test) (h : Sheet) where
-  pub legal-is-judged : legal h ≡ true → boundsBy test h ≡ judged test h
+  -- the answer to a legal sheet
+  pub legal-answer : legal h ≡ true → boundsBy test h ≡ (accepted, holds test h, upto (h .count) (resultOf test h) allUnreached)
   unfolding boundsBy
-  legal-is-judged e = rw e
+  legal-answer e = rw e
 
   -- a sheet that is not legal is refused by 10 at place 0, does not hold, and reaches no row
   pub refused-by-10 : legal h ≡ false → boundsBy test h ≡ notLegal
@@ -78,24 +81,18 @@ module _ (test : Test) (h : Sheet) where
 
   -- any refusal is that one
   pub only-refused-by-10 : (n p : ℕ) → boundsBy test h .0 ≡ refused n p → boundsBy test h ≡ notLegal
-  unfolding judged
   only-refused-by-10 n p e = go (legal h) refl where
     go : (b : Bool) → legal h ≡ b → boundsBy test h ≡ notLegal
     go false t = refused-by-10 t
-    go true t = absurd (let f : accepted ≡ refused n p = sym (ap (λ (x : Answer). x .0) (legal-is-judged t)) ∙ e in let z : _≡_ {A = ℕ} 0 1 = cc in omega arith)
+    go true t = let f : accepted ≡ refused n p = sym (ap (λ (x : Answer). x .0) (legal-answer t)) ∙ e in never (cc)
 
   -- in a legal sheet a row's place has its result
   pub told-is : legal h ≡ true → (i : ℕ) → i < h .count → told (boundsBy test h) i ≡ resultOf test h i
-  unfolding judged
-  told-is e i l =
-      ap (λ (x : Answer). told x i) (legal-is-judged e)
-      ∙ upto-below (h .count) (resultOf test h) allUnreached unreached i l (omega (arith, legal-is h e .most-rows, length-replicate mostRows unreached))
+  told-is e i l = ap (λ (x : Answer). told x i) (legal-answer e) ∙ word-there test h i (legal-is h e) l
 
   -- and past the rows, or beside a refusal, no place is reached
   pub past-is-unreached : legal h ≡ true → (i : ℕ) → h .count ≤ i → told (boundsBy test h) i ≡ unreached
-  unfolding judged
-  past-is-unreached e i l =
-      ap (λ (x : Answer). told x i) (legal-is-judged e) ∙ upto-past (h .count) (resultOf test h) allUnreached unreached i l ∙ getD-all mostRows i unreached
+  past-is-unreached e i l = ap (λ (x : Answer). told x i) (legal-answer e) ∙ word-past test h i l
 
   pub refused-is-unreached : legal h ≡ false → (i : ℕ) → told (boundsBy test h) i ≡ unreached
   refused-is-unreached e i = ap (λ (x : Answer). told x i) (refused-by-10 e) ∙ getD-all mostRows i unreached
@@ -103,15 +100,9 @@ module _ (test : Test) (h : Sheet) where
 -- two legal sheets that agree in m and rows 0 to k have equal results for rows 0 to k
 pub rows-above-decide : (h s : Sheet) (k : ℕ) → legal h ≡ true → legal s ≡ true → k < h .count → k < s .count → Agree h s (suc k)
     → (i : ℕ) → i ≤ k → told (boundsOf h) i ≡ told (boundsOf s) i
-rows-above-decide h s k eh es lh ls a i l =
-    told-is passes h eh i (omega arith) ∙ result-agrees passes passes-local h s k a i l ∙ sym (told-is passes s es i (omega arith))
+rows-above-decide h s k eh es lh ls a i l = told-is passes h eh i (omega arith) ∙ result-agrees passes passes-local h s k a i l ∙ sym (told-is passes s es i (omega arith))
 
 -- ---- the answer in a list is the answer by value
-
--- a refusal hands over what was found
-found-is-handed : {A : Type 0} (o : Outcome) (done found : A) (n p : ℕ) → handed o done found .0 ≡ refused n p → handed o done found ≡ (refused n p, found)
-found-is-handed accepted done found n p e = absurd (let z : _≡_ {A = ℕ} 0 1 = cc in omega arith)
-found-is-handed {A} (refused k q) done found n p e = ap (λ (o : Outcome). (o, found)) e
 
 module _ (l b : List ℕ) where
   -- its refusal first, then the room; whether the sheet holds, and each row's result
@@ -122,7 +113,5 @@ module _ (l b : List ℕ) where
 
   -- any refusal leaves the list as it was, and the sheet does not hold
   pub refused-list-is-kept : (n p : ℕ) → boundsOn l b .0 ≡ refused n p → boundsOn l b ≡ (refused n p, (false, b))
-  refused-list-is-kept n p e =
-      put-is-the-answer
-      ∙ found-is-handed (orElse (boundsOf (sheetIn l) .0) (roomFor (resultsLong (sheetIn l .count)) (length b))) (boundsOf (sheetIn l) .1, filled (resultCell (boundsOf (sheetIn l) .2)) b) (false, b) n p
-      (sym (ap (λ (x : Outcome × (Bool × List ℕ)). x .0) put-is-the-answer) ∙ e)
+  unfolding boundsOn resultsOn
+  refused-list-is-kept n p e = λ i. (e i, handed-found _ (false, b) (orElse (boundsOf (sheetIn l) .0) (roomFor (resultsLong (sheetIn l .count)) (length b))) n p e i)

@@ -1,17 +1,16 @@
 -- Bytes read and judged: what is known at each step, and each way out.
 -- Assumes nothing.
-use Rattle.basis.specs.Prelude.{ℕ, _+_, _*_, _≤_, _<_, _≡_, refl, sym, ap, ap₂, _∙_, Bool, true, false, List, arith, length, take, length-take-le, lt-leb, le-leb, w64, Fits}
+use Rattle.basis.specs.Prelude.{ℕ, _+_, _*_, _≤_, _<_, _≡_, refl, sym, ap, _∙_, Bool, true, false, List, arith, length, take, length-take-le, lt-leb, le-leb, w64, Fits}
 use Rattle.basis.specs.Limits.{mostRows}
 use Rattle.basis.specs.Upto.{upto}
 use Rattle.basis.specs.Refusals.{Outcome, accepted, refused, outcome, orElse, roomFor}
 use Rattle.basis.specs.declared.refusal.Refusal.{Refusal}
 use Rattle.basis.specs.declared.refusal.Refusal.the-variants.{Accepted, Refused}
 use Rattle.basis.proofs.Inside.FirstRefusal.{both-accepted}
-use Rattle.basis.proofs.Refusals.{outcome-one-to-one, room-holds, handed-found, handed-done, handed-outcome}
+use Rattle.basis.proofs.Refusals.{room-holds, handed-found, handed-done, handed-outcome}
 use Rattle.basis.proofs.Inside.Upto.{length-upto}
 use Rattle.sheet.specs.Legal.{legal}
 use Rattle.sheet.specs.Lists.{sheetIn, sheetLong}
-use Rattle.sheet.specs.declared.row.Sheet.{Sheet}
 use Rattle.sheet.proofs.Legality.{legal-is}
 use Rattle.reader.specs.Answers.{reading, labelIn}
 use Rattle.reader.specs.Lists.{labelsLong, readInto}
@@ -20,14 +19,10 @@ use Rattle.reader.proofs.LentLists.{list-kept, labels-kept, list-has-room, labe
 use Rattle.reader.proofs.Inside.ZeroLists.{lists}
 use Rattle.bound.specs.declared.results.Judgement.{Judgement}
 use Rattle.bound.specs.Test.{passes}
-use Rattle.bound.specs.Bound.{Answer, resultOf, holds, judged, boundsBy, boundsOf}
+use Rattle.bound.specs.Bound.{Answer, resultOf, holds, boundsOf}
 use Rattle.bound.specs.Lists.{resultsLong, resultCell, words, wordAt, judgedBytes}
+use Rattle.bound.proofs.Answers.{legal-answer, judgement-same}
 use Rattle.bound.proofs.Lists.{word-there, word-comes-back}
-
--- the answer to a legal sheet
-pub legal-answer : (h : Sheet) → legal h ≡ true → boundsOf h ≡ (accepted, holds passes h, words h)
-unfolding boundsBy judged
-legal-answer h e = rw e
 
 -- what `judge_bytes` answers
 abbrev pub Found : Type 0
@@ -47,108 +42,100 @@ module _ (s list labels results : List ℕ) where
     pub not-read : (k p : ℕ) → a ≡ Refused k p → found (refused k p) false l b results ≡ judgedBytes s list labels results
     unfolding judgedBytes
     not-read k p q =
-        let read : readInto s list labels ≡ lists (refused k p) l b = sym e ∙ ap (λ (x : Refusal). lists (outcome x) l b) q in
-        simp (le-leb (length labels) (length results) r, read)
-        (ap₂ (λ (x y : List ℕ). found (refused k p) false x y results) (list-kept s list labels (outcome a) l b e k p (ap outcome q)) (labels-kept s list labels (outcome a) l b e k p (ap outcome q)))
+        let read : lists (refused k p) l b ≡ readInto s list labels = rw q at e in
+        simp (le-leb (length labels) (length results) r, ← read)
+        (λ i. found (refused k p) false (list-kept s list labels (refused k p) l b read k p refl i) (labels-kept s list labels (refused k p) l b read k p refl i) results)
 
     -- it accepts
     module _ (q : a ≡ Accepted) (n : ℕ) (en : n ≡ sheetIn l .count) where
-      accepts : outcome a ≡ accepted
-      accepts = ap outcome q
+      read : lists accepted l b ≡ readInto s list labels
+      read = rw q at e
+
+      sheet-legal : legal (reading s .1) ≡ true
+      sheet-legal = sheet-is-legal s list labels accepted l b read refl
 
       rows-are : n ≡ reading s .1 .count
-      rows-are = en ∙ count-read s list labels (outcome a) l b e accepts
-
-      few : n ≤ mostRows
-      few = omega (arith, rows-are, legal-is (reading s .1) (sheet-is-legal s list labels (outcome a) l b e accepts) .most-rows)
+      rows-are = en ∙ count-read s list labels accepted l b read refl
 
       pub rows-fit : Fits w64 (n * 4)
-      rows-fit = record { fits = omega (arith, few) }
+      rows-fit = record { fits = omega (arith, rows-are, legal-is (reading s .1) sheet-legal .most-rows) }
 
       pub end-fits : Fits w64 (n * 4 + 2)
-      end-fits = record { fits = omega (arith, few) }
+      end-fits = record { fits = omega (arith, rows-are, legal-is (reading s .1) sheet-legal .most-rows) }
 
       pub end-inside : n * 4 + 2 ≤ length l
-      end-inside = omega (arith, rows-are, list-has-room s list labels (outcome a) l b e accepts, list-as-long s list labels (outcome a) l b e accepts)
+      end-inside = omega (arith, rows-are, list-has-room s list labels accepted l b read refl, list-as-long s list labels accepted l b read refl)
 
       pub front-long : n * 4 + 2 ≡ length (take (n * 4 + 2) l)
       front-long = sym (length-take-le (n * 4 + 2) l end-inside)
 
       front : sheetIn (take (n * 4 + 2) l) ≡ reading s .1
-      front = ap (λ (k : ℕ). sheetIn (take (sheetLong k) l)) rows-are ∙ front-hands-over s list labels (outcome a) l b e accepts
+      front = ap (λ (k : ℕ). sheetIn (take (sheetLong k) l)) rows-are ∙ front-hands-over s list labels accepted l b read refl
 
       pub front-count : n ≡ sheetIn (take (n * 4 + 2) l) .count
-      front-count = rows-are ∙ sym (ap (λ (h : Sheet). h .count) front)
+      front-count = rw front rows-are
 
       pub front-legal : legal (sheetIn (take (n * 4 + 2) l)) ≡ true
-      front-legal = ap legal front ∙ sheet-is-legal s list labels (outcome a) l b e accepts
+      front-legal = rw front sheet-legal
 
       pub results-fit : resultsLong n ≤ length results
-      results-fit = omega (arith, rows-are, labels-have-room s list labels (outcome a) l b e accepts)
+      results-fit = omega (arith, rows-are, labels-have-room s list labels accepted l b read refl)
 
       pub read-and-judged : (h : Bool) (rs : List ℕ) → h ≡ holds passes (sheetIn (take (n * 4 + 2) l)) → rs ≡ upto (resultsLong n) (resultCell (words (sheetIn (take (n * 4 + 2) l)))) results
           → found accepted h l b rs ≡ judgedBytes s list labels results
       unfolding judgedBytes
-      read-and-judged h rs eh er =
-          let read : readInto s list labels ≡ lists accepted l b = sym e ∙ ap (λ (x : Refusal). lists (outcome x) l b) q in
-          let answer = legal-answer (reading s .1) (sheet-is-legal s list labels (outcome a) l b e accepts) in
-          let holds-is : h ≡ boundsOf (reading s .1) .1 = eh ∙ ap (holds passes) front ∙ sym (ap (λ (x : Answer). x .1) answer) in
-          let words-are : words (sheetIn (take (n * 4 + 2) l)) ≡ boundsOf (reading s .1) .2 = ap words front ∙ sym (ap (λ (x : Answer). x .2) answer) in
-          let results-are : rs ≡ upto (resultsLong (reading s .1 .count)) (resultCell (boundsOf (reading s .1) .2)) results =
-          er ∙ ap₂ (λ (k : ℕ) (ws : List _). upto (resultsLong k) (resultCell ws) results) rows-are words-are in
-          simp (le-leb (length labels) (length results) r, read) (ap₂ (λ (x : Bool) (y : List ℕ). found accepted x l b y) holds-is results-are)
+      read-and-judged h rs eh er = simp (le-leb (length labels) (length results) r, ← read, legal-answer passes (reading s .1) sheet-legal) (rw (eh, er, front, rows-are))
 
 -- what is known after it
 module _ (s list labels results : List ℕ) (o : Outcome) (h : Bool) (l b rs : List ℕ) (e : found o h l b rs ≡ judgedBytes s list labels results) where
+  -- what is refused first: the room for results, then what reading says
+  abbrev first : Outcome
+  first = orElse (roomFor (length labels) (length results)) (readInto s list labels .0)
+
   -- where there is room the outcome is the reader's
   pub judged-outcome : sheetLong (reading s .1 .count) ≤ length list → labelsLong (reading s .1 .count) ≤ length labels → length labels ≤ length results → o ≡ reading s .0
   unfolding judgedBytes
-  judged-outcome r q t =
-      ap (λ (x : Found). x .0) e ∙ handed-outcome _ _ (orElse (roomFor (length labels) (length results)) (readInto s list labels .0))
-      ∙ simp (le-leb (length labels) (length results) t) (outcome-is-the-readers s list labels r q)
+  judged-outcome r q t = ap (λ (x : Found). x .0) e ∙ handed-outcome _ _ first ∙ simp (le-leb (length labels) (length results) t) (outcome-is-the-readers s list labels r q)
 
   -- and beside a refusal the sheet does not hold
   pub judged-refused : (k p : ℕ) → o ≡ refused k p → h ≡ false
   unfolding judgedBytes
   judged-refused k p q =
-      ap (λ (x : Found). x .1 .0) e
-      ∙ ap (λ (x : Bool × (List ℕ × (List ℕ × List ℕ))). x .0)
-      (handed-found _ (false, (list, (labels, results))) (orElse (roomFor (length labels) (length results)) (readInto s list labels .0)) k p (sym (ap (λ (x : Found). x .0) e) ∙ q))
+      let kept = handed-found _ (false, (list, (labels, results))) first k p (sym (ap (λ (x : Found). x .0) e) ∙ q) in
+      (λ i. e i .1 .0) ∙ λ i. kept i .0
 
   module _ (q : o ≡ accepted) where
-    accepting : (orElse (roomFor (length labels) (length results)) (readInto s list labels .0) ≡ accepted)
-        × (found o h l b rs
-        ≡ found o (boundsOf (reading s .1) .1) (readInto s list labels .1 .0) (readInto s list labels .1 .1) (upto (resultsLong (reading s .1 .count)) (resultCell (boundsOf (reading s .1) .2)) results))
+    accepting : (first ≡ accepted)
+        × (_≡_ {A = Bool × (List ℕ × (List ℕ × List ℕ))} (h, (l, (b, rs)))
+        (boundsOf (reading s .1) .1, (readInto s list labels .1 .0, (readInto s list labels .1 .1, upto (resultsLong (reading s .1 .count)) (resultCell (boundsOf (reading s .1) .2)) results))))
     unfolding judgedBytes
     accepting =
-        let (a, d) = handed-done _ (false, (list, (labels, results))) (orElse (roomFor (length labels) (length results)) (readInto s list labels .0)) (sym (ap (λ (x : Found). x .0) e) ∙ q) in
-        (a, ap (λ (x : Bool × (List ℕ × (List ℕ × List ℕ))). (o, x)) (ap (λ (x : Found). x .1) e ∙ d))
+        let (a, d) = handed-done _ (false, (list, (labels, results))) first (sym (ap (λ (x : Found). x .0) e) ∙ q) in
+        (a, ap (λ (x : Found). x .1) e ∙ d)
+
+    both-so : (roomFor (length labels) (length results) ≡ accepted) × (readInto s list labels .0 ≡ accepted)
+    both-so = both-accepted (roomFor (length labels) (length results)) (readInto s list labels .0) (accepting .0)
 
     read-so : lists accepted l b ≡ readInto s list labels
-    read-so =
-        let done = both-accepted (roomFor (length labels) (length results)) (readInto s list labels .0) (accepting .0) .1 in
-        ap₂ (λ (x y : List ℕ). lists accepted x y) (ap (λ (x : Found). x .1 .1 .0) (accepting .1)) (ap (λ (x : Found). x .1 .1 .1 .0) (accepting .1))
-        ∙ ap (λ (x : Outcome). (x, readInto s list labels .1)) (sym done)
+    read-so = λ i. lists (sym (both-so .1) i) (accepting .1 i .1 .0) (accepting .1 i .1 .1 .0)
 
-    answer-so : boundsOf (reading s .1) ≡ (accepted, holds passes (reading s .1), words (reading s .1))
-    answer-so = legal-answer (reading s .1) (sheet-is-legal s list labels accepted l b read-so refl)
+    legal-so : legal (reading s .1) ≡ true
+    legal-so = sheet-is-legal s list labels accepted l b read-so refl
 
     room-for-results : resultsLong (reading s .1 .count) ≤ length results
-    room-for-results =
-        omega (arith, labels-have-room s list labels accepted l b read-so refl, room-holds (length labels) (length results) (both-accepted (roomFor (length labels) (length results)) (readInto s list labels .0) (accepting .0) .0))
+    room-for-results = omega (arith, labels-have-room s list labels accepted l b read-so refl, room-holds (length labels) (length results) (both-so .0))
 
     pub judged-holds : h ≡ holds passes (reading s .1)
-    judged-holds = ap (λ (x : Found). x .1 .0) (accepting .1) ∙ ap (λ (x : Answer). x .1) answer-so
+    judged-holds = (λ i. accepting .1 i .0) ∙ ap (λ (x : Answer). x .1) (legal-answer passes (reading s .1) legal-so)
 
     results-so : rs ≡ upto (resultsLong (reading s .1 .count)) (resultCell (words (reading s .1))) results
     results-so =
-        ap (λ (x : Found). x .1 .1 .1 .1) (accepting .1)
-        ∙ ap (λ (x : Answer). upto (resultsLong (reading s .1 .count)) (resultCell (x .2)) results) answer-so
+        (λ i. accepting .1 i .1 .1 .1) ∙ ap (λ (x : Answer). upto (resultsLong (reading s .1 .count)) (resultCell (x .2)) results) (legal-answer passes (reading s .1) legal-so)
 
     pub judged-word : (k : ℕ) → k < reading s .1 .count → wordAt rs k ≡ resultOf passes (reading s .1) k
     judged-word k m =
-        word-comes-back (words (reading s .1)) rs results (reading s .1 .count) k results-so room-for-results m
-        ∙ word-there (reading s .1) k (legal-is (reading s .1) (sheet-is-legal s list labels accepted l b read-so refl)) m
+        word-comes-back (words (reading s .1)) rs results (resultsLong (reading s .1 .count)) k results-so room-for-results (omega arith)
+        ∙ word-there passes (reading s .1) k (legal-is (reading s .1) legal-so) m
 
     pub judged-label : (k : ℕ) → k < reading s .1 .count → partIn b k ≡ labelIn s k
     judged-label = parts-written s list labels accepted l b read-so refl
@@ -157,7 +144,7 @@ module _ (s list labels results : List ℕ) (o : Outcome) (h : Bool) (l b rs : L
     judged-count = count-read s list labels accepted l b read-so refl
 
     pub judged-few : reading s .1 .count ≤ mostRows
-    judged-few = legal-is (reading s .1) (sheet-is-legal s list labels accepted l b read-so refl) .most-rows
+    judged-few = legal-is (reading s .1) legal-so .most-rows
 
     pub judged-labels-long : labelsLong (reading s .1 .count) ≤ length b
     judged-labels-long = omega (arith, labels-have-room s list labels accepted l b read-so refl, labels-as-long s list labels accepted l b read-so refl)
@@ -170,11 +157,5 @@ pub judge-bytes-same : (s list labels results : List ℕ) (r t : Judgement) (l b
     → found (outcome (r .refusal)) (r .holds) l b rs ≡ judgedBytes s list labels results → found (outcome (t .refusal)) (t .holds) l′ b′ rs′ ≡ judgedBytes s list labels results
     → (r ≡ t) × (l ≡ l′) × (b ≡ b′) × (rs ≡ rs′)
 judge-bytes-same s list labels results r t l b rs l′ b′ rs′ e f =
-    let g = e ∙ sym f in
-    let refusal : r .refusal ≡ t .refusal = outcome-one-to-one (r .refusal) (t .refusal) (ap (λ (x : Found). x .0) g) in
-    let holds-same : r .holds ≡ t .holds = ap (λ (x : Found). x .1 .0) g in (
-      ap₂ (λ (x : Refusal) (y : Bool). record { refusal = x; holds = y }) refusal holds-same,
-      ap (λ (x : Found). x .1 .1 .0) g,
-      ap (λ (x : Found). x .1 .1 .1 .0) g,
-      ap (λ (x : Found). x .1 .1 .1 .1) g,
-    )
+    let (judgement, lists-same) = judgement-same (judgedBytes s list labels results) r t (l, (b, rs)) (l′, (b′, rs′)) e f in
+    (judgement, (λ i. lists-same i .0), (λ i. lists-same i .1 .0), λ i. lists-same i .1 .1)

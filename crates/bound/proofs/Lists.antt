@@ -1,29 +1,30 @@
 -- A list of results: what stands at its places, how it is put together, cleared past the rows and read back, and what `bounds_on` makes of it at each way out.
 -- Assumes nothing.
-use Rattle.basis.specs.Prelude.{ℕ, _+_, _*_, _/_, _%_, _≤_, _<_, _≡_, refl, sym, ap, _∙_, Bool, true, false, List, arith, le-refl, mod-lt, div-add-mod', length, getD, set, replicate, length-set, length-replicate, ext-getD, eqb, le-leb, lt-leb, ne-eqb, Fits, w64}
+use Rattle.basis.specs.Prelude.{ℕ, _+_, _*_, _≤_, _<_, _≡_, refl, sym, ap, _∙_, Bool, true, false, List, arith, le-refl, length, getD, set, replicate, length-set, length-replicate, ext-getD, eqb, le-leb, lt-leb, Fits, w64}
 use Rattle.basis.specs.Limits.{mostRows}
 use Rattle.basis.specs.Words.{pick}
-use Rattle.basis.specs.Upto.{upto, pairCell}
+use Rattle.basis.specs.Upto.{upto}
 use Rattle.basis.specs.Refusals.{accepted, refused}
 use Rattle.basis.proofs.Inside.Upto.{upto-below, upto-past, length-upto}
-use Rattle.basis.proofs.Inside.Pairs.{first-cell, second-cell, first-read, second-read}
+use Rattle.basis.proofs.Inside.Pairs.{first-cell, second-cell, pair-zero}
 use Rattle.basis.proofs.Inside.Lists.{getD-all}
 use Rattle.sheet.specs.Legal.{legal, Legal}
 use Rattle.sheet.specs.declared.row.Sheet.{Sheet}
-use Rattle.sheet.specs.Lists.{numberAt, filled, sheetIn, clearedCell}
+use Rattle.sheet.specs.Lists.{filled, sheetIn, clearedCell}
 use Rattle.sheet.proofs.Legality.{legal-is}
 use Rattle.sheet.proofs.Inside.ClearedLists.{cleared-is-filled}
-use Rattle.bound.specs.Test.{passes}
-use Rattle.bound.specs.Bound.{Word, bound, none, unreached, resultOf, allUnreached, holds, judged, boundsBy}
+use Rattle.bound.specs.Test.{Test, passes}
+use Rattle.bound.specs.Bound.{Word, bound, none, unreached, resultOf, allUnreached, holds, boundsBy}
 use Rattle.bound.specs.Lists.{wordNumber, boundNumber, resultsLong, resultCell, resultsOn, boundsOn, words, putResult, wordAt}
 
 -- ---- the words of a sheet
 
-pub word-there : (h : Sheet) (k : ℕ) → Legal h → k < h .count → getD (words h) k unreached ≡ resultOf passes h k
-word-there h k l b = upto-below (h .count) (resultOf passes h) allUnreached unreached k b (omega (arith, l .most-rows, length-replicate mostRows unreached))
+module _ (test : Test) (h : Sheet) (k : ℕ) where
+  pub word-there : Legal h → k < h .count → getD (upto (h .count) (resultOf test h) allUnreached) k unreached ≡ resultOf test h k
+  word-there l b = upto-below (h .count) (resultOf test h) allUnreached unreached k b (omega (arith, length-replicate mostRows unreached))
 
-pub word-past : (h : Sheet) (k : ℕ) → h .count ≤ k → getD (words h) k unreached ≡ unreached
-word-past h k b = upto-past (h .count) (resultOf passes h) allUnreached unreached k b ∙ getD-all mostRows k unreached
+  pub word-past : h .count ≤ k → getD (upto (h .count) (resultOf test h) allUnreached) k unreached ≡ unreached
+  word-past b = upto-past (h .count) (resultOf test h) allUnreached unreached k b ∙ getD-all mostRows k unreached
 
 pub words-long : (h : Sheet) → length (words h) ≡ mostRows
 words-long h = length-upto (h .count) (resultOf passes h) allUnreached ∙ length-replicate mostRows unreached
@@ -32,14 +33,8 @@ words-long h = length-upto (h .count) (resultOf passes h) allUnreached ∙ lengt
 
 -- past the rows they are zero
 pub result-cell-past : (h : Sheet) (i : ℕ) → resultsLong (h .count) ≤ i → resultCell (words h) i ≡ 0
-unfolding resultCell pairCell
-result-cell-past h i b =
-    let e = word-past h (i / 2) (omega (arith, div-add-mod' i 2, mod-lt i {m = 2} (omega arith))) in
-    rw e (none-of (eqb (i % 2) 0))
-  where
-    none-of : (t : Bool) → _≡_ {A = ℕ} (pick t 0 0) 0
-    none-of true = refl
-    none-of false = refl
+unfolding resultCell
+result-cell-past h = pair-zero _ _ (h .count) (λ k b. ap wordNumber (word-past passes h k b)) (λ k b. ap boundNumber (word-past passes h k b))
 
 -- `put_result`
 pub second-place-there : (l : List ℕ) (k v : ℕ) → resultsLong (k + 1) ≤ length l → k * 2 + 1 < length (set l (k * 2) v)
@@ -60,55 +55,33 @@ back (bound r) a b ea eb = rw (ea, eb)
 back none a b ea eb = rw ea
 back unreached a b ea eb = rw ea
 
--- a word of n that are put into a list
-pub word-comes-back : (ws : List Word) (rs l : List ℕ) (n k : ℕ) → rs ≡ upto (resultsLong n) (resultCell ws) l → resultsLong n ≤ length l → k < n → wordAt rs k ≡ getD ws k unreached
+-- a word that is put into a list
+pub word-comes-back : (ws : List Word) (rs l : List ℕ) (n k : ℕ) → rs ≡ upto n (resultCell ws) l → n ≤ length l → k * 2 + 1 < n → wordAt rs k ≡ getD ws k unreached
 unfolding wordAt resultCell
 word-comes-back ws rs l n k e r h =
-    back (getD ws k unreached) (numberAt rs (k * 2)) (numberAt rs (k * 2 + 1))
-    (ap (λ (z : List ℕ). numberAt z (k * 2)) e ∙ first-read (λ j. wordNumber (getD ws j unreached)) (λ j. boundNumber (getD ws j unreached)) k n l h r)
-    (ap (λ (z : List ℕ). numberAt z (k * 2 + 1)) e ∙ second-read (λ j. wordNumber (getD ws j unreached)) (λ j. boundNumber (getD ws j unreached)) k n l h r)
+    rw e
+    (back (getD ws k unreached) _ _ (upto-below n (resultCell ws) l 0 (k * 2) (omega arith) r ∙ first-cell _ _ k) (upto-below n (resultCell ws) l 0 (k * 2 + 1) h r ∙ second-cell _ _ k))
 
 -- the words that are put into a list with room for every row come back
 pub words-come-back : (ws : List Word) (l : List ℕ) → length ws ≡ mostRows → resultsLong mostRows ≤ length l → upto mostRows (wordAt (filled (resultCell ws) l)) allUnreached ≡ ws
-unfolding wordAt filled resultCell
+unfolding filled
 words-come-back ws l long room =
-    ext-getD unreached (upto mostRows (wordAt (filled (resultCell ws) l)) allUnreached) ws
-    (length-upto mostRows (wordAt (filled (resultCell ws) l)) allUnreached ∙ length-replicate mostRows unreached ∙ sym long)
-    (λ i b. let there : i < mostRows = omega (arith, length-upto mostRows (wordAt (filled (resultCell ws) l)) allUnreached, length-replicate mostRows unreached) in
-    upto-below mostRows (wordAt (filled (resultCell ws) l)) allUnreached unreached i there (le-refl mostRows)
-    ∙ back (getD ws i unreached) _ _
-    (upto-below (length l) (resultCell ws) l 0 (i * 2) (omega arith) (le-refl (length l)) ∙ first-cell (λ k. wordNumber (getD ws k unreached)) (λ k. boundNumber (getD ws k unreached)) i)
-    (upto-below (length l) (resultCell ws) l 0 (i * 2 + 1) (omega arith) (le-refl (length l)) ∙ second-cell (λ k. wordNumber (getD ws k unreached)) (λ k. boundNumber (getD ws k unreached)) i))
+    let f : ℕ → Word = wordAt (filled (resultCell ws) l) in
+    let same-length : length (upto mostRows f allUnreached) ≡ mostRows = length-upto mostRows f allUnreached ∙ length-replicate mostRows unreached in
+    ext-getD unreached (upto mostRows f allUnreached) ws (same-length ∙ sym long)
+    (λ i b. upto-below mostRows f allUnreached unreached i (omega arith) (le-refl mostRows) ∙ word-comes-back ws _ l (length l) i refl (le-refl (length l)) (omega arith))
 
 -- and of zeros no row is reached
 pub zeros-are-unreached : upto mostRows (wordAt (replicate (resultsLong mostRows) 0)) allUnreached ≡ allUnreached
 unfolding upto wordAt
 zeros-are-unreached = refl
 
--- ---- `judged_at`
-
-module _ (l : List ℕ) (k : ℕ) where
-  pub unreached-read : numberAt l (k * 2) ≡ 0 → unreached ≡ wordAt l k
-  unfolding wordAt
-  unreached-read e = rw e
-
-  pub bound-read : numberAt l (k * 2) ≡ 1 → bound (numberAt l (k * 2 + 1)) ≡ wordAt l k
-  unfolding wordAt
-  bound-read e = rw e
-
-  pub none-read : (numberAt l (k * 2) ≡ 0 → ⊥) → (numberAt l (k * 2) ≡ 1 → ⊥) → none ≡ wordAt l k
-  unfolding wordAt
-  none-read a b = rw (ne-eqb (numberAt l (k * 2)) 0 a, ne-eqb (numberAt l (k * 2)) 1 b)
-
 -- ---- `bounds_on`
-
-pub legal-is-known : (h : Sheet) (fine : Bool) → fine ≡ legal h → fine ≡ true → legal h ≡ true
-legal-is-known h fine e t = sym e ∙ t
 
 module _ (l b : List ℕ) where
   -- the answer where the sheet is legal and there is room
   pub legal-is-put : legal (sheetIn l) ≡ true → resultsLong (sheetIn l .count) ≤ length b → boundsOn l b ≡ (accepted, (holds passes (sheetIn l), filled (resultCell (words (sheetIn l))) b))
-  unfolding boundsOn resultsOn boundsBy judged
+  unfolding boundsOn resultsOn boundsBy
   legal-is-put e r = rw (e, le-leb (resultsLong (sheetIn l .count)) (length b) r)
 
   -- refused, it does not hold and the list is as it was
@@ -117,7 +90,7 @@ module _ (l b : List ℕ) where
   not-legal-is-kept e = rw e
 
   pub no-room-is-kept : legal (sheetIn l) ≡ true → length b < resultsLong (sheetIn l .count) → boundsOn l b ≡ (refused 15 0, (false, b))
-  unfolding boundsOn resultsOn boundsBy judged
+  unfolding boundsOn resultsOn boundsBy
   no-room-is-kept e r = rw (e, lt-leb (resultsLong (sheetIn l .count)) (length b) r)
 
   module _ (fine : Bool) (ef : fine ≡ legal (sheetIn l)) where
@@ -131,7 +104,7 @@ module _ (l b : List ℕ) where
       pub no-room-told : length b < n * 2 → (refused 15 0, (false, b)) ≡ boundsOn l b
       no-room-told r = sym (no-room-is-kept (sym ef ∙ legal-so) (rw en at r))
 
-      pub results-told : (t : Bool) (m d : List ℕ) → t ≡ holds passes (sheetIn l) → m ≡ upto (resultsLong n) (resultCell (words (sheetIn l))) b → d ≡ filled (clearedCell (n * 2) m) m → n * 2 ≤ length b
+      pub results-told : (t : Bool) (m d : List ℕ) → t ≡ holds passes (sheetIn l) → m ≡ upto (n * 2) (resultCell (words (sheetIn l))) b → d ≡ filled (clearedCell (n * 2) m) m → n * 2 ≤ length b
           → (accepted, (t, d)) ≡ boundsOn l b
       results-told t m d et em ed r =
           let e : d ≡ filled (resultCell (words (sheetIn l))) b = ed ∙ cleared-is-filled (resultCell (words (sheetIn l))) (n * 2) b m em r (λ i g. result-cell-past (sheetIn l) i (rw en at g)) in

@@ -1,24 +1,18 @@
 -- What the definitions mean, for any test that looks at no lower row: a bound is the smallest length that passes, none is that no length passes, and not reached is
 -- every row after the first none.
 -- Assumes nothing.
-use Rattle.basis.specs.Prelude.{ℕ, zero, suc, _+_, _-_, _*_, _≤_, _<_, _≡_, refl, sym, ap, _∙_, Bool, true, false, mul-le-mul, arith, ltb, lt-ltb}
+use Rattle.basis.specs.Prelude.{ℕ, zero, suc, _+_, _*_, _≤_, _<_, _≡_, refl, sym, ap, _∙_, Bool, true, false, mul-le-mul, arith, ltb, lt-ltb}
 use Rattle.basis.specs.Words.{sum, allOf}
-use Rattle.basis.proofs.Inside.Words.{true-not-false, all-at, all-fails}
+use Rattle.basis.proofs.Inside.Words.{true-not-false, all-fails}
 use Rattle.sheet.specs.Legal.{rowAt, Legal}
 use Rattle.sheet.specs.declared.row.Sheet.{Sheet}
 use Rattle.bound.specs.Quantities.{slots}
 use Rattle.bound.specs.Test.{Test, q, X, amounts, room, passes}
 use Rattle.bound.specs.Bound.{Word, bound, none, unreached, isBound, valueOf, passesAt, boundBy, bounds, bounded, judge, resultsTo, resultOf, holds}
 use Rattle.bound.specs.declared.quantity.Duration.{Duration}
-use Rattle.bound.proofs.Inside.Lengths.{Smallest, least-hit, least-found, smallest-is-least, none-holds, none-is-least, least-never-unreached}
+use Rattle.bound.proofs.Inside.Lengths.{never, Smallest, least-hit, least-found, smallest-is-least, none-holds, none-is-least, least-never-unreached}
 use Rattle.bound.proofs.Amounts.{q-some, X-some, room-by-q}
-use Rattle.bound.proofs.Inside.Judging.{Local, reached-result, unreached-result}
-
-unreached-no-bound : {A : Type 0} {r : ℕ} → unreached ≡ bound r → A
-unreached-no-bound e = let z : _≡_ {A = ℕ} 0 1 = cc in absurd (omega arith)
-
-unreached-not-none : {A : Type 0} → unreached ≡ none → A
-unreached-not-none e = let z : _≡_ {A = ℕ} 0 1 = cc in absurd (omega arith)
+use Rattle.bound.proofs.Inside.Judging.{Local, result-where}
 
 -- every row above row k has a bound
 abbrev pub Reached : Test → Sheet → ℕ → Type 0
@@ -37,46 +31,41 @@ abbrev pub NoLength : Test → Sheet → ℕ → Type 0
 NoLength test h k = (l : ℕ) → rowAt h k .budget ≤ l → l ≤ rowAt h k .deadline → passing test h k l ≡ false
 
 module _ (test : Test) (loc : Local test) (h : Sheet) (k : ℕ) where
-  by-reached : {A : Type 0} → (resultOf test h k ≡ unreached → A) → (Reached test h k → resultOf test h k ≡ boundBy test h (bounds (resultOf test h)) k → A) → A
+  by-reached : {A : Type 0} → (allOf k (bounded (resultOf test h)) ≡ false → resultOf test h k ≡ unreached → A)
+      → (Reached test h k → resultOf test h k ≡ boundBy test h (bounds (resultOf test h)) k → A) → A
   by-reached {A} f g = go (allOf k (bounded (resultOf test h))) refl where
     go : (b : Bool) → allOf k (bounded (resultOf test h)) ≡ b → A
-    go true e = g e (reached-result test loc h k e)
-    go false e = f (unreached-result test loc h k e)
+    go true e = g e (result-where test loc h k true e)
+    go false e = f e (result-where test loc h k false e)
 
   -- a bound: the smallest length that passes, of a row that is reached
   pub bound-is-smallest : (r : ℕ) → resultOf test h k ≡ bound r → Reached test h k × SmallestLength test h k r
   unfolding boundBy
-  bound-is-smallest r e =
-      by-reached (λ u. unreached-no-bound (sym u ∙ e)) λ y b.
-      let s = least-found (passing test h k) (rowAt h k .deadline + 1 - rowAt h k .budget) (rowAt h k .budget) r (sym b ∙ e) in
-      (y, record { low = s .low; high = omega (arith, s .low, s .high); holds = s .holds; first = s .first })
+  bound-is-smallest r e = by-reached (λ n u. never (cc)) λ y b. (y, least-found (passing test h k) (rowAt h k .budget) (rowAt h k .deadline + 1) r (sym b ∙ e))
 
   pub smallest-is-bound : (r : ℕ) → Reached test h k → SmallestLength test h k r → resultOf test h k ≡ bound r
   unfolding boundBy
-  smallest-is-bound r y s = reached-result test loc h k y ∙ smallest-is-least (passing test h k) (rowAt h k .budget) (rowAt h k .deadline + 1) r s
+  smallest-is-bound r y s = result-where test loc h k true y ∙ smallest-is-least (passing test h k) (rowAt h k .budget) (rowAt h k .deadline + 1) r s
 
   -- none: no length passes, of a row that is reached
   pub none-means-no-length-passes : resultOf test h k ≡ none → Reached test h k × NoLength test h k
   unfolding boundBy
   none-means-no-length-passes e =
-      by-reached (λ u. unreached-not-none (sym u ∙ e)) λ y b.
-      (y, λ l low high. none-holds (passing test h k) (rowAt h k .deadline + 1 - rowAt h k .budget) (rowAt h k .budget) (sym b ∙ e) l low (omega arith))
+      by-reached (λ n u. never (cc)) λ y b. (y, λ l low high. none-holds (passing test h k) (rowAt h k .budget) (rowAt h k .deadline + 1) (sym b ∙ e) l low (omega arith))
 
   pub no-length-passes-means-none : Reached test h k → NoLength test h k → resultOf test h k ≡ none
   unfolding boundBy
-  no-length-passes-means-none y f =
-      reached-result test loc h k y ∙ none-is-least (passing test h k) (rowAt h k .budget) (rowAt h k .deadline + 1) (λ j a b. f j a (omega arith))
+  no-length-passes-means-none y f = result-where test loc h k true y ∙ none-is-least (passing test h k) (rowAt h k .budget) (rowAt h k .deadline + 1) (λ j a b. f j a (omega arith))
 
   -- a row that is reached has a bound or none
   pub reached-is-not-unreached : Reached test h k → resultOf test h k ≡ unreached → ⊥
   unfolding boundBy
-  reached-is-not-unreached y e =
-      least-never-unreached (passing test h k) (rowAt h k .deadline + 1 - rowAt h k .budget) (rowAt h k .budget) (sym (reached-result test loc h k y) ∙ e)
+  reached-is-not-unreached y e = least-never-unreached (passing test h k) (rowAt h k .budget) (rowAt h k .deadline + 1) (sym (result-where test loc h k true y) ∙ e)
 
 module _ (test : Test) (loc : Local test) (h : Sheet) where
   -- not reached: after a row with none
   pub unreached-after-none : (i k : ℕ) → i < k → resultOf test h i ≡ none → resultOf test h k ≡ unreached
-  unreached-after-none i k l e = unreached-result test loc h k (all-fails k (bounded (resultOf test h)) i l (ap isBound e))
+  unreached-after-none i k l e = result-where test loc h k false (all-fails k (bounded (resultOf test h)) i l (ap isBound e))
 
   some-none : (k : ℕ) → allOf k (bounded (resultOf test h)) ≡ false → (i : ℕ) × (i < k) × (resultOf test h i ≡ none)
   unfolding allOf
@@ -90,35 +79,27 @@ module _ (test : Test) (loc : Local test) (h : Sheet) where
     go true t (bound r) ew f = true-not-false (rw (t, ew) at e)
 
   pub unreached-only-after-none : (k : ℕ) → resultOf test h k ≡ unreached → (i : ℕ) × (i < k) × (resultOf test h i ≡ none)
-  unreached-only-after-none k e = some-none k (go (allOf k (bounded (resultOf test h))) refl) where
-    go : (b : Bool) → allOf k (bounded (resultOf test h)) ≡ b → allOf k (bounded (resultOf test h)) ≡ false
-    go false t = t
-    go true t = absurd (reached-is-not-unreached test loc h k t e)
+  unreached-only-after-none k e = by-reached test loc h k (λ n u. some-none k n) (λ y b. absurd (reached-is-not-unreached test loc h k y e))
 
-  -- a bound is from C to D
-  pub bound-in-range : (k : ℕ) → isBound (resultOf test h k) ≡ true
-      → (rowAt h k .budget ≤ valueOf (resultOf test h k) .0) × (valueOf (resultOf test h k) .0 ≤ rowAt h k .deadline)
-  bound-in-range k e = go (resultOf test h k) refl where
-    go : (w : Word) → resultOf test h k ≡ w → (rowAt h k .budget ≤ valueOf w .0) × (valueOf w .0 ≤ rowAt h k .deadline)
-    go (bound r) ew = let (_, s) = bound-is-smallest test loc h k r ew in (s .low, omega (arith, s .high))
-    go none ew = true-not-false (sym e ∙ ap isBound ew)
-    go unreached ew = true-not-false (sym e ∙ ap isBound ew)
+  module _ (k : ℕ) (e : isBound (resultOf test h k) ≡ true) where
+    bounded-is-smallest : SmallestLength test h k (valueOf (resultOf test h k) .0)
+    bounded-is-smallest = go (resultOf test h k) refl where
+      go : (w : Word) → resultOf test h k ≡ w → SmallestLength test h k (valueOf w .0)
+      go (bound r) ew = bound-is-smallest test loc h k r ew .1
+      go none ew = true-not-false (sym e ∙ ap isBound ew)
+      go unreached ew = true-not-false (sym e ∙ ap isBound ew)
 
-  -- no shorter length passes
-  pub bound-is-first : (k : ℕ) → isBound (resultOf test h k) ≡ true → (l : ℕ) → rowAt h k .budget ≤ l → l < valueOf (resultOf test h k) .0 → passing test h k l ≡ false
-  bound-is-first k e l low = go (resultOf test h k) refl where
-    go : (w : Word) → resultOf test h k ≡ w → l < valueOf w .0 → passing test h k l ≡ false
-    go (bound r) ew high = let (_, s) = bound-is-smallest test loc h k r ew in s .first l low high
-    go none ew high = true-not-false (sym e ∙ ap isBound ew)
-    go unreached ew high = true-not-false (sym e ∙ ap isBound ew)
+    -- a bound is from C to D
+    pub bound-in-range : (rowAt h k .budget ≤ valueOf (resultOf test h k) .0) × (valueOf (resultOf test h k) .0 ≤ rowAt h k .deadline)
+    bound-in-range = (bounded-is-smallest .low, omega (arith, bounded-is-smallest .high))
 
-  -- it passes, by the bounds above it
-  pub bound-passes : (k : ℕ) → isBound (resultOf test h k) ≡ true → test h (bounds (resultOf test h)) k (bounds (resultOf test h) k) ≡ true
-  bound-passes k e = go (resultOf test h k) refl where
-    go : (w : Word) → resultOf test h k ≡ w → test h (bounds (resultOf test h)) k (valueOf w) ≡ true
-    go (bound r) ew = let (_, s) = bound-is-smallest test loc h k r ew in s .holds
-    go none ew = true-not-false (sym e ∙ ap isBound ew)
-    go unreached ew = true-not-false (sym e ∙ ap isBound ew)
+    -- no shorter length passes
+    pub bound-is-first : (l : ℕ) → rowAt h k .budget ≤ l → l < valueOf (resultOf test h k) .0 → passing test h k l ≡ false
+    bound-is-first = bounded-is-smallest .first
+
+    -- it passes, by the bounds above it
+    pub bound-passes : test h (bounds (resultOf test h)) k (bounds (resultOf test h) k) ≡ true
+    bound-passes = bounded-is-smallest .holds
 
 -- a length passes exactly where the sum is less than X times q, as numbers
 pub passing-is-less : (h : Sheet) (R : ℕ → Duration) (k : ℕ) (L : Duration) → passes h R k L ≡ ltb (amounts h R k L k .0) (X h k L .0 * q h k)

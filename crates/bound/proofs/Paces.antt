@@ -3,8 +3,7 @@
 use Rattle.basis.specs.Prelude.{ℕ, _+_, _*_, _-_, _%_, _≤_, _<_, min, _≡_, ap, Bool, true, false, mul-le-mul-right, arith, ltb, Fits, w64}
 use Rattle.basis.specs.Limits.{mostProcessors, mostSeparation}
 use Rattle.basis.specs.Words.{pick, sum}
-use Rattle.basis.proofs.Inside.Sums.{sum-one-more}
-use Rattle.sheet.specs.Legal.{rowAt}
+use Rattle.sheet.specs.Legal.{rowAt, LegalRow}
 use Rattle.sheet.specs.declared.row.Row.{Row}
 use Rattle.sheet.specs.declared.row.Sheet.{Sheet}
 use Rattle.bound.specs.Quantities.{widestRows, slots, plus, lesser}
@@ -13,9 +12,9 @@ use Rattle.bound.specs.Inside.Ready.{Ready, Length}
 use Rattle.bound.specs.Inside.Skipping.{Paces, stayOf, joined}
 use Rattle.bound.specs.declared.quantity.Duration.{Duration}
 use Rattle.bound.specs.declared.pace.Pace.{Pace}
-use Rattle.bound.proofs.Durations.{same, number}
+use Rattle.bound.proofs.Durations.{number}
 use Rattle.bound.proofs.Workload.{W-runs-on}
-use Rattle.bound.proofs.Amounts.{few-rows, row, amount-mono, capped-small}
+use Rattle.bound.proofs.Amounts.{row, q-small, amounts-more, amount-mono}
 
 capped-grows : (w z g x d : ℕ) → w + min d g ≤ z → d ≤ g + (w - x) → min w x + d ≤ min z (x + d)
 capped-grows w z g x d a b = omega arith
@@ -33,68 +32,47 @@ duration-grows r R L X d pos fits low h =
 module _ (h : Sheet) (R : ℕ → Duration) (k : ℕ) (r : Ready h R k) (L : Duration) (len : Length h k L) where
   pub X-more : (d : ℕ) → X h k (plus L (slots d)) ≡ plus (X h k L) (slots d)
   unfolding X
-  X-more d = ap slots (omega (arith, len .low))
+  X-more d = ap slots (omega arith)
 
   amount-grows : (i d : ℕ) → i < k → d ≤ stayOf (rowAt h i) (R i) L (X h k L) .0
       → amountOf h R k L i .0 + min (rowAt h i .threads) (q h k) * d ≤ amountOf h R k (plus L (slots d)) i .0
   unfolding amountOf
   amount-grows i d b s =
-      rw (X-more d)
-      (omega (
-        arith,
-        mul-le-mul-right (min (rowAt h i .threads) (q h k))
-            (duration-grows (rowAt h i) (R i) L (X h k L) d (row h R k r i b .some-separation) (omega (arith, row h R k r i b)) (r .low i b) s),
-      ))
+      let o : LegalRow (h .processors) (rowAt h i) = row h R k r i b in
+      rw (X-more d) (omega (arith, mul-le-mul-right (min (rowAt h i .threads) (q h k)) (duration-grows (rowAt h i) (R i) L (X h k L) d (o .some-separation) (omega arith) (r .low i b) s)))
 
   pub paces-none : Paces h R k L 0 (record { width = 0; stay = slots mostSeparation })
   unfolding amounts sum
   paces-none = record { width = omega arith; stay = omega arith; grows = λ d l. omega arith }
 
-  module _ (i b g : ℕ) (a : Row) (v w s : Duration) (p t : Pace) (l : i < k) (now : Paces h R k L i p) (ea : a ≡ rowAt h i) (ev : v ≡ R i) (ew : w ≡ X h k L) (eb : b ≡ q h k)
-      (es : s ≡ stayOf a v L w) (eg : g ≡ min (a .threads) b) (et : t ≡ joined p g s) where
+  pub paces-more : (i b g : ℕ) (a : Row) (v w s : Duration) (p t : Pace) → t ≡ joined p g s → s ≡ stayOf a v L w → g ≡ min (a .threads) b → Paces h R k L i p → i < k → a ≡ rowAt h i → v ≡ R i
+      → w ≡ X h k L → b ≡ q h k → Paces h R k L (i + 1) t
+  unfolding joined
+  paces-more i b g a v w s p t et es eg now l ea ev ew eb = go (ltb 0 (s .0)) et where
     stay-is : s ≡ stayOf (rowAt h i) (R i) L (X h k L)
-    stay-is = cc
+    stay-is = rw (ea, ev, ew) at es
 
     capped-is : g ≡ min (rowAt h i .threads) (q h k)
-    capped-is = cc
+    capped-is = rw (ea, eb) at eg
 
-    more : (n : Duration) → amounts h R k n (i + 1) .0 ≡ amounts h R k n i .0 + amountOf h R k n i .0
-    unfolding amounts
-    more n = sum-one-more i (λ j. amountOf h R k n j .0)
-
-    left-out : Paces h R k L (i + 1) p
-    left-out =
-        record {
-          width = omega (arith, now .width);
+    go : (e : Bool) → t ≡ pick e (record { width = p .width + g; stay = lesser (p .stay) s }) p → Paces h R k L (i + 1) t
+    go false e =
+        rw e
+        (record {
+          width = omega arith;
           stay = now .stay;
-          grows = λ d m. omega (arith, now .grows d m, more L, more (plus L (slots d)), amount-mono h R k r L (plus L (slots d)) i (omega arith) l);
-        }
-
-    taken-in : Paces h R k L (i + 1) (record { width = p .width + g; stay = lesser (p .stay) s })
-    taken-in =
-        record {
-          width = omega (arith, now .width, capped-small h k (r .legal) (r .below) b g (a .threads) eb eg);
-          stay = omega (arith, now .stay);
           grows = λ d m.
-              omega (
-                arith,
-                now .grows d (omega arith),
-                more L,
-                more (plus L (slots d)),
-                ap (λ (n : ℕ). n * d) capped-is,
-                amount-grows i d l (omega (arith, number stay-is)),
-              );
-        }
-
-    pub paces-more : Paces h R k L (i + 1) t
-    unfolding joined
-    paces-more = go (ltb 0 (s .0)) et where
-      go : (b : Bool) → t ≡ pick b (record { width = p .width + g; stay = lesser (p .stay) s }) p → Paces h R k L (i + 1) t
-      go true e = rw e taken-in
-      go false e = rw e left-out
-
-  pub width-small : (i : ℕ) (p : Pace) → i < k → Paces h R k L i p → p .width ≤ widestRows * mostProcessors
-  width-small i p l now = omega (arith, now .width, few-rows h R k r)
+              omega (arith, now .grows d m, amounts-more h R k r L i, amounts-more h R k r (plus L (slots d)) i, amount-mono h R k r L (plus L (slots d)) i (omega arith) l);
+        })
+    go true e =
+        rw e
+        (record {
+          width = omega (arith, q-small h R k r);
+          stay = omega arith;
+          grows = λ d m.
+              rw capped-is
+              (omega (arith, now .grows d (omega arith), amounts-more h R k r L i, amounts-more h R k r (plus L (slots d)) i, amount-grows i d l (omega (arith, number stay-is))));
+        })
 
   pub paces-done : (i : ℕ) (p : Pace) → Paces h R k L i p → i ≤ k → k ≤ i → Paces h R k L k p
   paces-done i p now a b = let e : i ≡ k = omega arith in rw e at now
@@ -109,8 +87,8 @@ pub join-more : (p : Pace) (g w : ℕ) (s u t : Duration) (b : Bool) → b ≡ l
 unfolding joined
 join-more p g w s u t b eb ew eu et = rw (← eb) (go b ew eu) where
   go : (b : Bool) → w ≡ pick b g 0 → u ≡ pick b s (p .stay) → _≡_ {A = Pace} (record { width = p .width + w; stay = t }) (pick b (record { width = p .width + g; stay = lesser (p .stay) s }) p)
-  go true ew eu = let e = same t (lesser (p .stay) s) (omega (arith, number eu)) in λ i. record { width = p .width + ew i; stay = e i }
+  go true ew eu = let e : t ≡ lesser (p .stay) s = ap slots (omega (arith, number eu)) in λ i. record { width = p .width + ew i; stay = e i }
   go false ew eu =
-      let e = same t (p .stay) (omega (arith, number eu)) in
+      let e : t ≡ p .stay = ap slots (omega (arith, number eu)) in
       let f : p .width + w ≡ p .width = omega arith in
       λ i. record { width = f i; stay = e i }

@@ -1,23 +1,24 @@
 -- Shares: in proportion to X, the amounts in a shorter length are no less than the shares in a longer one. So where these leave no room, no shorter length passes.
 -- Assumes nothing.
-use Rattle.basis.specs.Prelude.{ℕ, _+_, _*_, _-_, _/_, _≤_, _<_, min, _≡_, sym, ap, _∙_, Bool, true, false, ⊎-elim, mul-le-mul, mul-le-mul-left, mul-le-mul-right, le-of-mul-le-mul-left, le-of-mul-le-mul-right, div-mul-le-self, arith, ltb-true, ltb, Fits, w64}
+use Rattle.basis.specs.Prelude.{ℕ, _+_, _*_, _-_, _/_, _≤_, _<_, min, _≡_, sym, ap, _∙_, Bool, true, false, ⊎-elim, mul-le-mul-left, mul-le-mul-right, le-of-mul-le-mul-left, le-of-mul-le-mul-right, div-mul-le-self, arith, ltb-true, ltb, Fits, w64}
 use Rattle.basis.specs.Limits.{mostProcessors}
 use Rattle.basis.proofs.Inside.Words.{lt-or-le}
-use Rattle.basis.proofs.Inside.Sums.{sum-one-more}
 use Rattle.sheet.specs.Legal.{rowAt, LegalRow}
 use Rattle.sheet.specs.declared.row.Row.{Row}
 use Rattle.sheet.specs.declared.row.Sheet.{Sheet}
-use Rattle.bound.specs.Quantities.{widestSeparation, slots, onFine}
-use Rattle.bound.specs.Test.{q, X, x, W, durationOf, amountOf, amounts, room, passes}
+use Rattle.bound.specs.Quantities.{widestSeparation, slots}
+use Rattle.bound.specs.Inside.Parts.{parts, pieces, onFine}
+use Rattle.bound.specs.Test.{q, X, x, durationOf, amountOf, amounts, room}
 use Rattle.bound.specs.Inside.Ready.{Ready, Length}
 use Rattle.bound.specs.Inside.Skipping.{Skips, shareOf, Shares, AllFail}
 use Rattle.bound.specs.declared.quantity.Duration.{Duration}
 use Rattle.bound.specs.declared.quantity.Amount.{Amount}
 use Rattle.bound.specs.declared.quantity.Fine.{Fine}
 use Rattle.bound.specs.declared.quantity.FineAmount.{FineAmount}
-use Rattle.bound.proofs.Durations.{same-fine, same-fine-amount, number-in}
+use Rattle.bound.proofs.Inside.Lengths.{never}
+use Rattle.bound.proofs.Durations.{number-in, most-fine}
 use Rattle.bound.proofs.Workload.{W-shares}
-use Rattle.bound.proofs.Amounts.{few-rows, row, q-small, X-small, X-some, X-mono, room-by-q, fails-where}
+use Rattle.bound.proofs.Amounts.{few-rows, row, own-row, q-small, X-small, X-some, X-mono, room-by-q, fails-where, amounts-more}
 
 -- ---- one row
 
@@ -25,28 +26,20 @@ module _ (row : Row) (R L X s : Duration) (p f d : Fine) (es : s ≡ x row R L) 
     (ed : d .0 ≡ min (p .0) (f .0)) where
   share-is : d ≡ shareOf row R L X
   unfolding shareOf
-  share-is = same-fine d (shareOf row R L X) (ed ∙ rw (ep, ef, es))
+  share-is = ap parts (ed ∙ rw (ep, ef, es))
 
   pub share-amount-is : (b g : ℕ) (a : FineAmount) → g ≡ min (row .threads) b → a .0 ≡ d .0 * g → a ≡ onFine (shareOf row R L X) (min (row .threads) b)
-  share-amount-is b g a eg ea = same-fine-amount a (onFine (shareOf row R L X) (min (row .threads) b)) (ea ∙ rw (share-is, eg))
+  share-amount-is b g a eg ea = ap pieces (ea ∙ rw (share-is, eg))
 
 -- in proportion, work w that is no less than the share of y slots and a more is no less than s, which is no more than the share of Y slots and a more
 in-proportion : (C T y Y a w s : ℕ) → 1 ≤ T → y ≤ Y → (y + a) * C ≤ w * T → s * T ≤ (Y + a) * C → y * s ≤ Y * w
-in-proportion C T y Y a w s pos l hw hs =
-    le-of-mul-le-mul-right {m = y * s} {n = Y * w} {k = T}
-    (omega (
-      arith,
-      mul-le-mul-left y hs,
-      mul-le-mul-left Y hw,
-      mul-le-mul-right (a * C) l,
-    ))
-    pos
+in-proportion C T y Y a w s pos l hw hs = le-of-mul-le-mul-right {k = T} (omega (arith, mul-le-mul-left y hs, mul-le-mul-left Y hw, mul-le-mul-right (a * C) l)) pos
 
 -- and so in 256ths where both are capped at their slots
 capped-in-proportion : (y Y w s : ℕ) → y * s ≤ Y * (256 * w) → y * min s (256 * Y) ≤ Y * (256 * min w y)
 capped-in-proportion y Y w s h =
     ⊎-elim
-    (λ l. let e : min w y ≡ w = omega arith in rw e (omega (arith, h, mul-le-mul-left {m = min s (256 * Y)} {n = s} y (omega arith))))
+    (λ l. let e : min w y ≡ w = omega arith in rw e (omega (arith, mul-le-mul-left {m = min s (256 * Y)} {n = s} y (omega arith))))
     (λ l. let e : min w y ≡ y = omega arith in rw e (omega (arith, mul-le-mul-left {m = min s (256 * Y)} {n = 256 * Y} y (omega arith))))
     (lt-or-le w y)
 
@@ -58,33 +51,26 @@ share-in-proportion C T B l L R w pos low some from to work =
     let eL : L + R - C ≡ L - B + 1 + (B - 1 + (R - C)) = omega arith in
     let s : ℕ = 256 * ((L + R - C) * C) / T in
     let share : s * T ≤ (L + R - C) * (256 * C) = omega (arith, div-mul-le-self (256 * ((L + R - C) * C)) T) in
-    let fine : (l + R - C) * (256 * C) ≤ 256 * w * T = omega (arith, work) in
+    let fine : (l + R - C) * (256 * C) ≤ 256 * w * T = omega arith in
     capped-in-proportion (l - B + 1) (L - B + 1) w s
     (in-proportion (256 * C) T (l - B + 1) (L - B + 1) (B - 1 + (R - C)) (256 * w) s pos (omega arith) (rw (← el) fine) (rw (← eL) share))
 
 -- what is reached in proportion, and is all but less than one of the room, leaves none: amounts are whole
 none-left : (y Y Q a s : ℕ) → y ≤ Y → 1 ≤ Y → y * a ≤ Y * (256 * s) → 256 * (Y * Q) < a + 256 → y * Q ≤ s
 none-left y Y Q a s l some h m =
-    let f : 256 * (y * Q) ≤ 256 * s + 255 =
-    le-of-mul-le-mul-left {m = 256 * (y * Q)} {n = 256 * s + 255} {k = Y}
-    (omega (arith, h, l, mul-le-mul-left {m = 256 * (Y * Q) + 1} {n = a + 256} y (omega arith)))
-    some
-    in
+    let f : 256 * (y * Q) ≤ 256 * s + 255 = le-of-mul-le-mul-left {k = Y} (omega (arith, mul-le-mul-left {m = 256 * (Y * Q) + 1} {n = a + 256} y (omega arith))) some in
     omega arith
 
 module _ (h : Sheet) (R : ℕ → Duration) (k : ℕ) (r : Ready h R k) (L : Duration) (len : Length h k L) where
   module _ (i : ℕ) (b : i < k) (l : ℕ) (low : rowAt h k .budget ≤ l) (high : l ≤ L .0) where
-    duration-shares : X h k (slots l) .0 * shareOf (rowAt h i) (R i) L (X h k L) .0
-        ≤ X h k L .0 * (256 * durationOf (rowAt h i) (R i) (slots l) (X h k (slots l)) .0)
+    duration-shares : X h k (slots l) .0 * shareOf (rowAt h i) (R i) L (X h k L) .0 ≤ X h k L .0 * (256 * durationOf (rowAt h i) (R i) (slots l) (X h k (slots l)) .0)
     unfolding durationOf shareOf X x
     duration-shares =
         let i-row : LegalRow (h .processors) (rowAt h i) = row h R k r i b in
-        share-in-proportion (rowAt h i .budget) (rowAt h i .separation) (rowAt h k .budget) l (L .0) (R i .0) (W (rowAt h i) (slots (l + R i .0 - rowAt h i .budget)) .0)
-        (i-row .some-separation) (r .low i b) (r .legal .rows k (r .below) .some-budget) low high
-        (W-shares (rowAt h i) (i-row .some-separation) (omega (arith, i-row)) (l + R i .0 - rowAt h i .budget))
+        share-in-proportion (rowAt h i .budget) (rowAt h i .separation) (rowAt h k .budget) l (L .0) (R i .0) _ (i-row .some-separation) (r .low i b) (own-row h R k r .some-budget) low high
+        (W-shares (rowAt h i) (i-row .some-separation) (omega arith) (l + R i .0 - rowAt h i .budget))
 
-    amount-shares : X h k (slots l) .0 * (shareOf (rowAt h i) (R i) L (X h k L) .0 * min (rowAt h i .threads) (q h k))
-        ≤ X h k L .0 * (256 * amountOf h R k (slots l) i .0)
+    amount-shares : X h k (slots l) .0 * (shareOf (rowAt h i) (R i) L (X h k L) .0 * min (rowAt h i .threads) (q h k)) ≤ X h k L .0 * (256 * amountOf h R k (slots l) i .0)
     unfolding amountOf
     amount-shares = omega (arith, mul-le-mul-right (min (rowAt h i .threads) (q h k)) duration-shares)
 
@@ -93,67 +79,48 @@ module _ (h : Sheet) (R : ℕ → Duration) (k : ℕ) (r : Ready h R k) (L : Dur
   pub shares-none : (a : FineAmount) → a .0 ≡ 0 → Shares h R k L 0 a
   shares-none a e = record { small = omega arith; reached = λ l low high. rw e (omega arith) }
 
-  module _ (i b : ℕ) (row : Row) (v w : Duration) (a c : FineAmount) (l : i < k) (now : Shares h R k L i a) (er : row ≡ rowAt h i) (ev : v ≡ R i) (ew : w ≡ X h k L) (eb : b ≡ q h k)
-      (ec : c ≡ onFine (shareOf row v L w) (min (row .threads) b)) where
+  module _ (i b : ℕ) (row : Row) (v w : Duration) (a c : FineAmount) (ec : c ≡ onFine (shareOf row v L w) (min (row .threads) b)) (now : Shares h R k L i a) (l : i < k) (er : row ≡ rowAt h i)
+      (ev : v ≡ R i) (ew : w ≡ X h k L) (eb : b ≡ q h k) where
     share-is-of : c .0 ≡ shareOf (rowAt h i) (R i) L (X h k L) .0 * min (rowAt h i .threads) (q h k)
     share-is-of = number-in ec ∙ rw (er, ev, ew, eb)
 
     share-small : c .0 ≤ 256 * (widestSeparation * mostProcessors)
     unfolding shareOf
-    share-small =
-        rw share-is-of
-        (mul-le-mul {m₁ = min (rowAt h i .threads) (q h k)} {n₂ = 256 * widestSeparation} {m₂ = mostProcessors}
-        (omega (arith, X-small h k (r .legal) (r .below) L len)) (omega (arith, q-small h k (r .legal) (r .below))))
+    share-small = rw share-is-of (most-fine _ _ (omega (arith, X-small h R k r L len)) (omega (arith, q-small h R k r)))
 
     pub shares-fit : Fits w64 (a .0 + c .0)
     shares-fit = omega (arith, share-small, now .small, few-rows h R k r)
 
-    one-share-more : (d : FineAmount) → d .0 ≡ a .0 + c .0 → Shares h R k L (i + 1) d
-    unfolding amounts
-    one-share-more d ed = record { small = omega (arith, share-small, now .small); reached = reached } where
-      reached : (j : ℕ) → rowAt h k .budget ≤ j → j ≤ L .0 → X h k (slots j) .0 * d .0 ≤ X h k L .0 * (256 * amounts h R k (slots j) (i + 1) .0)
-      reached j low high =
-          rw (ed, share-is-of, sum-one-more i (λ n. amountOf h R k (slots j) n .0))
-          (omega (arith, now .reached j low high, amount-shares i l j low high))
-
-  pub shares-more : (i b : ℕ) (row : Row) (v w : Duration) (d a c : FineAmount) → d .0 ≡ a .0 + c .0 → c ≡ onFine (shareOf row v L w) (min (row .threads) b)
-      → Shares h R k L i a → i < k → row ≡ rowAt h i → v ≡ R i → w ≡ X h k L → b ≡ q h k → Shares h R k L (i + 1) d
-  shares-more i b row v w d a c ed ec now l er ev ew eb = one-share-more i b row v w a c l now er ev ew eb ec d ed
+    pub shares-more : (d : FineAmount) → d .0 ≡ a .0 + c .0 → Shares h R k L (i + 1) d
+    shares-more d ed =
+        record {
+          small = omega (arith, share-small, now .small);
+          reached = λ j low high. rw (ed, share-is-of, amounts-more h R k r (slots j) i) (omega (arith, now .reached j low high, amount-shares i l j low high));
+        }
 
   pub shares-done : (i : ℕ) (a : FineAmount) → Shares h R k L i a → i ≤ k → k ≤ i → Shares h R k L k a
   shares-done i a s m n = let e : i ≡ k = omega arith in rw e at s
 
   -- ---- no room
 
-  no-room : (a : FineAmount) → Shares h R k L k a → 256 * room h k L .0 < a .0 + 256 → (l : ℕ) → rowAt h k .budget ≤ l → l ≤ L .0 → passes h R k (slots l) ≡ false
-  no-room a s m l low high =
-      fails-where h R k (slots l)
-      (none-left (X h k (slots l) .0) (X h k L .0) (q h k) (a .0) (amounts h R k (slots l) k .0) (X-longer l high) (X-some h k L) (s .reached l low high)
-      (omega (arith, m, room-by-q h k L)))
-    where
-      X-longer : (l : ℕ) → l ≤ L .0 → X h k (slots l) .0 ≤ X h k L .0
-      X-longer l m = X-mono h k (slots l) L m
-
   pub room-told : (a : FineAmount) (o : Amount) (t : Bool) → Shares h R k L k a → o ≡ room h k L → t ≡ ltb (256 * o .0) (a .0 + 256) → AllFail h R k (rowAt h k .budget) (L .0) t
   room-told a o false s eo e = tt
-  room-told a o true s eo e = no-room a s (rw (← eo) (ltb-true (256 * o .0) (a .0 + 256) (sym e)))
-
-  pub shares-round : (a : FineAmount) → Shares h R k L k a → Fits w64 (a .0 + 256)
-  shares-round a s = omega (arith, s .small, few-rows h R k r)
+  room-told a o true s eo e = λ l low high.
+      fails-where h R k (slots l)
+      (none-left (X h k (slots l) .0) (X h k L .0) (q h k) (a .0) (amounts h R k (slots l) k .0) (X-mono h k (slots l) L high) (X-some h k L) (s .reached l low high)
+      (rw (eo, room-by-q) at (ltb-true (256 * o .0) (a .0 + 256) (sym e))))
 
 -- ---- past the deadline
 
--- the deadline is a length
-pub deadline-is-length : (h : Sheet) (R : ℕ → Duration) (k : ℕ) (row : Row) → row ≡ rowAt h k → Ready h R k → Length h k (slots (row .deadline))
-deadline-is-length h R k row er r = rw er (record { low = r .legal .rows k (r .below) .most-budget; high = omega arith })
+module _ (h : Sheet) (R : ℕ → Duration) (k : ℕ) (row : Row) (er : row ≡ rowAt h k) where
+  -- the deadline is a length
+  pub deadline-is-length : Ready h R k → Length h k (slots (row .deadline))
+  deadline-is-length r = rw er (record { low = own-row h R k r .most-budget; high = omega arith })
 
-pub after-deadline-fits : (h : Sheet) (R : ℕ → Duration) (k n : ℕ) (row : Row) → row ≡ rowAt h k → Ready h R k → n ≤ widestSeparation → Fits w64 (row .deadline + n)
-after-deadline-fits h R k n row er r l = rw er (omega (arith, r .legal .rows k (r .below)))
+  pub after-deadline-fits : (n : ℕ) → Ready h R k → n ≤ widestSeparation → Fits w64 (row .deadline + n)
+  after-deadline-fits n r l = rw er (omega (arith, own-row h R k r))
 
--- past it, where no length up to it passes
-pub past-deadline : (h : Sheet) (R : ℕ → Duration) (k : ℕ) (row : Row) (t : Bool) (L z : Duration) → z .0 ≡ row .deadline + 1 → AllFail h R k (rowAt h k .budget) (row .deadline) t
-    → t ≡ true → row ≡ rowAt h k → Length h k L → Skips h R k L z
-past-deadline h R k row false L z ez s e er len = absurd (let w : _≡_ {A = ℕ} 0 1 = cc in omega arith)
-past-deadline h R k row true L z ez s e er len =
-    let same : row .deadline ≡ rowAt h k .deadline = ap (λ (x : Row). x .deadline) er in
-    record { further = omega (arith, len .high); fails = λ l low high. s l (omega (arith, len .low)) (omega arith) }
+  -- past it, where no length up to it passes
+  pub past-deadline : (t : Bool) (L z : Duration) → z .0 ≡ row .deadline + 1 → AllFail h R k (rowAt h k .budget) (row .deadline) t → t ≡ true → Length h k L → Skips h R k L z
+  past-deadline false L z ez s e len = never (cc)
+  past-deadline true L z ez s e len = record { further = omega (arith, rw (← er) at (len .high)); fails = λ l low high. s l (omega arith) (omega arith) }

@@ -1,6 +1,6 @@
 -- The step from a length that fails to the next that can pass: every length between fails.
 -- Assumes nothing.
-use Rattle.basis.specs.Prelude.{ℕ, _+_, _*_, _-_, _≤_, _<_, min, max, _≡_, sym, ap, _∙_, Bool, true, false, ⊎-elim, mul-le-mul-right, mul-le-mul-left, arith, ltb-false, le-ltb, ltb, Fits, w64}
+use Rattle.basis.specs.Prelude.{ℕ, _+_, _*_, _-_, _≤_, min, max, _≡_, sym, _∙_, Bool, false, ⊎-elim, mul-le-mul-right, mul-le-mul-left, arith, ltb-false, ltb, Fits, w64}
 use Rattle.basis.specs.Limits.{mostProcessors}
 use Rattle.basis.proofs.Inside.Words.{lt-or-le}
 use Rattle.sheet.specs.declared.row.Sheet.{Sheet}
@@ -12,7 +12,7 @@ use Rattle.bound.specs.declared.quantity.Duration.{Duration}
 use Rattle.bound.specs.declared.quantity.Amount.{Amount}
 use Rattle.bound.specs.declared.pace.Pace.{Pace}
 use Rattle.bound.proofs.Durations.{number-of}
-use Rattle.bound.proofs.Amounts.{few-rows, amounts-mono, amounts-small, q-some, length-small, room-by-q}
+use Rattle.bound.proofs.Amounts.{few-rows, amounts-mono, amounts-small, q-some, length-small, room-by-q, fails-where}
 use Rattle.bound.proofs.Paces.{X-more}
 
 -- ---- what a pace allows
@@ -21,75 +21,50 @@ pub steep-whole : (over : Amount) (b : ℕ) (p : Pace) → b ≤ p .width → St
 steep-whole over b p l = let e : b - p .width ≡ 0 = omega arith in record { within-stay = omega arith; within-over = rw e (omega arith) }
 
 pub steep-part : (over : Amount) (b n : ℕ) (p : Pace) (r : Duration) → n * (b - p .width) ≤ over .0 → r .0 ≡ min (p .stay .0) n → Steep over b p r
-steep-part over b n p r l e =
-    record { within-stay = omega arith; within-over = omega (arith, mul-le-mul-right {m = r .0} {n = n} (b - p .width) (omega arith)) }
+steep-part over b n p r l e = record { within-stay = omega arith; within-over = omega (arith, mul-le-mul-right {m = r .0} {n = n} (b - p .width) (omega arith)) }
 
 pub divides : (h : Sheet) (k b : ℕ) → b ≡ q h k → 1 ≤ b
 divides h k b e = omega (arith, q-some h k)
 
 -- ---- a length that passes, and one that does not
 
-module _ (h : Sheet) (R : ℕ → Duration) (k : ℕ) (L : Duration) (s : Amount) (es : s ≡ amounts h R k L k) (t : Bool) (et : t ≡ ltb (s .0) (room h k L .0)) where
-  pub trial-is : t ≡ passes h R k L
-  unfolding passes
-  trial-is = et ∙ ap (λ (a : Amount). ltb (a .0) (room h k L .0)) es
+pub trial-is : (h : Sheet) (R : ℕ → Duration) (k : ℕ) (L : Duration) (s a : Amount) (t u : Bool) → t ≡ ltb (s .0) (a .0) → s ≡ amounts h R k L k → a ≡ room h k L → t ≡ u → passes h R k L ≡ u
+unfolding passes
+trial-is h R k L s a t u et es ea e = rw (← es, ← ea) (sym et ∙ e)
 
-  pub length-passes : t ≡ true → passes h R k L ≡ true
-  length-passes e = sym trial-is ∙ e
-
-  pub length-fails : t ≡ false → passes h R k L ≡ false
-  length-fails e = sym trial-is ∙ e
-
--- what it can spare fits
-pub spare-fits : (h : Sheet) (R : ℕ → Duration) (k : ℕ) (L : Duration) (s a o : Amount) → Ready h R k → Length h k L → s ≡ amounts h R k L k → o .0 ≡ s .0 - a .0
-    → Fits w64 (256 * o .0 + 255)
-spare-fits h R k L s a o r n e eo = omega (arith, number-of e, amounts-small h R k r L n k, few-rows h R k r)
-
-module _ (h : Sheet) (R : ℕ → Duration) (k : ℕ) (r : Ready h R k) (L : Duration) (len : Length h k L) (no : passes h R k L ≡ false) where
-  reaches : X h k L .0 * q h k ≤ amounts h R k L k .0
-  unfolding passes
-  reaches = rw (← room-by-q h k L) (ltb-false _ _ no)
+module _ (h : Sheet) (R : ℕ → Duration) (k : ℕ) (r : Ready h R k) (L : Duration) (len : Length h k L) where
+  -- what it can spare fits
+  pub spare-fits : (s a o : Amount) → s ≡ amounts h R k L k → o .0 ≡ s .0 - a .0 → Fits w64 (256 * o .0 + 255)
+  spare-fits s a o e eo = omega (arith, number-of e, amounts-small h R k r L len k, few-rows h R k r)
 
   -- a length fails where the sum has grown by q for each slot more
   fails-at : (d : ℕ) → X h k L .0 * q h k + d * q h k ≤ amounts h R k (plus L (slots d)) k .0 → passes h R k (plus L (slots d)) ≡ false
-  unfolding passes
-  fails-at d m = le-ltb (amounts h R k (plus L (slots d)) k .0) (room h k (plus L (slots d)) .0) (rw (room-by-q, X-more h R k r L len d) (omega arith))
+  fails-at d m = fails-where h R k (plus L (slots d)) (rw (X-more h R k r L len d) (omega arith))
 
-  -- the sum never falls
-  flat-fails : (n : ℕ) → n * q h k ≤ amounts h R k L k .0 - X h k L .0 * q h k → (d : ℕ) → d ≤ n → passes h R k (plus L (slots d)) ≡ false
-  flat-fails n l d m =
-      fails-at d
-      (omega (arith, reaches, amounts-mono h R k r L (plus L (slots d)) k (omega arith) (omega arith), mul-le-mul-right (q h k) m))
-
-  -- some rows keep pace
-  steep-fails : (p : Pace) → Paces h R k L k p → (n : ℕ) → n ≤ p .stay .0 → n * (q h k - p .width) ≤ amounts h R k L k .0 - X h k L .0 * q h k
-      → (d : ℕ) → d ≤ n → passes h R k (plus L (slots d)) ≡ false
-  steep-fails p c n w l d m =
-      fails-at d
-      (omega (
-        arith,
-        reaches,
-        c .grows d (omega arith),
-        mul-le-mul-right (q h k - p .width) m,
-        mul-le-mul-left {m = q h k} {n = p .width + (q h k - p .width)} d (omega arith),
-      ))
-
-  module _ (s a o : Amount) (b : ℕ) (es : s ≡ amounts h R k L k) (ea : a ≡ room h k L) (eo : o .0 ≡ s .0 - a .0) (eb : b ≡ q h k) where
-    over-is : o .0 ≡ amounts h R k L k .0 - X h k L .0 * q h k
-    over-is = omega (arith, number-of es, number-of ea, room-by-q h k L)
+  module _ (no : passes h R k L ≡ false) (s a o : Amount) (b : ℕ) (es : s ≡ amounts h R k L k) (ea : a ≡ room h k L) (eo : o .0 ≡ s .0 - a .0) (eb : b ≡ q h k) where
+    over-is : amounts h R k L k .0 ≡ X h k L .0 * q h k + o .0
+    unfolding passes
+    over-is = omega (arith, number-of es, number-of ea, room-by-q h k L, ltb-false (amounts h R k L k .0) (room h k L .0) no)
 
     module _ (n : ℕ) (ln : n * b ≤ o .0) (p : Pace) (c : Paces h R k L k p) (t f : Duration) (st : Steep o b p t) (ef : f .0 ≡ max (t .0) n) where
       further-small : f .0 ≤ widestRows * (widestSeparation * mostProcessors)
       further-small =
-          omega (
+          omega (arith, over-is, amounts-small h R k r L len k, few-rows h R k r, c .stay, st .within-stay, mul-le-mul-left {m = 1} {n = b} n (omega (arith, q-some h k)))
+
+      -- the sum never falls, and some rows keep pace
+      by : (d : ℕ) → d ≤ f .0 → passes h R k (plus L (slots d)) ≡ false
+      by d m =
+          fails-at d
+          (⊎-elim (λ i. omega (arith, over-is, amounts-mono h R k r L (plus L (slots d)) k (omega arith) (omega arith), rw eb at ln, mul-le-mul-right {m = d} {n = n} (q h k) (omega arith)))
+          (λ i. omega (
             arith,
             over-is,
-            amounts-small h R k r L len k,
-            few-rows h R k r,
-            c .stay,
-            st .within-stay,
-            mul-le-mul-left {m = 1} {n = b} n (omega (arith, q-some h k)),
-          )
+            c .grows d (omega arith),
+            rw eb at (st .within-over),
+            mul-le-mul-right (q h k - p .width) i,
+            mul-le-mul-left {m = q h k} {n = p .width + (q h k - p .width)} d (omega arith),
+          ))
+          (lt-or-le (t .0) d))
 
       pub next-fits : Fits w64 (L .0 + f .0)
       next-fits = omega (arith, further-small, length-small h R k r L len)
@@ -99,17 +74,4 @@ module _ (h : Sheet) (R : ℕ → Duration) (k : ℕ) (r : Ready h R k) (L : Dur
         one-more-fits m l = omega (arith, further-small, length-small h R k r L len)
 
         pub next-skips : (z : Duration) → z .0 ≡ e .0 + 1 → Skips h R k L z
-        next-skips z ez = record { further = omega arith; fails = fails } where
-          flat : n * q h k ≤ amounts h R k L k .0 - X h k L .0 * q h k
-          flat = rw (← over-is, ← eb) ln
-
-          steep : t .0 * (q h k - p .width) ≤ amounts h R k L k .0 - X h k L .0 * q h k
-          steep = rw (← over-is, ← eb) (st .within-over)
-
-          by : (d : ℕ) → d ≤ f .0 → passes h R k (plus L (slots d)) ≡ false
-          by d m =
-              ⊎-elim (λ i. flat-fails n flat d (omega arith)) (λ i. steep-fails p c (t .0) (st .within-stay) steep d i)
-              (lt-or-le (t .0) d)
-
-          fails : (l : ℕ) → L .0 ≤ l → l < z .0 → passes h R k (slots l) ≡ false
-          fails l m i = let g : l ≡ L .0 + (l - L .0) = omega arith in rw g (by (l - L .0) (omega arith))
+        next-skips z ez = record { further = omega arith; fails = λ l m i. let g : l ≡ L .0 + (l - L .0) = omega arith in rw g (by (l - L .0) (omega arith)) }

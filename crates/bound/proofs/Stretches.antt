@@ -1,36 +1,30 @@
 -- A stretch of lengths is decided at its two ends: where the sum of straight lines that the rows above are never below reaches the room at both, every length between
 -- fails; and the step over such a stretch.
 -- Assumes nothing.
-use Rattle.basis.specs.Prelude.{ℕ, _+_, _*_, _-_, _≤_, _<_, _≡_, sym, ap, _∙_, Bool, true, false, mul-le-mul-left, le-of-mul-le-mul-left, arith, ltb-true, ltb, Fits, w64}
-use Rattle.basis.proofs.Inside.Sums.{sum-one-more}
+use Rattle.basis.specs.Prelude.{ℕ, _+_, _*_, _-_, _≤_, _<_, _≡_, sym, _∙_, Bool, true, false, mul-le-mul-left, le-of-mul-le-mul-left, arith, ltb-true, ltb, Fits, w64}
 use Rattle.sheet.specs.Legal.{rowAt}
 use Rattle.sheet.specs.declared.row.Row.{Row}
 use Rattle.sheet.specs.declared.row.Sheet.{Sheet}
-use Rattle.bound.specs.Quantities.{widestSeparation, slots, plus, pieces}
-use Rattle.bound.specs.Test.{q, X, amountOf, amounts, room, passes}
+use Rattle.bound.specs.Quantities.{widestSeparation, slots, plus}
+use Rattle.bound.specs.Test.{q, X, amountOf, room}
 use Rattle.bound.specs.Inside.Ready.{Ready, Length}
-use Rattle.bound.specs.Inside.Skipping.{Skips, way, Stretches, Along, amountAlong, RowMeets, RowsMeet, bothEnds, AllFail}
+use Rattle.bound.specs.Inside.Skipping.{Skips, way, Stretches, Along, amountAlong, RowMeets, RowsMeet, AllFail}
 use Rattle.bound.specs.declared.quantity.Duration.{Duration}
 use Rattle.bound.specs.declared.quantity.Amount.{Amount}
 use Rattle.bound.specs.declared.quantity.FineAmount.{FineAmount}
 use Rattle.bound.specs.declared.stretch.Stretch.{Stretch}
 use Rattle.bound.specs.declared.stretch.Ends.{Ends}
-use Rattle.bound.proofs.Durations.{number, number-in, same-fine-amount}
-use Rattle.bound.proofs.Amounts.{few-rows, row-above, q-small, X-small, room-by-q, fails-where}
+use Rattle.bound.proofs.Inside.Lengths.{never}
+use Rattle.bound.proofs.Durations.{number, number-in}
+use Rattle.bound.proofs.Amounts.{few-rows, own-row, row-above, q-small, X-small, room-by-q, fails-where, amounts-more}
 use Rattle.bound.proofs.Paces.{X-more}
 
 -- a line that comes, at both ends, within less than one of what Q processors take keeps whole amounts from falling below that
 ends-decide : (c d a b s y Q : ℕ) → 1 ≤ c + d → c * a + d * b ≤ (c + d) * (256 * s) → 256 * (y * Q) < a + 256 → 256 * ((y + (c + d)) * Q) < b + 256 → (y + d) * Q ≤ s
 ends-decide c d a b s y Q some h m n =
     let f : 256 * ((y + d) * Q) + 1 ≤ 256 * s + 256 =
-    le-of-mul-le-mul-left {m = 256 * ((y + d) * Q) + 1} {n = 256 * s + 256} {k = c + d}
-    (omega (
-      arith,
-      h,
-      mul-le-mul-left {m = 256 * (y * Q) + 1} {n = a + 256} c (omega arith),
-      mul-le-mul-left {m = 256 * ((y + (c + d)) * Q) + 1} {n = b + 256} d (omega arith),
-    ))
-    some
+    le-of-mul-le-mul-left {k = c + d}
+    (omega (arith, mul-le-mul-left {m = 256 * (y * Q) + 1} {n = a + 256} c (omega arith), mul-le-mul-left {m = 256 * ((y + (c + d)) * Q) + 1} {n = b + 256} d (omega arith))) some
     in
     omega arith
 
@@ -39,7 +33,7 @@ ends-decide c d a b s y Q some h m n =
 module _ (h : Sheet) (R : ℕ → Duration) (k : ℕ) (r : Ready h R k) (s : Stretch) (st : Stretches h k s) where
   late-later : s .late .0 ≡ s .early .0 + way s
   unfolding X
-  late-later = omega (arith, number (st .early), number (st .late), st .from .low, st .further)
+  late-later = omega (arith, number (st .early), number (st .late))
 
   pub row-along : (i b : ℕ) (a : Row) (v : Duration) → i < k → a ≡ rowAt h i → v ≡ R i → b ≡ q h k → Along a v s b
   row-along i b a v l ea ev eb =
@@ -48,110 +42,60 @@ module _ (h : Sheet) (R : ℕ → Duration) (k : ℕ) (r : Ready h R k) (s : Str
         to = row-above h R k r i a v (s .to) l ea ev (st .to);
         further = st .further;
         late = late-later;
-        most-early = omega (arith, number (st .early), X-small h k (r .legal) (r .below) (s .from) (st .from));
-        most-late = omega (arith, number (st .late), X-small h k (r .legal) (r .below) (s .to) (st .to));
-        most-q = omega (arith, q-small h k (r .legal) (r .below));
+        most-early = omega (arith, number (st .early), X-small h R k r (s .from) (st .from));
+        most-late = omega (arith, number (st .late), X-small h R k r (s .to) (st .to));
+        most-q = omega (arith, q-small h R k r);
       }
 
   pub meet-none : (n t o : FineAmount) → n .0 ≡ 0 → t .0 ≡ 0 → RowsMeet h R k s 0 (record { now = n; then = t; spare = o })
   meet-none n t o en et = record { small-now = omega arith; small-then = omega arith; under = λ c d e. rw (en, et) (omega arith) }
 
-  module _ (i b : ℕ) (row : Row) (v : Duration) (e m : Ends) (l : i < k) (now : RowsMeet h R k s i e) (one : RowMeets row v s b m) where
-    pub now-fits : Fits w64 (e .now .0 + m .now .0)
-    now-fits = omega (arith, now .small-now, one .small-now, few-rows h R k r)
-
-    pub then-fits : Fits w64 (e .then .0 + m .then .0)
-    then-fits = omega (arith, now .small-then, one .small-then, few-rows h R k r)
-
-    along-is : (d : ℕ) → row ≡ rowAt h i → v ≡ R i → b ≡ q h k → amountAlong row v s b d ≡ amountOf h R k (plus (s .from) (slots d)) i
+  module _ (i b : ℕ) (row : Row) (v : Duration) (e m : Ends) (one : RowMeets row v s b m) (now : RowsMeet h R k s i e) (l : i < k) (er : row ≡ rowAt h i) (ev : v ≡ R i)
+      (eb : b ≡ q h k) where
+    along-is : (d : ℕ) → amountAlong row v s b d ≡ amountOf h R k (plus (s .from) (slots d)) i
     unfolding amountOf
-    along-is d er ev eb = rw (er, ev, eb, X-more h R k r (s .from) (st .from) d, ← st .early)
+    along-is d = rw (er, ev, eb, X-more h R k r (s .from) (st .from) d, ← st .early)
 
-    more : (d : ℕ) → amounts h R k (plus (s .from) (slots d)) (i + 1) .0
-        ≡ amounts h R k (plus (s .from) (slots d)) i .0 + amountOf h R k (plus (s .from) (slots d)) i .0
-    unfolding amounts
-    more d = sum-one-more i (λ n. amountOf h R k (plus (s .from) (slots d)) n .0)
-
-    with-one : (t : Ends) → t .now .0 ≡ e .now .0 + m .now .0 → t .then .0 ≡ e .then .0 + m .then .0 → row ≡ rowAt h i → v ≡ R i → b ≡ q h k → RowsMeet h R k s (i + 1) t
-    with-one t en et er ev eb =
+    pub meet-more : (n t o : FineAmount) → n .0 ≡ e .now .0 + m .now .0 → t .0 ≡ e .then .0 + m .then .0 → RowsMeet h R k s (i + 1) (record { now = n; then = t; spare = o })
+    meet-more n t o en et =
         record {
-          small-now = omega (arith, now .small-now, one .small-now);
-          small-then = omega (arith, now .small-then, one .small-then);
-          under = λ c d w.
-              rw (en, et, more d, ← along-is d er ev eb)
-              (omega (arith, now .under c d w, one .under c d w));
+          small-now = omega arith;
+          small-then = omega arith;
+          under = λ c d w. rw (en, et, amounts-more h R k r (plus (s .from) (slots d)) i, ← along-is d) (omega (arith, now .under c d w, one .under c d w));
         }
-
-  pub meet-more : (i b : ℕ) (row : Row) (v : Duration) (t e m : Ends) → t ≡ bothEnds e m → RowMeets row v s b m → RowsMeet h R k s i e → i < k → row ≡ rowAt h i → v ≡ R i → b ≡ q h k
-      → RowsMeet h R k s (i + 1) t
-  unfolding bothEnds
-  meet-more i b row v t e m et one now l er ev eb =
-      with-one i b row v e m l now one t (ap (λ (z : Ends). z .now .0) et) (ap (λ (z : Ends). z .then .0) et) er ev eb
 
   pub meet-done : (i : ℕ) (e : Ends) → RowsMeet h R k s i e → i ≤ k → k ≤ i → RowsMeet h R k s k e
   meet-done i e m a b = let z : i ≡ k = omega arith in rw z at m
 
   module _ (e : Ends) (m : RowsMeet h R k s k e) where
-    pub now-rounds : (n : FineAmount) → n ≡ e .now → Fits w64 (n .0 + 256)
-    now-rounds n en = omega (arith, number-in en, m .small-now, few-rows h R k r)
-
     pub then-rounds : (n : FineAmount) → n ≡ e .then → Fits w64 (n .0 + 256)
-    then-rounds n en = omega (arith, number-in en, m .small-then, few-rows h R k r)
+    then-rounds n en = omega (arith, number-in en, few-rows h R k r)
 
     -- each length of the stretch fails
-    stretch-fails : 256 * room h k (s .from) .0 < e .now .0 + 256 → 256 * room h k (s .to) .0 < e .then .0 + 256 → (c d : ℕ) → c + d ≡ way s
-        → passes h R k (plus (s .from) (slots d)) ≡ false
-    stretch-fails a z c d w =
-        fails-where h R k (plus (s .from) (slots d))
-        (rw (X-more h R k r (s .from) (st .from) d)
-        (ends-decide c d (e .now .0) (e .then .0) (amounts h R k (plus (s .from) (slots d)) k .0) (X h k (s .from) .0) (q h k) (omega (arith, st .further)) (m .under c d w)
-        (omega (arith, a, room-by-q h k (s .from))) far))
-      where
-        late-is : X h k (s .to) .0 ≡ X h k (s .from) .0 + (c + d)
-        late-is = omega (arith, number (st .early), number (st .late), late-later)
-
-        far : 256 * ((X h k (s .from) .0 + (c + d)) * q h k) < e .then .0 + 256
-        far = rw (← late-is) (omega (arith, z, room-by-q h k (s .to)))
-
     pub stretch-told : (n t : FineAmount) (f z : Amount) (v u : Bool) (from to : Duration) → n ≡ e .now → t ≡ e .then → f ≡ room h k from → z ≡ room h k to → s .from ≡ from
         → s .to ≡ to → v ≡ ltb (256 * f .0) (n .0 + 256) → v ≡ true → u ≡ ltb (256 * z .0) (t .0 + 256) → AllFail h R k (from .0) (to .0) u
     stretch-told n t f z v false from to en et ef ez efrom eto ev tv eu = tt
-    stretch-told n t f z v true from to en et ef ez efrom eto ev tv eu = fails where
-      first : 256 * room h k (s .from) .0 < e .now .0 + 256
-      first = rw (efrom, ← ef, ← en) (ltb-true _ _ (sym ev ∙ tv))
-
-      last : 256 * room h k (s .to) .0 < e .then .0 + 256
-      last = rw (eto, ← ez, ← et) (ltb-true _ _ (sym eu))
-
-      fails : (l : ℕ) → from .0 ≤ l → l ≤ to .0 → passes h R k (slots l) ≡ false
-      fails l low high =
-          let g : l ≡ s .from .0 + (l - s .from .0) = omega (arith, number efrom) in
-          rw g (stretch-fails first last (s .to .0 - l) (l - s .from .0) (omega (arith, number efrom, number eto)))
+    stretch-told n t f z v true from to en et ef ez efrom eto ev tv eu = λ l low high.
+        let c : ℕ = s .to .0 - l in
+        let d : ℕ = l - s .from .0 in
+        let w : c + d ≡ way s = omega (arith, number efrom, number eto) in
+        let g : l ≡ s .from .0 + d = omega (arith, number efrom) in
+        let late-is : X h k (s .to) .0 ≡ X h k (s .from) .0 + (c + d) = omega (arith, number (st .early), number (st .late), late-later) in
+        let first : 256 * (X h k (s .from) .0 * q h k) < e .now .0 + 256 = rw (en, ef, ← efrom, room-by-q) at (ltb-true (256 * f .0) (n .0 + 256) (sym ev ∙ tv)) in
+        let last : 256 * ((X h k (s .from) .0 + (c + d)) * q h k) < e .then .0 + 256 = rw (et, ez, ← eto, room-by-q, late-is) at (ltb-true (256 * z .0) (t .0 + 256) (sym eu)) in
+        rw g
+        (fails-where h R k (plus (s .from) (slots d))
+        (rw (X-more h R k r (s .from) (st .from) d) (ends-decide c d (e .now .0) (e .then .0) _ _ (q h k) (omega arith) (m .under c d w) first last)))
 
 -- ---- a step over a stretch
 
-pub stretch-of-lengths : (h : Sheet) (k : ℕ) (from to early late : Duration) → Length h k from → Length h k to → from .0 < to .0 → early ≡ X h k from → late ≡ X h k to
-    → Stretches h k (record { from = from; to = to; early = early; late = late })
-stretch-of-lengths h k from to early late a b f e l = record { from = a; to = b; further = f; early = e; late = l }
-
-pub both-ends-are : (a b : Ends) (n t o : FineAmount) → n .0 ≡ a .now .0 + b .now .0 → t .0 ≡ a .then .0 + b .then .0 → o ≡ b .spare
-    → _≡_ {A = Ends} (record { now = n; then = t; spare = o }) (bothEnds a b)
-unfolding bothEnds
-both-ends-are a b n t o en et eo =
-    let fn : n ≡ pieces (a .now .0 + b .now .0) = same-fine-amount n (pieces (a .now .0 + b .now .0)) en in
-    let ft : t ≡ pieces (a .then .0 + b .then .0) = same-fine-amount t (pieces (a .then .0 + b .then .0)) et in
-    rw (fn, ft, eo)
-
 module _ (h : Sheet) (R : ℕ → Duration) (k : ℕ) (r : Ready h R k) (row : Row) (er : row ≡ rowAt h k) where
-  same-deadline : row .deadline ≡ rowAt h k .deadline
-  same-deadline = ap (λ (z : Row). z .deadline) er
-
   pub deadline-small : row .deadline ≤ widestSeparation
-  deadline-small = omega (arith, same-deadline, r .legal .rows k (r .below))
+  deadline-small = rw er (omega (arith, own-row h R k r))
 
   module _ (L d e : Duration) (len : Length h k L) (ee : e .0 ≡ L .0 + d .0) (m : L .0 + d .0 ≤ row .deadline) where
     pub end-is-length : Length h k e
-    end-is-length = record { low = omega (arith, len .low); high = omega (arith, same-deadline) }
+    end-is-length = record { low = omega arith; high = omega (arith, rw er at m) }
 
     pub after-end-fits : (n : ℕ) → n ≤ widestSeparation → Fits w64 (e .0 + n)
     after-end-fits n l = omega (arith, deadline-small)
@@ -159,10 +103,7 @@ module _ (h : Sheet) (R : ℕ → Duration) (k : ℕ) (r : Ready h R k) (row : R
     pub twice-fits : Fits w64 (2 * d .0)
     twice-fits = omega (arith, deadline-small)
 
-pub end-further : (L d e : Duration) → e .0 ≡ L .0 + d .0 → 1 ≤ d .0 → L .0 < e .0
-end-further L d e ee l = omega arith
-
 pub over-skips : (h : Sheet) (R : ℕ → Duration) (k : ℕ) (L d e z : Duration) (t : Bool) → z .0 ≡ e .0 + 1 → AllFail h R k (L .0) (e .0) t → t ≡ true → e .0 ≡ L .0 + d .0
     → Skips h R k L z
-over-skips h R k L d e z false ez f t ee = absurd (let w : _≡_ {A = ℕ} 0 1 = cc in omega arith)
+over-skips h R k L d e z false ez f t ee = never (cc)
 over-skips h R k L d e z true ez f t ee = record { further = omega arith; fails = λ l a b. f l a (omega arith) }

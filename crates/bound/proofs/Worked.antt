@@ -6,9 +6,9 @@ use Rattle.basis.specs.Upto.{upto}
 use Rattle.sheet.specs.Legal.{legalRow, legalAt, legal}
 use Rattle.tables.specs.Tables.{fixedSheet}
 use Rattle.bound.specs.Test.{q, X, x, W, durationOf, amountOf, amounts, room, passes}
-use Rattle.bound.specs.Bound.{least, boundBy, judge, resultsTo, resultOf, holds, judged, boundsBy}
+use Rattle.bound.specs.Bound.{least, boundBy, judge, resultsTo, resultOf, holds, boundsBy}
 use Rattle.bound.specs.Cases.{cases, Right}
 
 pub cases-are-right : Each Right cases
-unfolding fixedSheet allOf sum upto legalRow legalAt legal q X x W durationOf amountOf amounts room passes least boundBy judge resultsTo resultOf holds judged boundsBy
+unfolding fixedSheet allOf sum upto legalRow legalAt legal q X x W durationOf amountOf amounts room passes least boundBy judge resultsTo resultOf holds boundsBy
 cases-are-right = (refl, (refl, (refl, (refl, (refl, (refl, tt))))))

@@ -28,7 +28,6 @@ module _ (row : Row) (pos : 1 ≤ row .separation) (fits : row .budget ≤ row .
   W-shares x = ω-shares (row .budget) (row .separation) pos fits x
 
   -- within one separation it is above the straight line between two of its values
-  pub W-evenly : (x c d : ℕ) → x % row .separation + (c + d) ≤ row .separation
-      → c * W row (slots x) .0 + d * W row (slots (x + (c + d))) .0 ≤ (c + d) * W row (slots (x + d)) .0
+  pub W-evenly : (x c d : ℕ) → x % row .separation + (c + d) ≤ row .separation → c * W row (slots x) .0 + d * W row (slots (x + (c + d))) .0 ≤ (c + d) * W row (slots (x + d)) .0
   unfolding W ω
   W-evenly x c d h = ω-evenly (row .budget) (row .separation) pos fits x c d h

@@ -1,6 +1,6 @@
 -- Wrong bounds are shut out: on a named sheet no answer with the fault meets the promise.
 -- Assumes nothing.
-use Rattle.basis.specs.Prelude.{ℕ, _≡_, refl, sym, ap, _∙_, Bool, List, [], _∷_, arith, getD}
+use Rattle.basis.specs.Prelude.{ℕ, _≡_, refl, Bool, List, [], _∷_, arith, getD}
 use Rattle.basis.specs.Words.{allOf, sum}
 use Rattle.basis.specs.Readers.{begins}
 use Rattle.basis.specs.Upto.{upto, pairCell}
@@ -14,9 +14,10 @@ use Rattle.sheet.specs.declared.row.Sheet.{Sheet}
 use Rattle.reader.specs.Form.{headBy, sheetBy}
 use Rattle.reader.specs.Lists.{intoLists, readInto}
 use Rattle.bound.specs.Test.{q, X, x, W, durationOf, amountOf, amounts, room, passes}
-use Rattle.bound.specs.Bound.{unreached, least, boundBy, judge, resultsTo, resultOf, holds, Answer, judged, boundsBy, boundsOf}
+use Rattle.bound.specs.Bound.{unreached, least, boundBy, judge, resultsTo, resultOf, holds, Answer, boundsBy, boundsOf}
 use Rattle.bound.specs.Lists.{boundNumber, resultCell, resultsOn, boundsOn, judgedBytes}
 use Rattle.tables.specs.Tables.{sheetA, sheetC, sheetE, sheetF}
+use Rattle.bound.proofs.FromBytes.{Found}
 use Rattle.bound.specs.Wrong.{withoutCap, shortX, insideOnly, orEqual, alwaysNone, alwaysDeadline, judgedOn, goesOn, refusedHolds, refusedBy16, listUntouched, pastLeft, roomIgnored, clearedOnRefusal, threeRows, afterNone, listF}
 
 -- whether the sheet holds, as a number
@@ -31,53 +32,46 @@ boundAt k a = boundNumber (getD (a .2) k unreached)
 abbrev listAt : ℕ → Outcome × (Bool × List ℕ) → ℕ
 listAt i a = getD (a .1 .1) i 0
 
--- the number of the refusal, and the first number of the sheet's list afterwards
-abbrev refusalOf : Outcome × (Bool × (List ℕ × (List ℕ × List ℕ))) → ℕ
-refusalOf a = numberOf (a .0)
-
-abbrev firstNumber : Outcome × (Bool × (List ℕ × (List ℕ × List ℕ))) → ℕ
-firstNumber a = getD (a .1 .1 .0) 0 0
-
 -- ---- `bounds`, by a wrong test
 
 -- sheet E would fail
 pub without-cap-is-shut-out : NoneMeets (boundsBy withoutCap sheetE) (boundsOf sheetE)
-unfolding allOf sum upto legalRow legalAt legal q X x W durationOf amountOf amounts room passes least boundBy judge resultsTo resultOf holds judged boundsBy withoutCap
+unfolding allOf sum upto legalRow legalAt legal q X x W durationOf amountOf amounts room passes least boundBy judge resultsTo resultOf holds boundsBy withoutCap
 without-cap-is-shut-out = apart green (boundsBy withoutCap sheetE) (boundsOf sheetE) 0 1 refl refl (λ e. omega arith)
 
 -- sheet F would have no bound
 pub short-X-is-shut-out : NoneMeets (boundsBy shortX sheetF) (boundsOf sheetF)
-unfolding allOf sum upto legalRow legalAt legal q X x W durationOf amountOf amounts room passes least boundBy judge resultsTo resultOf holds judged boundsBy shortX
+unfolding allOf sum upto legalRow legalAt legal q X x W durationOf amountOf amounts room passes least boundBy judge resultsTo resultOf holds boundsBy shortX
 short-X-is-shut-out = apart green (boundsBy shortX sheetF) (boundsOf sheetF) 0 1 refl refl (λ e. omega arith)
 
 -- the third of three rows would have a bound
 pub inside-only-is-shut-out : NoneMeets (boundsBy insideOnly threeRows) (boundsOf threeRows)
-unfolding allOf sum upto legalRow legalAt legal q X x W durationOf amountOf amounts room passes least boundBy judge resultsTo resultOf holds judged boundsBy insideOnly
+unfolding allOf sum upto legalRow legalAt legal q X x W durationOf amountOf amounts room passes least boundBy judge resultsTo resultOf holds boundsBy insideOnly
 inside-only-is-shut-out = apart green (boundsBy insideOnly threeRows) (boundsOf threeRows) 1 0 refl refl (λ e. omega arith)
 
 -- sheet C would hold
 pub or-equal-is-shut-out : NoneMeets (boundsBy orEqual sheetC) (boundsOf sheetC)
-unfolding allOf sum upto legalRow legalAt legal q X x W durationOf amountOf amounts room passes least boundBy judge resultsTo resultOf holds judged boundsBy orEqual
+unfolding allOf sum upto legalRow legalAt legal q X x W durationOf amountOf amounts room passes least boundBy judge resultsTo resultOf holds boundsBy orEqual
 or-equal-is-shut-out = apart green (boundsBy orEqual sheetC) (boundsOf sheetC) 1 0 refl refl (λ e. omega arith)
 
 -- ---- `bounds`, without a test
 
 pub always-none-is-shut-out : NoneMeets (alwaysNone sheetA) (boundsOf sheetA)
-unfolding allOf sum upto legalRow legalAt legal q X x W durationOf amountOf amounts room passes least boundBy judge resultsTo resultOf holds judged boundsBy alwaysNone
+unfolding allOf sum upto legalRow legalAt legal q X x W durationOf amountOf amounts room passes least boundBy judge resultsTo resultOf holds boundsBy alwaysNone
 always-none-is-shut-out = apart green (alwaysNone sheetA) (boundsOf sheetA) 0 1 refl refl (λ e. omega arith)
 
 pub always-deadline-is-shut-out : NoneMeets (alwaysDeadline sheetA) (boundsOf sheetA)
-unfolding allOf sum upto legalRow legalAt legal q X x W durationOf amountOf amounts room passes least boundBy judge resultsTo resultOf holds judged boundsBy alwaysDeadline
+unfolding allOf sum upto legalRow legalAt legal q X x W durationOf amountOf amounts room passes least boundBy judge resultsTo resultOf holds boundsBy alwaysDeadline
 always-deadline-is-shut-out = apart (boundAt 0) (alwaysDeadline sheetA) (boundsOf sheetA) 5 2 refl refl (λ e. omega arith)
 
 -- one answer for every sheet: sheet A holds, and sheet C does not
 pub one-verdict-is-shut-out : (one : Answer) → ((h : Sheet) → one ≡ boundsOf h) → ⊥
-unfolding allOf sum upto legalRow legalAt legal q X x W durationOf amountOf amounts room passes least boundBy judge resultsTo resultOf holds judged boundsBy
+unfolding allOf sum upto legalRow legalAt legal q X x W durationOf amountOf amounts room passes least boundBy judge resultsTo resultOf holds boundsBy
 one-verdict-is-shut-out one e = apart green (boundsOf sheetA) (boundsOf sheetC) 1 0 refl refl (λ f. omega arith) one (e sheetA) (e sheetC)
 
 -- a row below one without a bound is not reached
 pub goes-on-is-shut-out : NoneMeets (goesOn afterNone) (boundsOf afterNone)
-unfolding allOf sum upto legalRow legalAt legal q X x W durationOf amountOf amounts room passes least boundBy judge resultsTo resultOf holds judged boundsBy judgedOn goesOn
+unfolding allOf sum upto legalRow legalAt legal q X x W durationOf amountOf amounts room passes least boundBy judge resultsTo resultOf holds boundsBy judgedOn goesOn
 goes-on-is-shut-out = apart (boundAt 2) (goesOn afterNone) (boundsOf afterNone) 2 0 refl refl (λ e. omega arith)
 
 -- a sheet of zeros is not legal
@@ -92,11 +86,11 @@ refused-by-16-is-shut-out = apart (λ (a : Answer). numberOf (a .0)) refusedBy16
 -- ---- `bounds_on`
 
 pub list-untouched-is-shut-out : NoneMeets (listUntouched listF (9 ∷ 9 ∷ [])) (boundsOn listF (9 ∷ 9 ∷ []))
-unfolding allOf sum upto legalRow legalAt legal q X x W durationOf amountOf amounts room passes least boundBy judge resultsTo resultOf holds judged boundsBy rowIn sheetIn filled pairCell resultCell resultsOn boundsOn listUntouched
+unfolding allOf sum upto legalRow legalAt legal q X x W durationOf amountOf amounts room passes least boundBy judge resultsTo resultOf holds boundsBy rowIn sheetIn filled pairCell resultCell resultsOn boundsOn listUntouched
 list-untouched-is-shut-out = apart (listAt 1) (listUntouched listF (9 ∷ 9 ∷ [])) (boundsOn listF (9 ∷ 9 ∷ [])) 9 1 refl refl (λ e. omega arith)
 
 pub past-left-is-shut-out : NoneMeets (pastLeft listF (9 ∷ 9 ∷ 9 ∷ [])) (boundsOn listF (9 ∷ 9 ∷ 9 ∷ []))
-unfolding allOf sum upto legalRow legalAt legal q X x W durationOf amountOf amounts room passes least boundBy judge resultsTo resultOf holds judged boundsBy rowIn sheetIn filled pairCell resultCell resultsOn boundsOn pastLeft
+unfolding allOf sum upto legalRow legalAt legal q X x W durationOf amountOf amounts room passes least boundBy judge resultsTo resultOf holds boundsBy rowIn sheetIn filled pairCell resultCell resultsOn boundsOn pastLeft
 past-left-is-shut-out = apart (listAt 2) (pastLeft listF (9 ∷ 9 ∷ 9 ∷ [])) (boundsOn listF (9 ∷ 9 ∷ 9 ∷ [])) 9 0 refl refl (λ e. omega arith)
 
 -- ---- `judge_bytes`
@@ -104,9 +98,9 @@ past-left-is-shut-out = apart (listAt 2) (pastLeft listF (9 ∷ 9 ∷ 9 ∷ []))
 -- no bytes, a list of labels, and no room for results
 pub room-ignored-is-shut-out : NoneMeets (roomIgnored [] [] (9 ∷ 9 ∷ []) []) (judgedBytes [] [] (9 ∷ 9 ∷ []) [])
 unfolding begins headBy sheetBy intoLists readInto judgedBytes roomIgnored
-room-ignored-is-shut-out = apart refusalOf (roomIgnored [] [] (9 ∷ 9 ∷ []) []) (judgedBytes [] [] (9 ∷ 9 ∷ []) []) 1 15 refl refl (λ e. omega arith)
+room-ignored-is-shut-out = apart (λ (a : Found). numberOf (a .0)) (roomIgnored [] [] (9 ∷ 9 ∷ []) []) (judgedBytes [] [] (9 ∷ 9 ∷ []) []) 1 15 refl refl (λ e. omega arith)
 
 -- no bytes, and a sheet's list of one number
 pub cleared-on-refusal-is-shut-out : NoneMeets (clearedOnRefusal [] (9 ∷ []) [] []) (judgedBytes [] (9 ∷ []) [] [])
 unfolding begins upto filled headBy sheetBy intoLists readInto judgedBytes clearedOnRefusal
-cleared-on-refusal-is-shut-out = apart firstNumber (clearedOnRefusal [] (9 ∷ []) [] []) (judgedBytes [] (9 ∷ []) [] []) 0 9 refl refl (λ e. omega arith)
+cleared-on-refusal-is-shut-out = apart (λ (a : Found). getD (a .1 .1 .0) 0 0) (clearedOnRefusal [] (9 ∷ []) [] []) (judgedBytes [] (9 ∷ []) [] []) 0 9 refl refl (λ e. omega arith)

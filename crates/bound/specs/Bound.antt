@@ -92,17 +92,13 @@ wordIn j = word (j .result)
 abbrev pub answer : Results → Answer
 answer r = (outcome (r .refusal), r .holds, map wordIn (r .rows))
 
--- The answer to a legal sheet: each row's result, and past the rows not reached.
-unfoldable pub judged : Test → Sheet → Answer
-judged test h = (accepted, holds test h, upto (h .count) (resultOf test h) allUnreached)
-
--- The answer to any other: refusal 10, it does not hold, and no row is reached.
+-- The answer to a sheet that is not legal: refusal 10, it does not hold, and no row is reached.
 abbrev pub notLegal : Answer
 notLegal = (refused 10 0, false, allUnreached)
 
--- The bounds of a sheet that is handed over, by a test.
+-- The bounds of a sheet that is handed over, by a test: of a legal one each row's result, and past the rows not reached.
 unfoldable pub boundsBy : Test → Sheet → Answer
-boundsBy test h = pick (legal h) (judged test h) notLegal
+boundsBy test h = pick (legal h) (accepted, holds test h, upto (h .count) (resultOf test h) allUnreached) notLegal
 
 -- The bounds of a sheet by the test of document 01.
 abbrev pub boundsOf : Sheet → Answer

@@ -8,7 +8,7 @@ use Rattle.sheet.specs.declared.row.Sheet.{Sheet}
 use Rattle.reader.specs.Answers.{reading}
 use Rattle.reader.specs.Lists.{readInto}
 use Rattle.bound.specs.Test.{passes}
-use Rattle.bound.specs.Bound.{Word, bound, none, unreached, resultOf, allUnreached, Answer, boundsOf}
+use Rattle.bound.specs.Bound.{Word, bound, none, unreached, valueOf, resultOf, allUnreached, Answer, boundsOf}
 
 -- A result's word as a number: 0 unreached, 1 bound, 2 none.
 abbrev pub wordNumber : Word → ℕ
@@ -18,9 +18,7 @@ wordNumber none = 2
 
 -- A result's bound, and zero where there is none.
 abbrev pub boundNumber : Word → ℕ
-boundNumber unreached = 0
-boundNumber (bound r) = r
-boundNumber none = 0
+boundNumber w = valueOf w .0
 
 -- The places that a list needs for the results of so many rows.
 abbrev pub resultsLong : ℕ → ℕ

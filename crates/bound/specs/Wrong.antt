@@ -7,9 +7,9 @@ use Rattle.sheet.specs.Legal.{rowAt}
 use Rattle.sheet.specs.Lists.{filled, sheetIn}
 use Rattle.sheet.specs.declared.row.Sheet.{Sheet}
 use Rattle.reader.specs.Lists.{readInto}
-use Rattle.bound.specs.Quantities.{slots, minus, lesser, on, together, less}
+use Rattle.bound.specs.Quantities.{minus, lesser, on, together, less}
 use Rattle.bound.specs.Test.{C, q, X, W, durationOf, amounts, room, Test, passes}
-use Rattle.bound.specs.Bound.{Word, bound, none, unreached, bounds, boundBy, resultOf, allUnreached, holds, Answer, boundsBy, boundsOf}
+use Rattle.bound.specs.Bound.{Word, bound, none, unreached, bounds, boundBy, allUnreached, holds, Answer, boundsOf}
 use Rattle.bound.specs.Lists.{resultsLong, resultCell}
 use Rattle.tables.specs.Tables.{row, sheetOf}
 

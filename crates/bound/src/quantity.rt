@@ -6,7 +6,8 @@ ghost use mir.Val.{Fits};
 ghost use mir.Syntax.{w64};
 ghost use Rattle.basis.specs.Limits.{mostProcessors};
 ghost use Rattle.basis.specs.Words.{pick};
-ghost use Rattle.bound.specs.Quantities.{widestSeparation, plus, minus, lesser, greater, times, into, left, on, noAmount, plusAmount, minusAmount, less, fine, partOf, lesserFine, pieces, onFine, fineAmount, plusFine, minusFine, reaches};
+ghost use Rattle.bound.specs.Quantities.{widestSeparation, plus, minus, lesser, greater, times, into, left, on, noAmount, plusAmount, minusAmount, less};
+ghost use Rattle.bound.specs.Inside.Parts.{fine, partOf, lesserFine, pieces, onFine, fineAmount, plusFine, minusFine, reaches};
 
 // Slots.
 pub struct Duration(pub(crate) u64);
@@ -111,7 +112,7 @@ impl Duration {
 
     // So many slots of every period of it, in 256ths.
     pub(crate) fn part(self, budget: u64, period: Duration) -> Fine
-        requires { ⌜ (self .0 ≤ 2 * widestSeparation) × (budget ≤ widestSeparation) × (1 ≤ period .0) ⌝ }
+        requires { ⌜ (Fits w64 (256 * (self .0 * budget))) × (1 ≤ period .0) ⌝ }
         ensures { λ r. ⌜ r .0 ≡ partOf self budget period .0 ⌝ }
     {
         Fine(256 * (self.0 * budget) / period.0)
@@ -119,7 +120,7 @@ impl Duration {
 
     // Its amount on so many processors: the only way from a duration to an amount.
     pub(crate) fn on(self, capped: u64) -> Amount
-        requires { ⌜ (self .0 ≤ widestSeparation) × (capped ≤ mostProcessors) ⌝ }
+        requires { ⌜ Fits w64 (self .0 * capped) ⌝ }
         ensures { λ r. ⌜ r .0 ≡ on self capped .0 ⌝ }
     {
         Amount(self.0 * capped)
@@ -196,7 +197,7 @@ impl Fine {
 
     // Its amount on so many processors.
     pub(crate) fn on(self, capped: u64) -> FineAmount
-        requires { ⌜ (self .0 ≤ 256 * widestSeparation) × (capped ≤ mostProcessors) ⌝ }
+        requires { ⌜ Fits w64 (self .0 * capped) ⌝ }
         ensures { λ r. ⌜ r .0 ≡ onFine self capped .0 ⌝ }
     {
         FineAmount(self.0 * capped)

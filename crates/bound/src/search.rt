@@ -18,7 +18,6 @@ use crate::row::row_inside;
 use crate::share::no_room;
 use crate::start::first_length;
 use crate::stretch::all_fail;
-use crate::test::passes;
 use crate::test::q_of;
 use crate::test::room_of;
 use crate::test::sum_above;
@@ -62,11 +61,12 @@ fn try_length(sheet: &[u64], results: &[u64], k: usize, length: Duration) -> Tri
     ensures { λ r. ⌜ Says (sheetIn (now (sheet .entry))) (heldIn (now (results .entry))) k length r ⌝ }
 {
     let sum = sum_above(sheet, results, k, length);
-    if passes(sheet, k, length, sum) {
+    let room = room_of(sheet, k, length);
+    if sum.is_less(room) {
         return Tried::Passes;
     }
     let next = next_length(sheet, results, k, length, sum);
-    let over = sum.minus(room_of(sheet, k, length));
+    let over = sum.minus(room);
     Tried::Next(next, over.spare())
 }
 

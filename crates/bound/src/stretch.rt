@@ -3,12 +3,10 @@
 ghost use mathlib.Core.Path.{_≡_};
 ghost use mathlib.Core.Bool.{true};
 ghost use Prim.Native.Nat.{_+_, _<_};
-ghost use mir.Val.{Fits};
-ghost use mir.Syntax.{w64};
 ghost use Rattle.sheet.specs.Legal.{Legal};
 ghost use Rattle.sheet.specs.Lists.{sheetIn};
 ghost use Rattle.bound.specs.Inside.Ready.{heldIn, Long, Lent, Ready, Length};
-ghost use Rattle.bound.specs.Inside.Skipping.{Stretches, Along, RowMeets, RowsMeet, bothEnds, lasts, AllFail};
+ghost use Rattle.bound.specs.Inside.Skipping.{Stretches, Along, RowMeets, RowsMeet, lasts, AllFail};
 use crate::quantity::Duration;
 use crate::quantity::FineAmount;
 use crate::row::row_inside;
@@ -121,23 +119,6 @@ fn ends_above(row: Row, bound: Duration, s: Stretch, q: u64, spare: FineAmount) 
     level
 }
 
-// The ends of some rows and of one more.
-fn both_ends(ends: Ends, more: Ends) -> Ends
-    requires { ⌜ (Fits w64 (ends .now .0 + more .now .0)) × (Fits w64 (ends .then .0 + more .then .0)) ⌝ }
-    ensures { λ r. ⌜ r ≡ bothEnds ends more ⌝ }
-{
-    let now = ends.now;
-    let then = ends.then;
-    let now_more = more.now;
-    let then_more = more.then;
-    let spare = more.spare;
-    Ends {
-        now: now.plus(now_more),
-        then: then.plus(then_more),
-        spare,
-    }
-}
-
 // The ends of the first `i` rows above row `k`, and of row `i`.
 fn with_row(sheet: &[u64], results: &[u64], k: usize, s: Stretch, i: usize, ends: Ends) -> Ends
     requires { ⌜ (Lent (now sheet) (now results)) × (Ready (sheetIn (now sheet)) (heldIn (now results)) k) × (Stretches (sheetIn (now sheet)) k s) × (i < k) × (RowsMeet (sheetIn (now sheet)) (heldIn (now results)) k s i ends) ⌝ }
@@ -146,9 +127,18 @@ fn with_row(sheet: &[u64], results: &[u64], k: usize, s: Stretch, i: usize, ends
     let q = q_of(sheet, k);
     let row = row_inside(sheet, i);
     let bound = Duration(results[i * 2 + 1]);
+    let now = ends.now;
+    let then = ends.then;
     let spare = ends.spare;
     let more = ends_above(row, bound, s, q, spare);
-    both_ends(ends, more)
+    let now_more = more.now;
+    let then_more = more.then;
+    let spare_more = more.spare;
+    Ends {
+        now: now.plus(now_more),
+        then: then.plus(then_more),
+        spare: spare_more,
+    }
 }
 
 // The ends of all rows above row `k`.

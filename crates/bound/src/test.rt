@@ -4,7 +4,7 @@ ghost use Prim.Native.Nat.{_≤_, _<_, min};
 ghost use Rattle.basis.specs.Limits.{mostProcessors};
 ghost use Rattle.sheet.specs.Legal.{Legal};
 ghost use Rattle.sheet.specs.Lists.{sheetIn};
-ghost use Rattle.bound.specs.Quantities.{widestSeparation, on, less};
+ghost use Rattle.bound.specs.Quantities.{widestSeparation, on};
 ghost use Rattle.bound.specs.Test.{q, X, x, W, durationOf, amounts, room};
 ghost use Rattle.bound.specs.Inside.Ready.{heldIn, Long, Lent, Ready, Length, Above, Spans};
 use crate::quantity::Amount;
@@ -62,17 +62,7 @@ pub(crate) fn work_of(row: Row, x: Duration) -> Duration
     jobs.plus(budget.lesser(rest))
 }
 
-// The duration of a row above with this bound.
-fn duration_above(row: Row, bound: Duration, length: Duration, X: Duration) -> Duration
-    requires { ⌜ Above row bound length ⌝ }
-    ensures { λ r. ⌜ r ≡ durationOf row bound length X ⌝ }
-{
-    let x = span_of(row, bound, length);
-    let W = work_of(row, x);
-    W.lesser(X)
-}
-
-// The amount of a row above with this bound.
+// The amount of a row above with this bound: its duration, on its capped threads.
 pub(crate) fn amount_above(
     row: Row,
     bound: Duration,
@@ -83,7 +73,9 @@ pub(crate) fn amount_above(
     requires { ⌜ (Above row bound length) × (X .0 ≤ widestSeparation) × (q ≤ mostProcessors) ⌝ }
     ensures { λ r. ⌜ r ≡ on (durationOf row bound length X) (min (row .threads) q) ⌝ }
 {
-    let duration = duration_above(row, bound, length, X);
+    let x = span_of(row, bound, length);
+    let W = work_of(row, x);
+    let duration = W.lesser(X);
     let capped = fewer(row.threads, q);
     duration.on(capped)
 }
@@ -115,13 +107,4 @@ pub(crate) fn room_of(sheet: &[u64], k: usize, length: Duration) -> Amount
     let q = q_of(sheet, k);
     let X = window_of(sheet, k, length);
     X.on(q)
-}
-
-// Whether a length passes, of which this is the sum.
-pub(crate) fn passes(sheet: &[u64], k: usize, length: Duration, sum: Amount) -> bool
-    requires { ⌜ (Long (now sheet)) × (Legal (sheetIn (now sheet))) × (k < sheetIn (now sheet) .count) × (Length (sheetIn (now sheet)) k length) ⌝ }
-    ensures { λ r. ⌜ r ≡ less sum (room (sheetIn (now (sheet .entry))) k length) ⌝ }
-{
-    let room = room_of(sheet, k, length);
-    sum.is_less(room)
 }

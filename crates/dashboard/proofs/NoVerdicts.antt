@@ -9,8 +9,8 @@ use Rattle.reader.proofs.LegalSheets.{accepted-is-legal}
 use Rattle.sheet.proofs.Legality.{legal-is}
 use Rattle.reader.proofs.Reach.{refusal-is-listed}
 use Rattle.bound.specs.Test.{passes}
-use Rattle.bound.specs.Bound.{Word, resultOf, holds, Answer, judged, boundsOf}
-use Rattle.bound.proofs.Answers.{legal-is-judged}
+use Rattle.bound.specs.Bound.{Word, resultOf, holds, Answer, boundsOf}
+use Rattle.bound.proofs.Answers.{legal-answer}
 use Rattle.page.specs.Decimals.{digits, decimal}
 use Rattle.dashboard.specs.Words.{space, newline, lineStart, line, ending, noVerdictWord, refusedBy, noVerdict}
 use Rattle.dashboard.specs.Labels.{ownLabel}
@@ -66,8 +66,7 @@ number-is-1-to-9 s rest t = by-outcome s never told
 
 -- the bounds never refuse a sheet that was read
 pub bounds-follow-the-reader : (s : List ℕ) → reading s .0 ≡ accepted → boundsOf (reading s .1) .0 ≡ accepted
-unfolding judged
-bounds-follow-the-reader s e = ap (λ (a : Answer). a .0) (legal-is-judged passes (reading s .1) (accepted-is-legal s e .0))
+bounds-follow-the-reader s e = ap (λ (a : Answer). a .0) (legal-answer passes (reading s .1) (accepted-is-legal s e .0))
 
 -- every row of a sheet that was read is reported
 read-is-reported : (s : List ℕ) → reading s .0 ≡ accepted → (i : ℕ) → i < reading s .1 .count → Reported (rowAt (reading s .1) i)

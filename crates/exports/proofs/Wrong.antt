@@ -14,7 +14,7 @@ use Rattle.sheet.specs.Lists.{filled, rowIn, sheetIn, rowCell, listCell}
 use Rattle.reader.specs.Form.{plain, labelBy, entryBy, entriesBy, bodyBy, headBy, sheetBy, labelHead}
 use Rattle.reader.specs.Answers.{labelIn}
 use Rattle.bound.specs.Test.{passes, amounts, amountOf, durationOf, room, q, X, x, W}
-use Rattle.bound.specs.Bound.{holds, resultOf, resultsTo, judge, boundBy, least, judged, boundsBy}
+use Rattle.bound.specs.Bound.{holds, resultOf, resultsTo, judge, boundBy, least, boundsBy}
 use Rattle.records.specs.Records.{legalRecord, isZero}
 use Rattle.records.specs.Steps.{released, fits, freeBelow, worked, older, aged, missed, ended, codeOf}
 use Rattle.records.specs.Checks.{checkRow}
@@ -70,12 +70,12 @@ label-told-zero-is-shut-out = apart toldNumber _ _ 0 14 refl refl (λ e. omega a
 -- ---- `giachimu_bounds`: sheet C does not hold
 
 pub bounds-hold-is-shut-out : NoneMeets (boundsHold listC (7, 9 ∷ 9 ∷ 9 ∷ 9 ∷ [])) (boundsIn listC (7, 9 ∷ 9 ∷ 9 ∷ 9 ∷ []))
-unfolding boundsHold boundsIn resultsIn sheetIn rowIn allOf upto legalRow legalAt legal sum q X x W durationOf amountOf amounts room passes least boundBy judge resultsTo resultOf holds judged boundsBy
+unfolding boundsHold boundsIn resultsIn sheetIn rowIn allOf upto legalRow legalAt legal sum q X x W durationOf amountOf amounts room passes least boundBy judge resultsTo resultOf holds boundsBy
 bounds-hold-is-shut-out = apart (λ (r : (ℕ × ℕ) × (ℕ × List ℕ)). r .1 .0) _ _ 1 0 refl refl (λ e. omega arith)
 
 -- no numbers are no legal sheet
 pub bounds-told-zero-is-shut-out : NoneMeets (toldZero (boundsIn [] (7, []))) (boundsIn [] (7, []))
-unfolding boundsIn resultsIn sheetIn rowIn allOf upto legalRow legalAt legal judged boundsBy
+unfolding boundsIn resultsIn sheetIn rowIn allOf upto legalRow legalAt legal boundsBy
 bounds-told-zero-is-shut-out = apart toldNumber _ _ 0 10 refl refl (λ e. omega arith)
 
 -- ---- `giachimu_fresh`

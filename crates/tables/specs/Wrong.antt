@@ -1,5 +1,5 @@
 -- Wrong tables, each right but for one thing.
-use Rattle.basis.specs.Prelude.{ℕ, List, [], _∷_, getD}
+use Rattle.basis.specs.Prelude.{ℕ, [], _∷_, getD}
 use Rattle.sheet.specs.Values.{noSheet}
 use Rattle.sheet.specs.declared.row.Sheet.{Sheet}
 use Rattle.tables.specs.Tables.{row, sheetOf, sheetA, sheetB, sheetC, sheetD, sheetF, fixedSheets}

@@ -1,7 +1,6 @@
 // Sheets A to F: constant arrays of row values, each handed out as a sheet.
 ghost use mathlib.Core.Path.{_≡_};
-ghost use Rattle.sheet.specs.Values.{noSheet};
-ghost use Rattle.tables.specs.Tables.{sheetA, sheetB, sheetC, sheetD, sheetE, sheetF, fixedSheet};
+ghost use Rattle.tables.specs.Tables.{fixedSheet, sheetWith};
 use basis::MOST_ROWS;
 use sheet::NO_ROW;
 use sheet::Row;
@@ -101,98 +100,17 @@ const F: [Row; 1] = [Row {
     budget: 1,
 }];
 
-// Sheet A.
-fn sheet_a() -> Sheet
-    ensures { λ r. ⌜ r ≡ sheetA ⌝ }
+// A sheet of no more than three rows; `NO_ROW` stands for each that is not there.
+fn sheet_with(processors: u64, count: u64, first: Row, second: Row, third: Row) -> Sheet
+    ensures { λ r. ⌜ r ≡ sheetWith processors count first second third ⌝ }
 {
     let mut rows = [NO_ROW; MOST_ROWS];
-    rows[0] = A[0];
-    rows[1] = A[1];
+    rows[0] = first;
+    rows[1] = second;
+    rows[2] = third;
     Sheet {
-        processors: 4,
-        count: 2,
-        rows,
-    }
-}
-
-// Sheet B.
-fn sheet_b() -> Sheet
-    ensures { λ r. ⌜ r ≡ sheetB ⌝ }
-{
-    let mut rows = [NO_ROW; MOST_ROWS];
-    rows[0] = B[0];
-    rows[1] = B[1];
-    rows[2] = B[2];
-    Sheet {
-        processors: 4,
-        count: 3,
-        rows,
-    }
-}
-
-// Sheet C.
-fn sheet_c() -> Sheet
-    ensures { λ r. ⌜ r ≡ sheetC ⌝ }
-{
-    let mut rows = [NO_ROW; MOST_ROWS];
-    rows[0] = C[0];
-    rows[1] = C[1];
-    Sheet {
-        processors: 2,
-        count: 2,
-        rows,
-    }
-}
-
-// Sheet D.
-fn sheet_d() -> Sheet
-    ensures { λ r. ⌜ r ≡ sheetD ⌝ }
-{
-    let mut rows = [NO_ROW; MOST_ROWS];
-    rows[0] = D[0];
-    rows[1] = D[1];
-    Sheet {
-        processors: 2,
-        count: 2,
-        rows,
-    }
-}
-
-// Sheet E.
-fn sheet_e() -> Sheet
-    ensures { λ r. ⌜ r ≡ sheetE ⌝ }
-{
-    let mut rows = [NO_ROW; MOST_ROWS];
-    rows[0] = E[0];
-    rows[1] = E[1];
-    Sheet {
-        processors: 4,
-        count: 2,
-        rows,
-    }
-}
-
-// Sheet F.
-fn sheet_f() -> Sheet
-    ensures { λ r. ⌜ r ≡ sheetF ⌝ }
-{
-    let mut rows = [NO_ROW; MOST_ROWS];
-    rows[0] = F[0];
-    Sheet {
-        processors: 1,
-        count: 1,
-        rows,
-    }
-}
-
-// No sheet: all zero.
-fn no_sheet() -> Sheet
-    ensures { λ r. ⌜ r ≡ noSheet ⌝ }
-{
-    let rows = [NO_ROW; MOST_ROWS];
-    Sheet {
-        processors: 0,
-        count: 0,
+        processors,
+        count,
         rows,
     }
 }
@@ -202,22 +120,22 @@ pub fn fixed_sheet(number: usize) -> Sheet
     ensures { λ r. ⌜ r ≡ fixedSheet number ⌝ }
 {
     if number == 0 {
-        return sheet_a();
+        return sheet_with(4, 2, A[0], A[1], NO_ROW);
     }
     if number == 1 {
-        return sheet_b();
+        return sheet_with(4, 3, B[0], B[1], B[2]);
     }
     if number == 2 {
-        return sheet_c();
+        return sheet_with(2, 2, C[0], C[1], NO_ROW);
     }
     if number == 3 {
-        return sheet_d();
+        return sheet_with(2, 2, D[0], D[1], NO_ROW);
     }
     if number == 4 {
-        return sheet_e();
+        return sheet_with(4, 2, E[0], E[1], NO_ROW);
     }
     if number == 5 {
-        return sheet_f();
+        return sheet_with(1, 1, F[0], NO_ROW, NO_ROW);
     }
-    no_sheet()
+    sheet_with(0, 0, NO_ROW, NO_ROW, NO_ROW)
 }

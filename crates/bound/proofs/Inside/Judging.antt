@@ -26,38 +26,15 @@ agree-self h n = record { processors = refl; rows = λ i b. refl }
 
 -- a test of row k looks at m, at rows 0 to k and at the bounds above k only
 abbrev pub Local : Test → Type 0
-Local test =
-    (h s : Sheet) (R Q : ℕ → Duration) (k : ℕ) → Agree h s (suc k) → ((i : ℕ) → i < k → R i ≡ Q i) → (L : Duration) → test h R k L ≡ test s Q k L
-
-module _ (h s : Sheet) (R Q : ℕ → Duration) (k : ℕ) (a : Agree h s (suc k)) (e : (i : ℕ) → i < k → R i ≡ Q i) (L : Duration) where
-  here : rowAt h k ≡ rowAt s k
-  here = a .rows k (omega arith)
-
-  q-agrees : q h k ≡ q s k
-  unfolding q
-  q-agrees = ap₂ (λ (m : ℕ) (r : Row). m - r .threads + 1) (a .processors) here
-
-  X-agrees : X h k L ≡ X s k L
-  unfolding X
-  X-agrees = ap (λ (r : Row). slots (L .0 - r .budget + 1)) here
-
-  amount-agrees : (i : ℕ) → i < k → amountOf h R k L i .0 ≡ amountOf s Q k L i .0
-  unfolding amountOf
-  amount-agrees i b =
-      let r : rowAt h i ≡ rowAt s i = a .rows i (omega arith) in
-      let v : R i ≡ Q i = e i b in
-      rw (r, v, X-agrees, q-agrees)
-
-  room-agrees : room h k L .0 ≡ room s k L .0
-  unfolding room
-  room-agrees = rw (X-agrees, q-agrees)
-
-  passes-agrees : passes h R k L ≡ passes s Q k L
-  unfolding passes amounts
-  passes-agrees = ap₂ ltb (sum-same k (λ i. amountOf h R k L i .0) (λ i. amountOf s Q k L i .0) amount-agrees) room-agrees
+Local test = (h s : Sheet) (R Q : ℕ → Duration) (k : ℕ) → Agree h s (suc k) → ((i : ℕ) → i < k → R i ≡ Q i) → (L : Duration) → test h R k L ≡ test s Q k L
 
 pub passes-local : Local passes
-passes-local h s R Q k a e L = passes-agrees h s R Q k a e L
+unfolding passes amounts amountOf room q X
+passes-local h s R Q k a e L =
+    let here : rowAt h k ≡ rowAt s k = a .rows k (omega arith) in
+    let there : h .processors ≡ s .processors = a .processors in
+    let own : (i : ℕ) → i < k → rowAt h i ≡ rowAt s i = λ i b. a .rows i (omega arith) in
+    rw (here, there) (ap₂ ltb (sum-same k _ _ (λ i b. rw (own i b, e i b))) refl)
 
 module _ (test : Test) (loc : Local test) where
   pub bound-agrees : (h s : Sheet) (R Q : ℕ → Duration) (k : ℕ) → Agree h s (suc k) → ((i : ℕ) → i < k → R i ≡ Q i) → boundBy test h R k ≡ boundBy test s Q k
@@ -102,18 +79,14 @@ module _ (test : Test) (loc : Local test) where
   result-is h k = judge-agrees h h (resultsTo test h k) (resultOf test h) k (agree-self h (suc k)) (result-to h k)
 
   module _ (h : Sheet) (k : ℕ) where
-    pub reached-result : allOf k (bounded (resultOf test h)) ≡ true → resultOf test h k ≡ boundBy test h (bounds (resultOf test h)) k
+    -- where each row above has a bound, and where one has none
+    pub result-where : (b : Bool) → allOf k (bounded (resultOf test h)) ≡ b → resultOf test h k ≡ pick b (boundBy test h (bounds (resultOf test h)) k) unreached
     unfolding judge
-    reached-result e = result-is h k ∙ ap (λ (b : Bool). pick b (boundBy test h (bounds (resultOf test h)) k) unreached) e
-
-    pub unreached-result : allOf k (bounded (resultOf test h)) ≡ false → resultOf test h k ≡ unreached
-    unfolding judge
-    unreached-result e = result-is h k ∙ ap (λ (b : Bool). pick b (boundBy test h (bounds (resultOf test h)) k) unreached) e
+    result-where b e = result-is h k ∙ rw e
 
     -- a row has a bound exactly where it is reached and has one
     pub bound-all : isBound (resultOf test h k) ≡ allOf (k + 1) (bounded (resultOf test h))
     bound-all = go (allOf k (bounded (resultOf test h))) refl ∙ sym (all-one-more k (bounded (resultOf test h))) where
-      go : (b : Bool) → allOf k (bounded (resultOf test h)) ≡ b
-          → isBound (resultOf test h k) ≡ both (allOf k (bounded (resultOf test h))) (isBound (resultOf test h k))
+      go : (b : Bool) → allOf k (bounded (resultOf test h)) ≡ b → isBound (resultOf test h k) ≡ both (allOf k (bounded (resultOf test h))) (isBound (resultOf test h k))
       go true t = rw t
-      go false t = rw t (ap isBound (unreached-result t))
+      go false t = rw t (ap isBound (result-where false t))

@@ -1,7 +1,6 @@
 -- The smallest number of which a test holds: found, passed over, in range; and the turns of the search.
 -- Assumes nothing.
-use Rattle.basis.specs.Prelude.{ℕ, zero, suc, _+_, _-_, _≤_, _<_, _≡_, refl, sym, ap, _∙_, Bool, true, false, ⊎-elim, eq-or-lt-of-le, arith}
-use Rattle.basis.specs.Words.{pick}
+use Rattle.basis.specs.Prelude.{ℕ, zero, suc, _+_, _-_, _≤_, _<_, _≡_, refl, sym, _∙_, Bool, true, false, _⊎_, inl, inr, ⊎-elim, eq-or-lt-of-le, arith}
 use Rattle.basis.proofs.Inside.Words.{lt-or-le}
 use Rattle.sheet.specs.Legal.{rowAt}
 use Rattle.sheet.specs.declared.row.Row.{Row}
@@ -15,9 +14,13 @@ use Rattle.bound.specs.declared.quantity.FineAmount.{FineAmount}
 use Rattle.bound.specs.declared.search.Tried.{Tried}
 use Rattle.bound.specs.declared.search.Tried.the-variants.{Passes, Next}
 
--- none is no bound
-pub none-no-bound : {A : Type 0} {r : ℕ} → none ≡ bound r → A
-none-no-bound e = let z : _≡_ {A = ℕ} 0 1 = cc in absurd (omega arith)
+-- what cannot be: two words for one result
+pub never : {A : Type 0} → _≡_ {A = ℕ} 0 1 → A
+never z = absurd (omega arith)
+
+-- a test that is told to hold does
+pub told-true : (t b : Bool) → t ≡ b → t ≡ true → b ≡ true
+told-true t b e f = sym e ∙ f
 
 -- ---- the numbers from l on, below e
 
@@ -49,46 +52,34 @@ module _ (p : ℕ → Bool) where
     pub holds : p r ≡ true
     pub first : (j : ℕ) → l ≤ j → j < r → p j ≡ false
 
-  pub least-found : (n l r : ℕ) → least p l n ≡ bound r → Smallest l (l + n) r
-  unfolding least
-  least-found zero l r e = none-no-bound e
-  least-found (suc n) l r e = go (p l) refl e (least-found n (suc l) r) where
-    go : (b : Bool) → p l ≡ b → pick b (bound l) (least p (suc l) n) ≡ bound r → (least p (suc l) n ≡ bound r → Smallest (suc l) (suc l + n) r) → Smallest l (l + suc n) r
-    go true t g f =
-        let z : l ≡ r = cc in
-        record { low = omega arith; high = omega arith; holds = rw z at t; first = λ j a b. absurd (omega arith) }
-    go false t g f =
-        let s = f g in
-        record {
-          low = omega (arith, s .low);
-          high = omega (arith, s .high);
-          holds = s .holds;
-          first = λ j a b. ⊎-elim (λ q. rw q at t) (λ q. s .first j q b) (eq-or-lt-of-le a);
-        }
-
   pub smallest-is-least : (l e r : ℕ) → Smallest l e r → least p l (e - l) ≡ bound r
-  smallest-is-least l e r s = least-skip (r - l) l r e (omega (arith, s .low)) (s .first) ∙ least-hit r e (s .high) (s .holds)
-
-  -- where none is found, none holds
-  pub none-holds : (n l : ℕ) → least p l n ≡ none → (j : ℕ) → l ≤ j → j < l + n → p j ≡ false
-  unfolding least
-  none-holds zero l e j a b = absurd (omega arith)
-  none-holds (suc n) l e j a b = go (p l) refl e (λ g c. none-holds n (suc l) g j c (omega arith)) where
-    go : (t : Bool) → p l ≡ t → pick t (bound l) (least p (suc l) n) ≡ none → (least p (suc l) n ≡ none → suc l ≤ j → p j ≡ false) → p j ≡ false
-    go true t g f = none-no-bound (sym g)
-    go false t g f = ⊎-elim (λ s. rw s at t) (λ s. f g s) (eq-or-lt-of-le a)
+  smallest-is-least l e r s = least-skip (r - l) l r e (omega arith) (s .first) ∙ least-hit r e (s .high) (s .holds)
 
   pub none-is-least : (l e : ℕ) → ((j : ℕ) → l ≤ j → j < e → p j ≡ false) → least p l (e - l) ≡ none
   none-is-least l e f = ⊎-elim (λ h. least-skip (e - l) l e e (omega arith) f ∙ least-none e e (omega arith)) (λ h. least-none l e h) (lt-or-le l e)
 
-  -- it is one of the two
-  pub least-never-unreached : (n l : ℕ) → least p l n ≡ unreached → ⊥
-  unfolding least
-  least-never-unreached zero l e = let z : _≡_ {A = ℕ} 0 1 = cc in omega arith
-  least-never-unreached (suc n) l e = go (p l) e (least-never-unreached n (suc l)) where
-    go : (b : Bool) → pick b (bound l) (least p (suc l) n) ≡ unreached → (least p (suc l) n ≡ unreached → ⊥) → ⊥
-    go true g f = let z : _≡_ {A = ℕ} 0 1 = cc in omega arith
-    go false g f = f g
+  -- there is a smallest, or none
+  some-or-none : (n l e : ℕ) → e - l ≡ n → ((r : ℕ) × (Smallest l e r)) ⊎ ((j : ℕ) → l ≤ j → j < e → p j ≡ false)
+  some-or-none zero l e z = inr (λ j a b. absurd (omega arith))
+  some-or-none (suc n) l e z = go (p l) refl (some-or-none n (suc l) e (omega arith)) where
+    go : (b : Bool) → p l ≡ b → ((r : ℕ) × (Smallest (suc l) e r)) ⊎ ((j : ℕ) → suc l ≤ j → j < e → p j ≡ false)
+        → ((r : ℕ) × (Smallest l e r)) ⊎ ((j : ℕ) → l ≤ j → j < e → p j ≡ false)
+    go true t f = inl (l, record { low = omega arith; high = omega arith; holds = t; first = λ j a b. absurd (omega arith) })
+    go false t (inl (r, s)) =
+        inl (r, record { low = omega arith; high = s .high; holds = s .holds; first = λ j a b. ⊎-elim (λ q. rw q at t) (λ q. s .first j q b) (eq-or-lt-of-le a) })
+    go false t (inr f) = inr (λ j a b. ⊎-elim (λ q. rw q at t) (λ q. f j q b) (eq-or-lt-of-le a))
+
+  module _ (l e : ℕ) where
+    -- so the one that is found is the smallest; where none is found, none holds; and it is one of the two
+    pub least-found : (r : ℕ) → least p l (e - l) ≡ bound r → Smallest l e r
+    least-found r g =
+        ⊎-elim (λ c. let z : c .0 ≡ r = cc (smallest-is-least l e (c .0) (c .1)) in rw z at (c .1)) (λ f. never (cc (none-is-least l e f))) (some-or-none (e - l) l e refl)
+
+    pub none-holds : least p l (e - l) ≡ none → (j : ℕ) → l ≤ j → j < e → p j ≡ false
+    none-holds g = ⊎-elim (λ c. never (cc (smallest-is-least l e (c .0) (c .1)))) (λ f. f) (some-or-none (e - l) l e refl)
+
+    pub least-never-unreached : least p l (e - l) ≡ unreached → ⊥
+    least-never-unreached g = ⊎-elim (λ c. never (cc (smallest-is-least l e (c .0) (c .1)))) (λ f. never (cc (none-is-least l e f))) (some-or-none (e - l) l e refl)
 
 pub least-same : (p s : ℕ → Bool) → ((l : ℕ) → p l ≡ s l) → (n l : ℕ) → least p l n ≡ least s l n
 unfolding least
@@ -100,38 +91,30 @@ least-same p s e (suc n) l = rw (e l, least-same p s e n (suc l))
 pub search-starts : (h : Sheet) (R : ℕ → Duration) (k : ℕ) (L : Duration) → Starts h R k L → least (passesAt passes h R k) (L .0) (rowAt h k .deadline + 1 - L .0) ≡ boundBy passes h R k
 unfolding boundBy
 search-starts h R k L s =
-    sym (least-skip (passesAt passes h R k) (L .0 - rowAt h k .budget) (rowAt h k .budget) (L .0) (rowAt h k .deadline + 1) (omega (arith, s .low)) (s .fails))
+    sym (least-skip (passesAt passes h R k) (L .0 - rowAt h k .budget) (rowAt h k .budget) (L .0) (rowAt h k .deadline + 1) (omega arith) (s .fails))
 
 module _ (h : Sheet) (R : ℕ → Duration) (k : ℕ) (row : Row) (er : row ≡ rowAt h k) where
-  same-deadline : row .deadline ≡ rowAt h k .deadline
-  same-deadline = ap (λ (z : Row). z .deadline) er
-
   pub length-of-row : (L : Duration) → rowAt h k .budget ≤ L .0 → L .0 ≤ row .deadline → Length h k L
-  length-of-row L a b = record { low = a; high = omega (arith, same-deadline) }
+  length-of-row L a b = record { low = a; high = rw er at b }
 
   module _ (L : Duration) where
     told-passes : (t : Tried) → Says h R k L t → t ≡ Passes → passes h R k L ≡ true
     told-passes Passes s e = s
-    told-passes (Next n o) s e = absurd (let z : _≡_ {A = ℕ} 0 1 = cc in omega arith)
+    told-passes (Next n o) s e = never (cc)
 
     pub told-next : (t : Tried) (n : Duration) (o : FineAmount) → Says h R k L t → t ≡ Next n o → Skips h R k L n
-    told-next Passes n o s e = absurd (let z : _≡_ {A = ℕ} 0 1 = cc in omega arith)
+    told-next Passes n o s e = never (cc)
     told-next (Next m u) n o s e = let z : m ≡ n = cc in rw z at s
 
     pub search-less : (n : Duration) → Skips h R k L n → L .0 ≤ row .deadline → rowAt h k .deadline + 1 - n .0 < rowAt h k .deadline + 1 - L .0
-    search-less n s b = omega (arith, same-deadline, s .further)
-
-    pub search-low : (n : Duration) → Skips h R k L n → rowAt h k .budget ≤ L .0 → rowAt h k .budget ≤ n .0
-    search-low n s b = omega (arith, s .further)
+    search-less n s b = omega (arith, rw er at b)
 
     module _ (i : least (passesAt passes h R k) (L .0) (rowAt h k .deadline + 1 - L .0) ≡ boundBy passes h R k) where
       pub search-found : (t : Tried) → Says h R k L t → t ≡ Passes → L .0 ≤ row .deadline → bound (L .0) ≡ boundBy passes h R k
-      search-found t s e b = sym (least-hit (passesAt passes h R k) (L .0) (rowAt h k .deadline + 1) (omega (arith, same-deadline)) (told-passes t s e)) ∙ i
+      search-found t s e b = sym (least-hit (passesAt passes h R k) (L .0) (rowAt h k .deadline + 1) (omega (arith, rw er at b)) (told-passes t s e)) ∙ i
 
-      pub search-more : (n : Duration) → Skips h R k L n
-          → least (passesAt passes h R k) (n .0) (rowAt h k .deadline + 1 - n .0) ≡ boundBy passes h R k
-      search-more n w =
-          sym (least-skip (passesAt passes h R k) (n .0 - L .0) (L .0) (n .0) (rowAt h k .deadline + 1) (omega (arith, w .further)) (w .fails)) ∙ i
+      pub search-more : (n : Duration) → Skips h R k L n → least (passesAt passes h R k) (n .0) (rowAt h k .deadline + 1 - n .0) ≡ boundBy passes h R k
+      search-more n w = sym (least-skip (passesAt passes h R k) (n .0 - L .0) (L .0) (n .0) (rowAt h k .deadline + 1) (omega arith) (w .fails)) ∙ i
 
       pub search-ends : row .deadline < L .0 → none ≡ boundBy passes h R k
-      search-ends b = sym (least-none (passesAt passes h R k) (L .0) (rowAt h k .deadline + 1) (omega (arith, same-deadline))) ∙ i
+      search-ends b = sym (least-none (passesAt passes h R k) (L .0) (rowAt h k .deadline + 1) (omega (arith, rw er at b))) ∙ i

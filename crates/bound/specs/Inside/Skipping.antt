@@ -5,7 +5,8 @@ use Rattle.basis.specs.Words.{pick}
 use Rattle.sheet.specs.Legal.{rowAt}
 use Rattle.sheet.specs.declared.row.Row.{Row}
 use Rattle.sheet.specs.declared.row.Sheet.{Sheet}
-use Rattle.bound.specs.Quantities.{widestSeparation, slots, plus, minus, lesser, left, on, fine, partOf, lesserFine, plusFine}
+use Rattle.bound.specs.Quantities.{widestSeparation, slots, plus, minus, lesser, left, on}
+use Rattle.bound.specs.Inside.Parts.{fine, partOf, lesserFine}
 use Rattle.bound.specs.Test.{T, C, X, x, W, durationOf, amounts, passes}
 use Rattle.bound.specs.Inside.Ready.{Length, Above}
 use Rattle.bound.specs.declared.quantity.Duration.{Duration}
@@ -110,10 +111,6 @@ pub record RowsMeet (h : Sheet) (R : ℕ → Duration) (k : ℕ) (s : Stretch) (
   pub small-now : ends .now .0 ≤ n * (256 * (widestSeparation * mostProcessors))
   pub small-then : ends .then .0 ≤ n * (256 * (widestSeparation * mostProcessors))
   pub under : Under (way s) (ends .now .0) (ends .then .0) (λ d. 256 * amounts h R k (plus (s .from) (slots d)) n .0)
-
--- The ends of some rows and of more.
-unfoldable pub bothEnds : Ends → Ends → Ends
-bothEnds a b = record { now = plusFine (a .now) (b .now); then = plusFine (a .then) (b .then); spare = b .spare }
 
 -- A row's present separation lasts to the end of a stretch.
 unfoldable pub lasts : Row → Duration → Stretch → Bool

@@ -1,6 +1,6 @@
 -- What each function says, from what its calls say.
 -- Assumes nothing.
-use Rattle.basis.specs.Prelude.{ℕ, zero, suc, _+_, _-_, _*_, _^_, _≤_, _<_, _≡_, refl, ap, ap₂, _∙_, Bool, true, false, List, _++_, add-one, le-antisymm, add-sub-cancel-left, arith, length, take, drop, w64, Fits}
+use Rattle.basis.specs.Prelude.{ℕ, zero, suc, _+_, _-_, _*_, _^_, _≤_, _<_, _≡_, refl, ap, ap₂, _∙_, Bool, true, false, List, _++_, add-one, le-antisymm, add-sub-cancel-left, arith, length, ne-eqb, take, drop, w64, Fits}
 use Rattle.sheet.specs.Lists.{numberAt}
 use Rattle.sheet.specs.declared.row.Sheet.{Sheet}
 use Rattle.reader.specs.Answers.{labelIn}
@@ -11,7 +11,6 @@ use Rattle.reader.proofs.Inside.LentParts.{inside}
 use Rattle.bound.specs.Test.{passes}
 use Rattle.bound.specs.Bound.{Word, resultOf, holds}
 use Rattle.bound.specs.Lists.{resultsLong, wordAt}
-use Rattle.bound.proofs.Lists.{unreached-read, bound-read, none-read}
 use Rattle.page.specs.Decimals.{decimal}
 use Rattle.dashboard.specs.Words.{boundWord, noneWord, unreachedWord, resultWords, line, holdsLine, failsLine, ending}
 use Rattle.dashboard.specs.Labels.{ownLabel, numbered, lineLabel}
@@ -57,16 +56,16 @@ module _ (p q : Page) (labels : Labels) (s : List ℕ) (i : ℕ) where
 
 module _ (p q : Page) (results : List ℕ) (i : ℕ) where
   pub unreached-said : numberAt results (i * 2) ≡ 0 → q ≡ said p unreachedWord → q ≡ said p (resultWords (wordAt results i))
-  unfolding resultWords
-  unreached-said h e = e ∙ ap (λ (w : Word). said p (resultWords w)) (unreached-read results i h)
+  unfolding resultWords wordAt
+  unreached-said h e = rw h e
 
   pub bound-said : (o : Page) → numberAt results (i * 2) ≡ 1 → o ≡ said p boundWord → q ≡ said o (decimal (numberAt results (i * 2 + 1))) → q ≡ said p (resultWords (wordAt results i))
-  unfolding resultWords
-  bound-said o h e f = two-said p o q boundWord (decimal (numberAt results (i * 2 + 1))) e f ∙ ap (λ (w : Word). said p (resultWords w)) (bound-read results i h)
+  unfolding resultWords wordAt
+  bound-said o h e f = rw h (two-said p o q boundWord (decimal (numberAt results (i * 2 + 1))) e f)
 
   pub none-said : (numberAt results (i * 2) ≡ 0 → ⊥) → (numberAt results (i * 2) ≡ 1 → ⊥) → q ≡ said p noneWord → q ≡ said p (resultWords (wordAt results i))
-  unfolding resultWords
-  none-said a b e = e ∙ ap (λ (w : Word). said p (resultWords w)) (none-read results i a b)
+  unfolding resultWords wordAt
+  none-said a b e = rw (ne-eqb (numberAt results (i * 2)) 0 a, ne-eqb (numberAt results (i * 2)) 1 b) e
 
 -- the last line
 module _ (p q : Page) (yes : Bool) where

@@ -152,20 +152,16 @@ module _ (i : ℕ) (i<n : i < fixedCount) (h : Sheet) (eh : h ≡ fixedSheet i) 
       e ∙ legal-is-put list (zeros (resultsLong mostRows)) (ap legal handed-so ∙ legal-so i i<n h eh) (rw handed-so (omega (arith, fixed-few i i<n h eh, zeros-long (resultsLong mostRows))))
       ∙ ap (λ (x : Sheet). (accepted, (holds passes x, filled (resultCell (words x)) (zeros (resultsLong mostRows))))) handed-so
 
-  whole-list : filled (resultCell (words h)) (zeros (resultsLong mostRows)) ≡ upto (resultsLong mostRows) (resultCell (words h)) (zeros (resultsLong mostRows))
-  unfolding filled
-  whole-list = ap (λ (k : ℕ). upto k (resultCell (words h)) (zeros (resultsLong mostRows))) (zeros-long (resultsLong mostRows))
-
   pub fixed-said : (p q : Page) → q ≡ said p (lines (lineLabel Numbered prefix) (wordAt rs) (h .count) ++ ending (r .holds)) → q ≡ said p (board (numbered prefix) (fixedSheet i))
-  unfolding lineLabel
+  unfolding lineLabel filled
   fixed-said p q f =
       f ∙ ap (said p) (board-is h (numbered prefix) (wordAt rs) (h .count) (r .holds) refl word-so (ap (λ (x : Outcome × (Bool × List ℕ)). x .1 .0) judged-so))
       ∙ ap (λ (x : Sheet). said p (board (numbered prefix) x)) eh
     where
       word-so : (k : ℕ) → k < h .count → wordAt rs k ≡ resultOf passes h k
       word-so k m =
-          word-comes-back (words h) rs (zeros (resultsLong mostRows)) mostRows k (ap (λ (x : Outcome × (Bool × List ℕ)). x .1 .1) judged-so ∙ whole-list) (omega (arith, zeros-long (resultsLong mostRows))) (omega (arith, fixed-few i i<n h eh))
-          ∙ word-there h k (legal-is h (legal-so i i<n h eh)) m
+          word-comes-back (words h) rs (zeros (resultsLong mostRows)) (length (zeros (resultsLong mostRows))) k (ap (λ (x : Outcome × (Bool × List ℕ)). x .1 .1) judged-so) (omega arith) (omega (arith, fixed-few i i<n h eh, zeros-long (resultsLong mostRows)))
+          ∙ word-there passes h k (legal-is h (legal-so i i<n h eh)) m
 
 pub section-said : (p₀ p₁ p₂ p₃ : Page) (i : ℕ) → p₁ ≡ said p₀ (letter i) → p₂ ≡ said p₁ newline → p₃ ≡ said p₂ (board (numbered prefix) (fixedSheet i)) → p₃ ≡ said p₀ (section i)
 unfolding section

@@ -4,7 +4,7 @@ use Rattle.sheet.specs.Lists.{sheetIn}
 use Rattle.bound.specs.Inside.Ready.{heldIn}
 use Rattle.bound.specs.Inside.Skipping.{Paces}
 use Rattle.bound.proofs.Amounts.{row-above, capped-small}
-use Rattle.bound.proofs.Paces.{paces-none, paces-more, width-small, paces-done}
+use Rattle.bound.proofs.Paces.{paces-none, paces-more, paces-done}
 use Rattle.bound.proofs.pace.pace_above.Statement.{statement}
 use Rattle.bound.proofs.pace.pace_above.Tie as tie
 
@@ -18,5 +18,5 @@ pub pace-above-spec : {M : Type 1} → statement M
 pace-above-spec =
     tie.close (tie.spec Inv-loop μ-loop (λ c κs. search needs) (λ c κs. search needs) (λ c. (search needs, search paces-none))
     (λ c κs. search needs) (λ c. search needs) (λ c. search needs) (λ c. search needs) (λ c. search needs) (λ c κs. search row-above)
-    (λ c κs. search needs) (λ c κs. (search width-small, search capped-small)) (λ c. search needs) (λ c. search needs)
+    (λ c κs. search needs) (λ c κs. (search needs, search capped-small)) (λ c. search needs) (λ c. search needs)
     (λ c. (search needs, search paces-more)) (λ c. search paces-done))

@@ -5,7 +5,7 @@ use Rattle.sheet.specs.Lists.{sheetIn}
 use Rattle.bound.specs.Test.{passes}
 use Rattle.bound.specs.Bound.{least, passesAt, boundBy}
 use Rattle.bound.specs.Inside.Ready.{heldIn}
-use Rattle.bound.proofs.Inside.Lengths.{search-starts, length-of-row, search-less, search-low, told-next, search-found, search-more, search-ends}
+use Rattle.bound.proofs.Inside.Lengths.{search-starts, length-of-row, search-less, told-next, search-found, search-more, search-ends}
 use Rattle.bound.proofs.search.bound_of.Statement.{statement}
 use Rattle.bound.proofs.search.bound_of.Tie as tie
 
@@ -22,4 +22,4 @@ bound-of-spec =
     tie.close (tie.spec Inv-loop μ-loop (λ c κs. search needs) (λ c κs. search needs)
     (λ c. (search needs, search search-starts)) (λ c κs. (search needs, search needs, search length-of-row)) (λ c. search needs) (λ c. search needs)
     (λ c. search search-found) (λ c κs. (search needs, search needs, search length-of-row, search told-next)) (λ c. search (search-less, le-of-lt))
-    (λ c. (search search-low, search search-more)) (λ c. search search-ends))
+    (λ c. (search needs, search search-more)) (λ c. search search-ends))

@@ -1,12 +1,12 @@
 -- `all_fail` says that all lengths of a stretch fail only where they do: its two ends decide. Assumes nothing.
 use Rattle.basis.specs.Prelude.{needs}
 use Rattle.bound.proofs.Amounts.{fine-room-fits}
-use Rattle.bound.proofs.Stretches.{now-rounds, then-rounds, stretch-told}
+use Rattle.bound.proofs.Stretches.{then-rounds, stretch-told}
 use Rattle.bound.proofs.stretch.all_fail.Statement.{statement}
 use Rattle.bound.proofs.stretch.all_fail.Tie as tie
 
 pub all-fail-spec : {M : Type 1} → statement M
 all-fail-spec =
     tie.close (tie.spec (λ c κs. search needs) (λ c κs. search needs) (λ c κs. search needs) (λ c κs. search needs)
-    (λ c κs. (search now-rounds, search fine-room-fits)) (λ c κs. (search then-rounds, search fine-room-fits)) (λ c. search stretch-told)
+    (λ c κs. (search needs, search fine-room-fits)) (λ c κs. (search then-rounds, search fine-room-fits)) (λ c. search stretch-told)
     (λ c. search needs))

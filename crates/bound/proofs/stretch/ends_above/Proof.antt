@@ -1,10 +1,10 @@
 -- `ends_above` has such ends, whichever it takes. Assumes nothing.
 use Rattle.basis.specs.Prelude.{needs}
-use Rattle.bound.proofs.RowLines.{told-true, meets-still}
+use Rattle.bound.proofs.Inside.Lengths.{told-true}
 use Rattle.bound.proofs.stretch.ends_above.Statement.{statement}
 use Rattle.bound.proofs.stretch.ends_above.Tie as tie
 
 pub ends-above-spec : {M : Type 1} → statement M
 ends-above-spec =
     tie.close (tie.spec (λ c κs. search needs) (λ c κs. (search needs, search told-true)) (λ c. search needs) (λ c κs. search needs)
-    (λ c κs. search needs) (λ c κs. search needs) (λ c κs. search needs) (λ c κs. search needs) (λ c. search meets-still) (λ c. search needs))
+    (λ c κs. search needs) (λ c κs. search needs) (λ c κs. search needs) (λ c κs. search needs) (λ c. search needs) (λ c. search needs))

@@ -1,9 +1,10 @@
 -- `room_of` is q × X. Assumes nothing.
 use Rattle.basis.specs.Prelude.{needs}
+use Rattle.bound.proofs.Durations.{amount-fits}
 use Rattle.bound.proofs.Amounts.{window-small, q-of-small, room-is}
 use Rattle.bound.proofs.test.room_of.Statement.{statement}
 use Rattle.bound.proofs.test.room_of.Tie as tie
 
 pub room-of-spec : {M : Type 1} → statement M
 room-of-spec =
-    tie.close (tie.spec (λ c κs. search needs) (λ c κs. search needs) (λ c κs. (search window-small, search q-of-small)) (λ c. search room-is))
+    tie.close (tie.spec (λ c κs. search needs) (λ c κs. search needs) (λ c κs. search (amount-fits, window-small, q-of-small)) (λ c. search room-is))
