@@ -1,10 +1,11 @@
--- What each step of a slot does to a row's record, as facts.
+-- What each step of a slot does to a row's job, as facts.
 -- Assumes nothing.
 use Rattle.basis.specs.Prelude.{ℕ, _+_, _-_, _≤_, _<_, _≡_, refl, sym, ap, _∙_, Bool, true, false, ltb, eqb, _⊎_, inl, inr, ⊎-elim, arith, lt-ltb, le-ltb, eq-eqb, ne-eqb, ltb-false, eqb-true, eqb-false}
 use Rattle.basis.specs.Words.{pick, both}
 use Rattle.basis.specs.Refusals.{accepted, refused}
 use Rattle.basis.proofs.Inside.Words.{lt-or-le}
 use Rattle.sheet.specs.declared.row.Row.{Row}
+use Rattle.records.specs.declared.record.Job.{Job}
 use Rattle.records.specs.declared.record.RowState.{RowState}
 use Rattle.records.specs.declared.steps.Aged.{Aged}
 use Rattle.records.specs.Records.{hasJob}
@@ -20,21 +21,21 @@ same-or-not a b = go (eqb a b) refl
     go false e = inr (eqb-false a b e)
 
 -- 1. releases
-pub released-none : (s : RowState) → released 0 s ≡ s
+pub released-none : (s : Job) → released 0 s ≡ s
 unfolding released
 released-none s = refl
 
-pub released-some : (r : ℕ) (s : RowState) → 1 ≤ r → released r s ≡ record { remaining = r; since = 0 }
+pub released-some : (r : ℕ) (s : Job) → 1 ≤ r → released r s ≡ record { remaining = r; since = 0 }
 unfolding released
 released-some r s l = rw (ne-eqb r 0 (λ e. omega arith))
 
 -- 3. running
-pub worked-most : (ran : Bool) (s : RowState) → worked ran s .remaining ≤ s .remaining
+pub worked-most : (ran : Bool) (s : Job) → worked ran s .remaining ≤ s .remaining
 unfolding worked
 worked-most true s = omega arith
 worked-most false s = omega arith
 
-pub worked-since : (ran : Bool) (s : RowState) → worked ran s .since ≡ s .since
+pub worked-since : (ran : Bool) (s : Job) → worked ran s .since ≡ s .since
 unfolding worked
 worked-since ran s = refl
 
@@ -54,7 +55,7 @@ pub older-most : (T since : ℕ) → older T since ≤ T
 older-most T since = ⊎-elim (λ l. omega (arith, older-below T since l)) (λ l. omega (arith, older-full T since l)) (lt-or-le since T)
 
 -- 5. the end: at the deadline nothing is left, and elsewhere what was left is
-module _ (row : Row) (s : RowState) where
+module _ (row : Row) (s : Job) where
   pub ended-at : s .since ≡ row .deadline → ended row s .remaining ≡ 0
   unfolding ended missed
   ended-at e = rw (eq-eqb (s .since) (row .deadline) e) (go (hasJob s) refl)
@@ -76,33 +77,33 @@ module _ (row : Row) (s : RowState) where
   ended-since = refl
 
 -- what an accepted release is
-pub release-allowed : (row : Row) (s : RowState) (r k : ℕ) → 1 ≤ r → checkRow row s r k ≡ accepted → (r ≤ row .budget) × (row .separation ≤ s .since)
+pub release-allowed : (row : Row) (s : RowState) (r k : ℕ) → 1 ≤ r → checkRow row s r k ≡ accepted → (r ≤ row .budget) × (row .separation ≤ s .job .since)
 unfolding checkRow
 release-allowed row s r k l e =
-    go (ltb (row .budget) r) refl (ltb (s .since) (row .separation)) refl (rw (ne-eqb r 0 (λ z. omega arith)) at e)
+    go (ltb (row .budget) r) refl (ltb (s .job .since) (row .separation)) refl (rw (ne-eqb r 0 (λ z. omega arith)) at e)
   where
-    go : (a : Bool) → ltb (row .budget) r ≡ a → (b : Bool) → ltb (s .since) (row .separation) ≡ b
-        → pick a (refused 12 k) (pick b (refused 13 k) accepted) ≡ accepted → (r ≤ row .budget) × (row .separation ≤ s .since)
+    go : (a : Bool) → ltb (row .budget) r ≡ a → (b : Bool) → ltb (s .job .since) (row .separation) ≡ b
+        → pick a (refused 12 k) (pick b (refused 13 k) accepted) ≡ accepted → (r ≤ row .budget) × (row .separation ≤ s .job .since)
     go true ea b eb f = let z : _≡_ {A = ℕ} 0 1 = cc in absurd (omega arith)
     go false ea true eb f = let z : _≡_ {A = ℕ} 0 1 = cc in absurd (omega arith)
     go false ea false eb f = (ltb-false _ _ ea, ltb-false _ _ eb)
 
 -- a slot takes one at most
-pub worked-least : (ran : Bool) (s : RowState) → s .remaining ≤ worked ran s .remaining + 1
+pub worked-least : (ran : Bool) (s : Job) → s .remaining ≤ worked ran s .remaining + 1
 unfolding worked
 worked-least true s = omega arith
 worked-least false s = omega arith
 
-pub worked-one : (ran : Bool) (s : RowState) → ran ≡ true → worked ran s .remaining ≡ s .remaining - 1
+pub worked-one : (ran : Bool) (s : Job) → ran ≡ true → worked ran s .remaining ≡ s .remaining - 1
 unfolding worked
 worked-one ran s e = rw e
 
-pub worked-none : (ran : Bool) (s : RowState) → ran ≡ false → worked ran s .remaining ≡ s .remaining
+pub worked-none : (ran : Bool) (s : Job) → ran ≡ false → worked ran s .remaining ≡ s .remaining
 unfolding worked
 worked-none ran s e = rw e
 
 -- `age_row`: at the deadline, and elsewhere
-module _ (row : Row) (s : RowState) (code since c : ℕ) (es : since ≡ older (row .separation) (s .since)) (ec : c ≡ codeAtEnd (s .remaining) since (row .deadline) code) where
+module _ (row : Row) (s : Job) (code since c : ℕ) (es : since ≡ older (row .separation) (s .since)) (ec : c ≡ codeAtEnd (s .remaining) since (row .deadline) code) where
   pub age-at : since ≡ row .deadline → _≡_ {A = Aged} (record { after = record { remaining = 0; since = since }; code = c }) (agedRow row s code)
   unfolding agedRow aged ended
   age-at e =
