@@ -3,9 +3,12 @@
 use Rattle.basis.specs.Prelude.{ℕ, _≤_, _<_, _≡_, refl, sym, ap, ap₂, _∙_, List, length, getD, arith}
 use Rattle.basis.specs.Refusals.{Outcome, accepted}
 use Rattle.basis.proofs.Inside.Upto.{upto-below}
+use Rattle.sheet.specs.declared.row.Row.{Row}
 use Rattle.sheet.specs.declared.row.Sheet.{Sheet}
+use Rattle.records.specs.declared.record.Job.{Job}
+use Rattle.records.specs.declared.record.RowState.{RowState}
 use Rattle.machine.specs.States.{State, recordAt}
-use Rattle.records.specs.Records.{noRecord}
+use Rattle.records.specs.Records.{recordOf, noRecord}
 use Rattle.records.specs.Steps.{released, ended}
 use Rattle.machine.specs.Slot.{freeAt, Given, begun, free, runs, reached, next, code}
 use Rattle.machine.specs.Checks.{checkSlot}
@@ -24,7 +27,7 @@ pub record AgreeTo (k : ℕ) (g g′ : Given) : Type 0 where
 -- then rows 0 to k begin, run, and end the slot alike
 module _ (k : ℕ) (g g′ : Given) (a : AgreeTo k g g′) (i : ℕ) (l : i ≤ k) where
   begun-agrees : begun g i ≡ begun g′ i
-  begun-agrees = ap₂ released (a .releases i l) (a .records i l)
+  begun-agrees = ap₂ (λ (r : ℕ) (s : RowState). released r (s .job)) (a .releases i l) (a .records i l)
 
 module _ (k : ℕ) (g g′ : Given) (a : AgreeTo k g g′) (i : ℕ) (l : i ≤ k) where
   pub free-agrees-to : free g i ≡ free g′ i
@@ -39,7 +42,7 @@ module _ (k : ℕ) (g g′ : Given) (a : AgreeTo k g g′) (i : ℕ) (l : i ≤ 
   reached-agrees = rw (runs-agrees, a .rows i l, begun-agrees k g g′ a i l)
 
   pub next-agrees : next g i ≡ next g′ i
-  next-agrees = ap₂ ended (a .rows i l) reached-agrees
+  next-agrees = ap₂ (λ (r : Row) (j : Job). recordOf (ended r j)) (a .rows i l) reached-agrees
 
   pub code-agrees : code g i ≡ code g′ i
   code-agrees = rw (runs-agrees, a .rows i l, begun-agrees k g g′ a i l)

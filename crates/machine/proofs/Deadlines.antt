@@ -7,7 +7,7 @@ use Rattle.basis.specs.Refusals.{accepted}
 use Rattle.sheet.specs.Legal.{rowAt}
 use Rattle.sheet.specs.declared.row.Row.{Row}
 use Rattle.sheet.specs.declared.row.Sheet.{Sheet}
-use Rattle.records.specs.declared.record.RowState.{RowState}
+use Rattle.records.specs.declared.record.Job.{Job}
 use Rattle.machine.specs.States.{State, recordAt}
 use Rattle.records.specs.Steps.{worked}
 use Rattle.machine.specs.Slot.{runs}
@@ -27,9 +27,9 @@ pub record Continuation (h : Sheet) (n : ℕ) : Type 0 where
 module _ (h : Sheet) (n : ℕ) (g : Continuation h n) (k : ℕ) (there : k < h .count) where
   open Continuation g using (state, releases, room, codes, each)
 
-  -- the record of the row before slot i, and whether it runs in it
-  abbrev at : ℕ → RowState
-  at i = recordAt (state i) k
+  -- the job of the row before slot i, and whether it runs in it
+  abbrev at : ℕ → Job
+  at i = recordAt (state i) k .job
 
   abbrev ran : ℕ → Bool
   ran i = runs (given h (state i) (releases i)) k
@@ -49,10 +49,10 @@ module _ (h : Sheet) (n : ℕ) (g : Continuation h n) (k : ℕ) (there : k < h .
     finished-now e = one .code-is ∙ job-finished row (ran i) (at i) (one .young) job e
 
     still-there : 1 ≤ worked (ran i) (at i) .remaining → (at i .since + 1 ≡ row .deadline → ⊥) → at (suc i) .remaining ≡ worked (ran i) (at i) .remaining
-    still-there left d = ap (λ (s : RowState). s .remaining) (one .record-is) ∙ job-left row (ran i) (at i) (one .young) job left d
+    still-there left d = ap (λ (s : Job). s .remaining) (one .job-is) ∙ job-left row (ran i) (at i) (one .young) job left d
 
     one-older : at (suc i) .since ≡ at i .since + 1
-    one-older = ap (λ (s : RowState). s .since) (one .record-is) ∙ job-older row (ran i) (at i) (one .young) job
+    one-older = ap (λ (s : Job). s .since) (one .job-is) ∙ job-older row (ran i) (at i) (one .young) job
 
   from-next : (d i : ℕ) → getD (codes (i + suc d)) k 0 ≡ getD (codes (suc i + d)) k 0
   from-next d i = let e : i + suc d ≡ suc i + d = omega arith in ap (λ (x : ℕ). getD (codes x) k 0) e

@@ -7,18 +7,18 @@ use Rattle.basis.specs.Refusals.{accepted}
 use Rattle.sheet.specs.Legal.{rowAt, LegalRow}
 use Rattle.sheet.specs.declared.row.Row.{Row}
 use Rattle.sheet.specs.declared.row.Sheet.{Sheet}
-use Rattle.records.specs.declared.record.RowState.{RowState}
+use Rattle.records.specs.declared.record.Job.{Job}
 use Rattle.machine.specs.States.{State, recordAt}
 use Rattle.machine.specs.Checks.{checkMargin}
 use Rattle.machine.specs.Answers.{margin-is, marginOf, marginAt, margin}
 use Rattle.machine.proofs.Inside.Differences.{less, less-twice}
-use Rattle.machine.proofs.Inside.Legals.{LegalRecord}
+use Rattle.machine.proofs.Inside.Legals.{LegalJob}
 
 -- where the checks pass: a row with a job has the margin D - since - remaining, and a row without one has none
-pub margin-of-a-job : (h : Sheet) (t : State) (k : ℕ) → checkMargin h t k ≡ accepted → 1 ≤ recordAt t k .remaining
-    → margin h t k ≡ margin-is ((pos (rowAt h k .deadline) -ℤ pos (recordAt t k .since)) -ℤ pos (recordAt t k .remaining))
+pub margin-of-a-job : (h : Sheet) (t : State) (k : ℕ) → checkMargin h t k ≡ accepted → 1 ≤ recordAt t k .job .remaining
+    → margin h t k ≡ margin-is ((pos (rowAt h k .deadline) -ℤ pos (recordAt t k .job .since)) -ℤ pos (recordAt t k .job .remaining))
 unfolding margin marginAt marginOf
-margin-of-a-job h t k e j = rw (e, lt-ltb 0 (recordAt t k .remaining) j)
+margin-of-a-job h t k e j = rw (e, lt-ltb 0 (recordAt t k .job .remaining) j)
 
 -- differences in order
 difference-le : (a b c d : ℕ) → a + d ≤ c + b → subℕ a b ≤ℤ subℕ c d
@@ -31,7 +31,7 @@ difference-le a b c d h = go (ltb a b) refl (ltb c d) refl
     go false e false f = record { le = le→leb (a - b) (c - d) (omega (arith, ltb-false a b e, ltb-false c d f)) }
 
 -- the range: from 1 - C to D - 2
-module _ (m : ℕ) (row : Row) (s : RowState) (w : LegalRow m row) (l : LegalRecord row s) (job : 1 ≤ s .remaining) where
+module _ (m : ℕ) (row : Row) (s : Job) (w : LegalRow m row) (l : LegalJob row s) (job : 1 ≤ s .remaining) where
   pub margin-least : (pos 1 -ℤ pos (row .budget)) ≤ℤ marginOf row s
   unfolding marginOf
   margin-least =
@@ -45,7 +45,7 @@ module _ (m : ℕ) (row : Row) (s : RowState) (w : LegalRow m row) (l : LegalRec
       (difference-le (row .deadline) (s .since + s .remaining) (row .deadline) 2 (omega (arith, l .some-since)))
 
 -- negative, and zero, as numbers
-pub negative-late : (row : Row) (s : RowState) → marginOf row s <ℤ pos 0 → row .deadline < s .since + s .remaining
+pub negative-late : (row : Row) (s : Job) → marginOf row s <ℤ pos 0 → row .deadline < s .since + s .remaining
 unfolding marginOf
 negative-late row s n = go (ltb (row .deadline) (s .since + s .remaining)) refl (rw less-twice at n)
   where
@@ -54,7 +54,7 @@ negative-late row s n = go (ltb (row .deadline) (s .since + s .remaining)) refl 
     go true e f = ltb-true _ _ e
     go false e f = absurd (omega (arith, ltb→lt (row .deadline - (s .since + s .remaining)) 0 (f .lt)))
 
-pub zero-just : (row : Row) (s : RowState) → marginOf row s ≡ pos 0 → s .since + s .remaining ≡ row .deadline
+pub zero-just : (row : Row) (s : Job) → marginOf row s ≡ pos 0 → s .since + s .remaining ≡ row .deadline
 unfolding marginOf
 zero-just row s e = go (ltb (row .deadline) (s .since + s .remaining)) refl (sym (less-twice (row .deadline) (s .since) (s .remaining)) ∙ e)
   where

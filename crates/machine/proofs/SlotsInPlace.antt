@@ -12,6 +12,7 @@ use Rattle.sheet.specs.declared.row.Row.{Row}
 use Rattle.sheet.specs.declared.row.Sheet.{Sheet}
 use Rattle.sheet.proofs.Legality.{legal-is}
 use Rattle.records.specs.declared.record.RowState.{RowState}
+use Rattle.records.specs.Records.{recordOf}
 use Rattle.machine.specs.States.{State, stateOf, recordAt, legalState}
 use Rattle.records.specs.declared.steps.Placed.{Placed}
 use Rattle.machine.specs.Slot.{freeAt, free, next, code}
@@ -27,9 +28,9 @@ use Rattle.machine.proofs.LegalLists.{kept-spare, kept-long, kept-recor
 use Rattle.machine.proofs.Inside.RecordLists.{put-record-past, put-more, put-agree, state-put}
 
 -- `step_row`
-pub row-stepped : (h : Sheet) (l : List ℕ) (k release f : ℕ) (row : Row) (s : RowState) (r : Placed) → row ≡ rowAt h k → s ≡ recordIn l k → r ≡ steppedRow row s release f
-    → r ≡ steppedRow (rowAt h k) (recordIn l k) release f
-row-stepped h l k release f row s r er es e = e ∙ ap₂ (λ (x : Row) (y : RowState). steppedRow x y release f) er es
+pub row-stepped : (h : Sheet) (l : List ℕ) (k release f : ℕ) (row : Row) (s : RowState) (r : Placed) → row ≡ rowAt h k → s ≡ recordIn l k → r ≡ steppedRow row (s .job) release f
+    → r ≡ steppedRow (rowAt h k) (recordIn l k .job) release f
+row-stepped h l k release f row s r er es e = e ∙ ap₂ (λ (x : Row) (y : RowState). steppedRow x (y .job) release f) er es
 
 -- `step_rows`: every processor is free at the top
 pub all-free : (h : Sheet) (t : State) (rel : List ℕ) (f : ℕ) → f ≡ h .processors → f ≡ free (given h t rel) 0
@@ -39,8 +40,8 @@ all-free h t rel f e = e
 -- a turn
 module _ (h : Sheet) (l₀ l rel : List ℕ) (fine : legal h ≡ true) (kept : legalState h (stateIn l₀) ≡ true) (f i n : ℕ) (en : n ≡ h .count) (below : i < n)
     (ef : f ≡ free (given h (stateIn l₀) rel) i) (so-far : l ≡ putTo i (next (given h (stateIn l₀) rel)) l₀)
-    (r : Placed) (er : r ≡ steppedRow (rowAt h i) (recordIn l i) (getD rel i 0) f) where
-  here-stepped : r ≡ steppedRow (rowAt h i) (recordAt (stateIn l₀) i) (getD rel i 0) (free (given h (stateIn l₀) rel) i)
+    (r : Placed) (er : r ≡ steppedRow (rowAt h i) (recordIn l i .job) (getD rel i 0) f) where
+  here-stepped : r ≡ steppedRow (rowAt h i) (recordAt (stateIn l₀) i .job) (getD rel i 0) (free (given h (stateIn l₀) rel) i)
   here-stepped =
       let e : recordIn l i ≡ recordAt (stateIn l₀) i =
       ap (λ (x : List ℕ). recordIn x i) so-far ∙ put-record-past (next (given h (stateIn l₀) rel)) l₀ i i (le-refl i) ∙ kept-record h l₀ fine kept i (omega arith) in
@@ -50,9 +51,9 @@ module _ (h : Sheet) (l₀ l rel : List ℕ) (fine : legal h ≡ true) (kept : l
   unfolding freeAt steppedRow begunRow given
   free-moves = rw add-one (ap (λ (x : Placed). x .free) here-stepped)
 
-  pub list-moves : (l′ : List ℕ) → l′ ≡ putRecord l i (r .after) → l′ ≡ putTo (i + 1) (next (given h (stateIn l₀) rel)) l₀
+  pub list-moves : (l′ : List ℕ) → l′ ≡ putRecord l i (recordOf (r .after)) → l′ ≡ putTo (i + 1) (next (given h (stateIn l₀) rel)) l₀
   unfolding steppedRow begunRow given
-  list-moves l′ e = e ∙ put-more i (next (given h (stateIn l₀) rel)) l l₀ (r .after) so-far (ap (λ (x : Placed). x .after) here-stepped)
+  list-moves l′ e = e ∙ put-more i (next (given h (stateIn l₀) rel)) l l₀ (recordOf (r .after)) so-far (ap (λ (x : Placed). recordOf (x .after)) here-stepped)
 
   pub codes-move : (cs cs₀ : List ℕ) → cs ≡ upto i (code (given h (stateIn l₀) rel)) cs₀ → set cs i (r .code) ≡ upto (i + 1) (code (given h (stateIn l₀) rel)) cs₀
   unfolding steppedRow begunRow given

@@ -8,7 +8,7 @@ use Rattle.basis.specs.Upto.{upto}
 use Rattle.sheet.specs.Legal.{rowAt, legal}
 use Rattle.sheet.specs.declared.row.Sheet.{Sheet}
 use Rattle.records.specs.declared.record.RowState.{RowState}
-use Rattle.records.specs.Records.{noRecord, hasJob}
+use Rattle.records.specs.Records.{recordOf, noRecord, hasJob}
 use Rattle.records.specs.Steps.{fits, worked, aged, ended, codeOf}
 use Rattle.records.specs.Wrong.{rec, thirteenFirst, stopsAtUnfit}
 use Rattle.machine.specs.States.{State, noState, stateOf, recordAt, freshState}
@@ -42,7 +42,7 @@ slotWith next code h t releases codes =
 -- A slot in which these rows run.
 abbrev pub slotRunning : (Given → ℕ → Bool) → Sheet → State → List ℕ → List ℕ → SlotAnswer State
 slotRunning ran =
-    slotWith (λ g k. ended (g .rows k) (aged (g .rows k) (worked (ran g k) (begun g k))))
+    slotWith (λ g k. recordOf (ended (g .rows k) (aged (g .rows k) (worked (ran g k) (begun g k)))))
     (λ g k. codeOf (g .rows k) (ran g k) (begun g k) (aged (g .rows k) (worked (ran g k) (begun g k))))
 
 -- The processors free at row k where nothing is free below a row that does not fit.
@@ -141,13 +141,13 @@ anyState h t releases room =
 -- A row without a job has a margin of zero.
 unfoldable pub zeroForNone : Sheet → State → ℕ → MarginAnswer
 zeroForNone h t row =
-    marginBy (checkMargin h t row) (pick (hasJob (recordAt t row)) (marginAt (rowAt h row) (recordAt t row)) (margin-is (pos 0)))
+    marginBy (checkMargin h t row) (pick (hasJob (recordAt t row .job)) (marginAt (rowAt h row) (recordAt t row .job)) (margin-is (pos 0)))
 
 -- The slots since the release are not taken off.
 unfoldable pub sinceLeftOut : Sheet → State → ℕ → MarginAnswer
 sinceLeftOut h t row =
     marginBy (checkMargin h t row)
-    (pick (hasJob (recordAt t row)) (margin-is (pos (rowAt h row .deadline) -ℤ pos (recordAt t row .remaining))) no-job)
+    (pick (hasJob (recordAt t row .job)) (margin-is (pos (rowAt h row .deadline) -ℤ pos (recordAt t row .job .remaining))) no-job)
 
 -- Whatever row is asked for, the margin is that of row 0.
 unfoldable pub marginOfFirst : Sheet → State → ℕ → MarginAnswer

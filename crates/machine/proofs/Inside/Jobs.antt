@@ -7,6 +7,7 @@ use Rattle.sheet.specs.Legal.{rowAt}
 use Rattle.sheet.specs.declared.row.Row.{Row}
 use Rattle.sheet.specs.declared.row.Sheet.{Sheet}
 use Rattle.sheet.proofs.Legality.{legal-is}
+use Rattle.records.specs.declared.record.Job.{Job}
 use Rattle.records.specs.declared.record.RowState.{RowState}
 use Rattle.machine.specs.States.{State, recordAt}
 use Rattle.records.specs.Steps.{released, worked, aged, missed, ended, codeOf}
@@ -20,8 +21,8 @@ use Rattle.machine.proofs.Inside.Legals.{legal-state-is}
 use Rattle.records.proofs.Inside.Codes.{code-is}
 use Rattle.records.proofs.Inside.Records.{released-none, release-allowed, older-below, ended-else, ended-since}
 
--- one slot of a row, by whether it ran: its code, and its record
-module _ (row : Row) (ran : Bool) (s : RowState) (young : s .since < row .separation) (job : 1 ≤ s .remaining) where
+-- one slot of a row, by whether it ran: its code, and its job
+module _ (row : Row) (ran : Bool) (s : Job) (young : s .since < row .separation) (job : 1 ≤ s .remaining) where
   after-since : aged row (worked ran s) .since ≡ s .since + 1
   unfolding aged worked
   after-since = older-below (row .separation) (s .since) young
@@ -44,16 +45,16 @@ module _ (row : Row) (ran : Bool) (s : RowState) (young : s .since < row .separa
 
 -- an accepted slot of a row with a job: there is no release, and it ran or it did not
 pub record JobSlot (h : Sheet) (t : State) (rel : List ℕ) (u : State) (ds : List ℕ) (k : ℕ) : Type 0 where
-  pub in-time : recordAt t k .since < rowAt h k .deadline
-  pub young : recordAt t k .since < rowAt h k .separation
-  pub code-is : getD ds k 0 ≡ codeOf (rowAt h k) (runs (given h t rel) k) (recordAt t k) (aged (rowAt h k) (worked (runs (given h t rel) k) (recordAt t k)))
-  pub record-is : recordAt u k ≡ ended (rowAt h k) (aged (rowAt h k) (worked (runs (given h t rel) k) (recordAt t k)))
+  pub in-time : recordAt t k .job .since < rowAt h k .deadline
+  pub young : recordAt t k .job .since < rowAt h k .separation
+  pub code-is : getD ds k 0 ≡ codeOf (rowAt h k) (runs (given h t rel) k) (recordAt t k .job) (aged (rowAt h k) (worked (runs (given h t rel) k) (recordAt t k .job)))
+  pub job-is : recordAt u k .job ≡ ended (rowAt h k) (aged (rowAt h k) (worked (runs (given h t rel) k) (recordAt t k .job)))
 
-no-release : (row : Row) (s : RowState) (r k : ℕ) → s .since < row .separation → checkRow row s r k ≡ accepted → released r s ≡ s
-no-release row s zero k l e = released-none s
+no-release : (row : Row) (s : RowState) (r k : ℕ) → s .job .since < row .separation → checkRow row s r k ≡ accepted → released r (s .job) ≡ s .job
+no-release row s zero k l e = released-none (s .job)
 no-release row s (suc r) k l e = absurd (omega (arith, release-allowed row s (suc r) k (omega arith) e .1))
 
-pub job-slot : (h : Sheet) (t : State) (rel cs : List ℕ) (u : State) (ds : List ℕ) (k : ℕ) → slot h t rel cs ≡ slotAnswer accepted u ds → k < h .count → 1 ≤ recordAt t k .remaining → JobSlot h t rel u ds k
+pub job-slot : (h : Sheet) (t : State) (rel cs : List ℕ) (u : State) (ds : List ℕ) (k : ℕ) → slot h t rel cs ≡ slotAnswer accepted u ds → k < h .count → 1 ≤ recordAt t k .job .remaining → JobSlot h t rel u ds k
 unfolding checkReleases given
 job-slot h t rel cs u ds k e l j =
     let f : slot h t rel cs .outcome ≡ accepted = ap (λ x. x .outcome) e in
@@ -61,11 +62,11 @@ job-slot h t rel cs u ds k e l j =
     let row = legal-is h (shown .in-order .sheet-legal) .rows k l in
     let legal-k = legal-state-is h t (shown .in-order .most-rows) (shown .in-order .state-legal) .rows k l in
     let soon = legal-k .in-time j in
-    let young : recordAt t k .since < rowAt h k .separation = omega (arith, row .most-deadline) in
-    let same : begun (given h t rel) k ≡ recordAt t k = no-release (rowAt h k) (recordAt t k) (getD rel k 0) k young (first-at (h .count) (checkAt h t rel) (shown .releases) k l) in
+    let young : recordAt t k .job .since < rowAt h k .separation = omega (arith, row .most-deadline) in
+    let same : begun (given h t rel) k ≡ recordAt t k .job = no-release (rowAt h k) (recordAt t k) (getD rel k 0) k young (first-at (h .count) (checkAt h t rel) (shown .releases) k l) in
     record {
       in-time = soon;
       young = young;
-      code-is = ap (λ (x : SlotAnswer State). getD (x .codes) k 0) (sym e) ∙ code-after h t rel cs f k l ∙ ap (λ (s : RowState). codeOf (rowAt h k) (runs (given h t rel) k) s (aged (rowAt h k) (worked (runs (given h t rel) k) s))) same;
-      record-is = ap (λ (x : SlotAnswer State). recordAt (x .state) k) (sym e) ∙ record-after h t rel cs f k l ∙ ap (λ (s : RowState). ended (rowAt h k) (aged (rowAt h k) (worked (runs (given h t rel) k) s))) same;
+      code-is = ap (λ (x : SlotAnswer State). getD (x .codes) k 0) (sym e) ∙ code-after h t rel cs f k l ∙ ap (λ (s : Job). codeOf (rowAt h k) (runs (given h t rel) k) s (aged (rowAt h k) (worked (runs (given h t rel) k) s))) same;
+      job-is = ap (λ (x : SlotAnswer State). recordAt (x .state) k .job) (sym e) ∙ ap (λ (s : RowState). s .job) (record-after h t rel cs f k l) ∙ ap (λ (s : Job). ended (rowAt h k) (aged (rowAt h k) (worked (runs (given h t rel) k) s))) same;
     }

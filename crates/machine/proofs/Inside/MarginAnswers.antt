@@ -14,6 +14,7 @@ use Rattle.sheet.specs.Legal.{rowAt, legal, LegalRow}
 use Rattle.sheet.specs.declared.row.Row.{Row}
 use Rattle.sheet.specs.declared.row.Sheet.{Sheet}
 use Rattle.sheet.proofs.Legality.{legal-is}
+use Rattle.records.specs.declared.record.Job.{Job}
 use Rattle.records.specs.declared.record.RowState.{RowState}
 use Rattle.machine.specs.States.{State, recordAt, legalState}
 use Rattle.machine.specs.Checks.{checkState, checkMargin}
@@ -24,18 +25,18 @@ use Rattle.sheet.proofs.Ranges.{legal-sheet-long}
 use Rattle.machine.proofs.LegalLists.{kept-long, kept-record}
 use Rattle.machine.proofs.Inside.Checks.{ready}
 use Rattle.machine.proofs.Inside.Differences.{themselves, difference-fits, less-twice}
-use Rattle.machine.proofs.Inside.Legals.{LegalRecord, legal-state-is}
+use Rattle.machine.proofs.Inside.Legals.{LegalJob, legal-state-is}
 
 -- `margin_of`
-pub margin-none : (row : Row) (s : RowState) → s .remaining ≤ 0 → no-job ≡ marginAt row s
+pub margin-none : (row : Row) (s : Job) → s .remaining ≤ 0 → no-job ≡ marginAt row s
 unfolding marginAt
 margin-none row s l = rw (le-ltb _ _ l)
 
-pub margin-fits : (row : Row) (s : RowState) → row .deadline ≤ mostSeparation → s .since ≤ mostSeparation → s .remaining ≤ mostSeparation
+pub margin-fits : (row : Row) (s : Job) → row .deadline ≤ mostSeparation → s .since ≤ mostSeparation → s .remaining ≤ mostSeparation
     → SFits w64 (toZ w64 (row .deadline) -ℤ toZ w64 (s .since + s .remaining))
 margin-fits row s a b c = difference-fits (row .deadline) (s .since + s .remaining) a (omega arith)
 
-pub margin-some : (row : Row) (s : RowState) → row .deadline ≤ mostSeparation → s .since ≤ mostSeparation → s .remaining ≤ mostSeparation → 0 < s .remaining
+pub margin-some : (row : Row) (s : Job) → row .deadline ≤ mostSeparation → s .since ≤ mostSeparation → s .remaining ≤ mostSeparation → 0 < s .remaining
     → margin-is (toZ w64 (ofZ w64 (toZ w64 (row .deadline) -ℤ toZ w64 (s .since + s .remaining)))) ≡ marginAt row s
 unfolding marginAt marginOf
 margin-some row s a b c l =
@@ -58,8 +59,8 @@ module _ (h : Sheet) (t : State) (k : ℕ) (c : Refusal) (e : outcome c ≡ chec
     row-is : LegalRow (h .processors) (rowAt h k)
     row-is = legal-is h (ready h t (both-checked .0) .sheet-legal) .rows k (both-checked .1)
 
-    record-is : LegalRecord (rowAt h k) (recordAt t k)
-    record-is = legal-state-is h t (ready h t (both-checked .0) .most-rows) (ready h t (both-checked .0) .state-legal) .rows k (both-checked .1)
+    job-is : LegalJob (rowAt h k) (recordAt t k .job)
+    job-is = legal-state-is h t (ready h t (both-checked .0) .most-rows) (ready h t (both-checked .0) .state-legal) .rows k (both-checked .1)
 
     pub row-in-array : k < mostRows
     row-in-array = omega (arith, both-checked .1, ready h t (both-checked .0) .most-rows)
@@ -67,15 +68,15 @@ module _ (h : Sheet) (t : State) (k : ℕ) (c : Refusal) (e : outcome c ≡ chec
     pub small-deadline : (row : Row) → row ≡ rowAt h k → row .deadline ≤ mostSeparation
     small-deadline row er = rw er (omega (arith, row-is .most-deadline, row-is .most-separation))
 
-    pub small-since : recordAt t k .since ≤ mostSeparation
-    small-since = omega (arith, row-is .most-separation, record-is .most-since)
+    pub small-since : recordAt t k .job .since ≤ mostSeparation
+    small-since = omega (arith, row-is .most-separation, job-is .most-since)
 
-    pub small-remaining : recordAt t k .remaining ≤ mostSeparation
-    small-remaining = omega (arith, row-is .most-budget, row-is .most-deadline, row-is .most-separation, record-is .most-remaining)
+    pub small-remaining : recordAt t k .job .remaining ≤ mostSeparation
+    small-remaining = omega (arith, row-is .most-budget, row-is .most-deadline, row-is .most-separation, job-is .most-remaining)
 
-    pub margin-is-told : (row : Row) → row ≡ rowAt h k → (a : MarginAnswer) → a ≡ marginAt row (recordAt t k) → a ≡ margin h t k
+    pub margin-is-told : (row : Row) → row ≡ rowAt h k → (a : MarginAnswer) → a ≡ marginAt row (recordAt t k .job) → a ≡ margin h t k
     unfolding margin
-    margin-is-told row er a g = rw (sym e ∙ ap outcome f) (g ∙ ap (λ (r : Row). marginAt r (recordAt t k)) er)
+    margin-is-told row er a g = rw (sym e ∙ ap outcome f) (g ∙ ap (λ (r : Row). marginAt r (recordAt t k .job)) er)
 
 -- `margin_on`: the record of the row stands in the list
 module _ (s l : List ℕ) (k : ℕ) (c : Refusal) (e : outcome c ≡ checkMargin (sheetIn s) (stateIn l) k) (f : c ≡ Accepted) where
@@ -92,14 +93,14 @@ module _ (s l : List ℕ) (k : ℕ) (c : Refusal) (e : outcome c ≡ checkMargin
   margin-record-there = omega (arith, kept-long (sheetIn s) l sheet-fine state-fine (sheetIn s .count) refl, both-checked (sheetIn s) (stateIn l) k c e f .1)
 
   module _ (x : RowState) (ex : x ≡ recordIn l k) where
-    is-record : x ≡ recordAt (stateIn l) k
-    is-record = ex ∙ kept-record (sheetIn s) l sheet-fine state-fine k (both-checked (sheetIn s) (stateIn l) k c e f .1)
+    is-job : x .job ≡ recordAt (stateIn l) k .job
+    is-job = ap (λ (s : RowState). s .job) (ex ∙ kept-record (sheetIn s) l sheet-fine state-fine k (both-checked (sheetIn s) (stateIn l) k c e f .1))
 
-    pub listed-since : x .since ≤ mostSeparation
-    listed-since = rw is-record (small-since (sheetIn s) (stateIn l) k c e f)
+    pub listed-since : x .job .since ≤ mostSeparation
+    listed-since = rw is-job (small-since (sheetIn s) (stateIn l) k c e f)
 
-    pub listed-remaining : x .remaining ≤ mostSeparation
-    listed-remaining = rw is-record (small-remaining (sheetIn s) (stateIn l) k c e f)
+    pub listed-remaining : x .job .remaining ≤ mostSeparation
+    listed-remaining = rw is-job (small-remaining (sheetIn s) (stateIn l) k c e f)
 
-    pub listed-margin : (row : Row) → row ≡ rowAt (sheetIn s) k → (a : MarginAnswer) → a ≡ marginAt row x → a ≡ margin (sheetIn s) (stateIn l) k
-    listed-margin row er a g = margin-is-told (sheetIn s) (stateIn l) k c e f row er a (g ∙ ap (marginAt row) is-record)
+    pub listed-margin : (row : Row) → row ≡ rowAt (sheetIn s) k → (a : MarginAnswer) → a ≡ marginAt row (x .job) → a ≡ margin (sheetIn s) (stateIn l) k
+    listed-margin row er a g = margin-is-told (sheetIn s) (stateIn l) k c e f row er a (g ∙ ap (marginAt row) is-job)

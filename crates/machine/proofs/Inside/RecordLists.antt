@@ -9,12 +9,12 @@ use Rattle.basis.proofs.Inside.Lists.{getD-all}
 use Rattle.sheet.specs.Lists.{numberAt}
 use Rattle.sheet.proofs.Inside.FilledLists.{filled-read}
 use Rattle.records.specs.declared.record.RowState.{RowState}
-use Rattle.records.specs.Records.{noRecord}
+use Rattle.records.specs.Records.{recordOf, noRecord}
 use Rattle.machine.specs.States.{noState, stateOf, recordAt}
 use Rattle.machine.specs.Lists.{recordWide, recordIn, stateLong, zeroAt, zeroFrom, spareIsZero, stateIn, putRecord, putTo, cleared}
 
 -- `record_in`
-pub record-read : (l : List ℕ) (k : ℕ) → _≡_ {A = RowState} (record { remaining = numberAt l (k * recordWide); since = numberAt l (k * recordWide + 1) }) (recordIn l k)
+pub record-read : (l : List ℕ) (k : ℕ) → recordOf (record { remaining = numberAt l (k * recordWide); since = numberAt l (k * recordWide + 1) }) ≡ recordIn l k
 unfolding recordIn
 record-read l k = refl
 
@@ -22,7 +22,7 @@ record-read l k = refl
 pub inside-next : (l : List ℕ) (k v : ℕ) → stateLong (k + 1) ≤ length l → k * recordWide + 1 < length (set l (k * recordWide) v)
 inside-next l k v r = simp length-set (omega arith)
 
-pub record-put : (l : List ℕ) (k : ℕ) (s : RowState) → set (set l (k * recordWide) (s .remaining)) (k * recordWide + 1) (s .since) ≡ putRecord l k s
+pub record-put : (l : List ℕ) (k : ℕ) (s : RowState) → set (set l (k * recordWide) (s .job .remaining)) (k * recordWide + 1) (s .job .since) ≡ putRecord l k s
 unfolding putRecord
 record-put l k s = refl
 
@@ -36,23 +36,23 @@ module _ (l : List ℕ) (k : ℕ) (s : RowState) where
   put-other : (i : ℕ) → (i ≡ k * recordWide → ⊥) → (i ≡ k * recordWide + 1 → ⊥) → numberAt (putRecord l k s) i ≡ numberAt l i
   unfolding putRecord
   put-other i a b =
-      getD-set-other (set l (k * recordWide) (s .remaining)) (k * recordWide + 1) i (s .since) 0 b ∙ getD-set-other l (k * recordWide) i (s .remaining) 0 a
+      getD-set-other (set l (k * recordWide) (s .job .remaining)) (k * recordWide + 1) i (s .job .since) 0 b ∙ getD-set-other l (k * recordWide) i (s .job .remaining) 0 a
 
   put-here : stateLong (k + 1) ≤ length l → recordIn (putRecord l k s) k ≡ s
   unfolding putRecord recordIn
   put-here r =
-      let a : numberAt (set (set l (k * recordWide) (s .remaining)) (k * recordWide + 1) (s .since)) (k * recordWide) ≡ s .remaining =
-      getD-set-other (set l (k * recordWide) (s .remaining)) (k * recordWide + 1) (k * recordWide) (s .since) 0 (λ e. omega arith) ∙ getD-set-same l (k * recordWide) (s .remaining) 0 (omega arith) in
-      let b : numberAt (set (set l (k * recordWide) (s .remaining)) (k * recordWide + 1) (s .since)) (k * recordWide + 1) ≡ s .since =
-      getD-set-same (set l (k * recordWide) (s .remaining)) (k * recordWide + 1) (s .since) 0 (simp length-set (omega arith)) in
-      λ i. record { remaining = a i; since = b i }
+      let a : numberAt (set (set l (k * recordWide) (s .job .remaining)) (k * recordWide + 1) (s .job .since)) (k * recordWide) ≡ s .job .remaining =
+      getD-set-other (set l (k * recordWide) (s .job .remaining)) (k * recordWide + 1) (k * recordWide) (s .job .since) 0 (λ e. omega arith) ∙ getD-set-same l (k * recordWide) (s .job .remaining) 0 (omega arith) in
+      let b : numberAt (set (set l (k * recordWide) (s .job .remaining)) (k * recordWide + 1) (s .job .since)) (k * recordWide + 1) ≡ s .job .since =
+      getD-set-same (set l (k * recordWide) (s .job .remaining)) (k * recordWide + 1) (s .job .since) 0 (simp length-set (omega arith)) in
+      λ i. recordOf (record { remaining = a i; since = b i })
 
   put-elsewhere : (j : ℕ) → (j ≡ k → ⊥) → recordIn (putRecord l k s) j ≡ recordIn l j
   unfolding recordIn
   put-elsewhere j d =
       let a = put-other (j * recordWide) (λ e. d (omega arith)) (λ e. omega arith) in
       let b = put-other (j * recordWide + 1) (λ e. omega arith) (λ e. d (omega arith)) in
-      λ i. record { remaining = a i; since = b i }
+      λ i. recordOf (record { remaining = a i; since = b i })
 
 -- the first n records that are written, read
 module _ (f : ℕ → RowState) (l : List ℕ) where
@@ -75,7 +75,7 @@ module _ (f : ℕ → RowState) (l : List ℕ) where
   put-record-past n k h =
       let a = put-past n (k * recordWide) (omega arith) in
       let b = put-past n (k * recordWide + 1) (omega arith) in
-      λ i. record { remaining = a i; since = b i }
+      λ i. recordOf (record { remaining = a i; since = b i })
 
   pub put-record-below : (n k : ℕ) → k < n → stateLong n ≤ length l → recordIn (putTo n f l) k ≡ f k
   unfolding putTo
@@ -153,8 +153,8 @@ put-own l l₀ (suc n) i b r = ⊎-elim (λ a. below a (put-own l l₀ n i a (om
 
     here : stateLong n ≤ i → numberAt (putTo (suc n) (recordIn l) l₀) i ≡ numberAt l i
     here a = ⊎-elim
-        (λ m. let e : i ≡ n * recordWide = omega arith in rw e (ap (λ (s : RowState). s .remaining) same))
-        (λ m. let e : i ≡ n * recordWide + 1 = omega arith in rw e (ap (λ (s : RowState). s .since) same))
+        (λ m. let e : i ≡ n * recordWide = omega arith in rw e (ap (λ (s : RowState). s .job .remaining) same))
+        (λ m. let e : i ≡ n * recordWide + 1 = omega arith in rw e (ap (λ (s : RowState). s .job .since) same))
         (lt-or-le i (n * recordWide + 1))
 
 -- a list of zeros hands over the state of zeros
@@ -167,7 +167,7 @@ module _ (l : List ℕ) (none : (i : ℕ) → numberAt l i ≡ 0) where
 
   zeros-record : (k : ℕ) → recordIn l k ≡ noRecord
   unfolding recordIn
-  zeros-record k = λ i. record { remaining = none (k * recordWide) i; since = none (k * recordWide + 1) i }
+  zeros-record k = λ i. recordOf (record { remaining = none (k * recordWide) i; since = none (k * recordWide + 1) i })
 
   pub zeros-state : stateIn l ≡ noState
   unfolding stateIn
