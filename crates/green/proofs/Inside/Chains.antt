@@ -75,8 +75,8 @@ module _ (h : Sheet) (legal : Legal h) (n : ℕ) (up : Bounded h n) where
       -- a job finishes in this slot, or goes on: it waited or ran, and is a slot older
       pub record GoesOn : Type 0 where
         pub ran-or-waited : (getD (d .codes) k 0 ≡ 1) ⊎ (getD (d .codes) k 0 ≡ 2)
-        pub some : 1 ≤ recordAt (nextState h t (d .releases)) k .remaining
-        pub older : recordAt (nextState h t (d .releases)) k .since ≡ age (getD (d .releases) k 0) (recordAt t k .since) + 1
+        pub some : 1 ≤ recordAt (nextState h t (d .releases)) k .job .remaining
+        pub older : recordAt (nextState h t (d .releases)) k .job .since ≡ age (getD (d .releases) k 0) (recordAt t k .job .since) + 1
 
       pub step : 1 ≤ begun (given h t (d .releases)) k .remaining → (getD (d .codes) k 0 ≡ 3) ⊎ GoesOn
       unfolding given
@@ -91,6 +91,6 @@ module _ (h : Sheet) (legal : Legal h) (n : ℕ) (up : Bounded h n) where
               let c = going-code (rowAt h k) (runs (given h t (d .releases)) k) (begun (given h t (d .releases)) k) (reached (given h t (d .releases)) k) x (omega arith) early in
               inr (record {
                 ran-or-waited = ⊎-elim (λ f. inl (s .wrote k there ∙ f)) (λ f. inr (s .wrote k there ∙ f)) c;
-                some = omega (arith, ap (λ (z : RowState). z .remaining) r′, ended-else (rowAt h k) (reached (given h t (d .releases)) k) early);
+                some = omega (arith, ap (λ (z : RowState). z .job .remaining) r′, ended-else (rowAt h k) (reached (given h t (d .releases)) k) early);
                 older = omega (arith, next-since h t (d .releases) (s .state) (s .fine) k there, reached-since h t (d .releases) (s .state) (s .fine) k there, ranges h legal n up k l);
               })

@@ -64,7 +64,7 @@ state-in-list t l l₀ i a b e z long =
     (omega (arith, m, length-upto mostRows (recordAt (held t)) (stateIn (replicate (stateLong mostRows) 0) .rows), rows)) (omega (arith, rows))))
 
 pub list-more : (t : Value) (l l₀ : List ℕ) (i : ℕ) → l ≡ putTo i (recordAt (held t)) l₀
-    → set (set l (i * recordWide) (recordAt (held t) i .remaining)) (i * recordWide + 1) (recordAt (held t) i .since) ≡ putTo (i + 1) (recordAt (held t)) l₀
+    → set (set l (i * recordWide) (recordAt (held t) i .job .remaining)) (i * recordWide + 1) (recordAt (held t) i .job .since) ≡ putTo (i + 1) (recordAt (held t)) l₀
 unfolding putRecord
 list-more t l l₀ i e = put-more i (recordAt (held t)) l l₀ (recordAt (held t) i) e refl
 
