@@ -14,7 +14,7 @@ use Rattle.tables.specs.Tables.{sheetB, sheetC, sheetF}
 use Rattle.records.specs.Records.{legalJob, isZeroJob}
 use Rattle.records.specs.Steps.{released, fits, freeBelow, worked, older, aged, missed, ended, codeOf}
 use Rattle.records.specs.Checks.{checkRow}
-use Rattle.records.specs.Wrong.{thirteenFirst, stopsAtUnfit}
+use Rattle.records.specs.Wrong.{thirteenFirst, stopsAtUnfit, missedFirst}
 use Rattle.machine.specs.States.{State, recordAt}
 use Rattle.machine.specs.States as states
 use Rattle.machine.specs.Slot.{freeAt}
@@ -64,7 +64,7 @@ slot-of-all-is-shut-out = apart (codeAfter 1) _ _ 2 1 refl refl (λ e. omega ari
 
 -- sheet F: a job finishes in the slot in which since reaches its deadline
 pub slot-missed-first-is-shut-out : NoneMeets (slotMissedFirst sheetF (fresh sheetF .state) (1 ∷ []) (9 ∷ [])) (slot sheetF (fresh sheetF .state) (1 ∷ []) (9 ∷ []))
-unfolding slotMissedFirst allOf firstOf upto legalRow legalAt legal states.freshState legalJob isZeroJob states.legalAt states.legalState released fits freeBelow freeAt worked older aged missed ended codeOf checkRow checkReleases checkState checkRoom checkSlot fresh given nextState nextCodes slot
+unfolding slotMissedFirst missedFirst allOf firstOf upto legalRow legalAt legal states.freshState legalJob isZeroJob states.legalAt states.legalState released fits freeBelow freeAt worked older aged missed ended codeOf checkRow checkReleases checkState checkRoom checkSlot fresh given nextState nextCodes slot
 slot-missed-first-is-shut-out = apart (codeAfter 0) _ _ 4 3 refl refl (λ e. omega arith)
 
 -- case G, the first slot: row 1 is released for 3

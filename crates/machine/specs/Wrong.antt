@@ -9,10 +9,10 @@ use Rattle.sheet.specs.Legal.{rowAt, legal}
 use Rattle.sheet.specs.declared.row.Sheet.{Sheet}
 use Rattle.records.specs.declared.record.RowState.{RowState}
 use Rattle.records.specs.Records.{recordOf, noRecord, hasJob}
-use Rattle.records.specs.Steps.{fits, worked, aged, ended, codeOf}
-use Rattle.records.specs.Wrong.{rec, thirteenFirst, stopsAtUnfit}
+use Rattle.records.specs.Steps.{fits, worked, aged, ended, codeSoFar, codeOf}
+use Rattle.records.specs.Wrong.{rec, thirteenFirst, stopsAtUnfit, missedFirst}
 use Rattle.machine.specs.States.{State, noState, stateOf, recordAt, freshState}
-use Rattle.machine.specs.Slot.{Given, begun, runs, reached, next}
+use Rattle.machine.specs.Slot.{Given, begun, runs, next}
 use Rattle.machine.specs.Checks.{checkState, checkRoom, checkSlot, checkMargin}
 use Rattle.machine.specs.Answers.{FreshAnswer, SlotAnswer, RunAnswer, freshAnswer, slotAnswer, runAnswer, given, nextState, nextCodes, slotBy, slot, course, run, MarginAnswer, no-job, margin-is, marginAt, marginBy, margin}
 use Rattle.machine.specs.Lists.{putState, cleared, freshOn, slotIn, runIn}
@@ -62,7 +62,7 @@ slotOfAll = slotRunning (λ g k. fits (g .processors) (g .rows k) (begun g k))
 unfoldable pub slotMissedFirst : Sheet → State → List ℕ → List ℕ → SlotAnswer State
 slotMissedFirst =
     slotWith next
-    (λ g k. pick (hasJob (begun g k)) (pick (eqb (reached g k .since) (g .rows k .deadline)) 4 (pick (hasJob (reached g k)) (pick (runs g k) 2 1) 3)) 0)
+    (λ g k. missedFirst (g .rows k) (worked (runs g k) (begun g k)) (codeSoFar (runs g k) (begun g k)) .code)
 
 -- The state is handed back untouched.
 unfoldable pub slotUntouched : Sheet → State → List ℕ → List ℕ → SlotAnswer State
