@@ -6,21 +6,20 @@ use Rattle.basis.specs.Refusals.{accepted}
 use Rattle.basis.proofs.Inside.FirstRefusal.{first-at}
 use Rattle.basis.proofs.Inside.Sums.{sum-same}
 use Rattle.basis.proofs.Inside.Words.{lt-or-le}
-use Rattle.basis.proofs.Inside.Upto.{upto-below}
 use Rattle.sheet.specs.Legal.{rowAt}
 use Rattle.sheet.specs.declared.row.Row.{Row}
 use Rattle.sheet.specs.declared.row.Sheet.{Sheet}
 use Rattle.records.specs.declared.record.Job.{Job}
 use Rattle.records.specs.declared.record.RowState.{RowState}
 use Rattle.machine.specs.States.{State, recordAt}
-use Rattle.records.specs.Records.{noRecord}
-use Rattle.machine.specs.Slot.{begun, free, runs, reached, next}
-use Rattle.records.specs.Steps.{released, fits, worked, older, aged, missed, ended}
+use Rattle.machine.specs.Slot.{begun, free, runs, reached}
+use Rattle.records.specs.Steps.{released, fits, worked, older, aged, ended}
 use Rattle.machine.specs.Checks.{checkAt, checkReleases}
 use Rattle.machine.specs.Answers.{given, nextState}
-use Rattle.machine.proofs.Inside.Legals.{LegalState, legal-state-long}
+use Rattle.machine.proofs.Inside.Legals.{LegalState}
+use Rattle.machine.proofs.Inside.LegalSlots.{next-at}
 use Rattle.machine.proofs.Placement.{takenBy, processors-are-kept, waits-unfit}
-use Rattle.records.proofs.Inside.Records.{release-allowed, older-below, older-full}
+use Rattle.records.proofs.Inside.Records.{release-allowed, older-below, older-full, ended-less}
 use Rattle.green.specs.Inside.Model.{Moment, owed, age, Slot}
 use Rattle.green.proofs.Sheets.{rowsOf}
 
@@ -62,19 +61,11 @@ runs-with-job f row s = go (ltb 0 (s .remaining)) (leb (row .threads) f) refl
 older-is : (T s : ℕ) → s ≤ T → older T s ≡ min T (s + 1)
 older-is T s h = ⊎-elim (λ l. omega (arith, older-below T s l)) (λ l. omega (arith, older-full T s l)) (lt-or-le s T)
 
--- what is left after running, and what is stored is no more
+-- what is left after running
 pub worked-remaining : (b : Bool) (s : Job) → worked b s .remaining ≡ s .remaining - bit b
 unfolding worked
 worked-remaining true s = refl
 worked-remaining false s = omega arith
-
-ended-less : (row : Row) (s : Job) → ended row s .remaining ≤ s .remaining
-unfolding ended
-ended-less row s = go (missed row s)
-  where
-    go : (b : Bool) → pick b 0 (s .remaining) ≤ s .remaining
-    go true = omega arith
-    go false = omega arith
 
 -- what a row that runs takes, as a product
 taken-as : (b : Bool) (n : ℕ) → pick b n 0 ≡ bit b * n
@@ -91,10 +82,6 @@ module _ (h : Sheet) (t : State) (rel : List ℕ) (state : LegalState h t) (fine
   -- row k runs, as a number
   pub ran : ℕ → ℕ
   ran k = bit (runs (given h t rel) k)
-
-  pub next-record : (k : ℕ) → k < h .count → recordAt (nextState h t rel) k ≡ next (given h t rel) k
-  unfolding nextState
-  next-record k l = upto-below (h .count) (next (given h t rel)) (t .rows) noRecord k l (legal-state-long h t state)
 
   abbrev begin : ℕ → Job
   begin k = begun (given h t rel) k
@@ -132,11 +119,11 @@ module _ (h : Sheet) (t : State) (rel : List ℕ) (state : LegalState h t) (fine
 
   pub next-since : (k : ℕ) → k < h .count → recordAt (nextState h t rel) k .job .since ≡ reached (given h t rel) k .since
   unfolding ended
-  next-since k l = ap (λ (s : RowState). s .job .since) (next-record k l)
+  next-since k l = ap (λ (s : RowState). s .job .since) (next-at h t rel state k l)
 
   next-remaining : (k : ℕ) → k < h .count → recordAt (nextState h t rel) k .job .remaining ≤ reached (given h t rel) k .remaining
   unfolding given
-  next-remaining k l = subst (λ (s : RowState). s .job .remaining ≤ reached (given h t rel) k .remaining) (sym (next-record k l)) (ended-less (rowAt h k) (reached (given h t rel) k))
+  next-remaining k l = subst (λ (s : RowState). s .job .remaining ≤ reached (given h t rel) k .remaining) (sym (next-at h t rel state k l)) (ended-less (rowAt h k) (reached (given h t rel) k))
 
   pub slot-is : (n : ℕ) → n ≤ h .count → Slot (rowsOf h n) (momentOf t) (λ k. getD rel k 0) ran (momentOf (nextState h t rel))
   unfolding ran given

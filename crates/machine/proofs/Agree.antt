@@ -8,13 +8,14 @@ use Rattle.sheet.specs.declared.row.Sheet.{Sheet}
 use Rattle.records.specs.declared.record.Job.{Job}
 use Rattle.records.specs.declared.record.RowState.{RowState}
 use Rattle.machine.specs.States.{State, recordAt}
-use Rattle.records.specs.Records.{recordOf, noRecord}
+use Rattle.records.specs.Records.{recordOf}
 use Rattle.records.specs.Steps.{released, ended}
 use Rattle.machine.specs.Slot.{freeAt, Given, begun, free, runs, reached, next, code}
 use Rattle.machine.specs.Checks.{checkSlot}
 use Rattle.machine.specs.Answers.{SlotAnswer, slotAnswer, given, nextState, nextCodes, slot}
 use Rattle.machine.proofs.Inside.Answers.{slot-shows}
-use Rattle.machine.proofs.Inside.Legals.{legal-state-is, legal-state-long}
+use Rattle.machine.proofs.Inside.Legals.{legal-state-is}
+use Rattle.machine.proofs.Inside.LegalSlots.{next-at}
 use Rattle.machine.proofs.Placement.{free-agrees}
 
 -- what two slots are given is equal in m and in rows 0 to k
@@ -61,11 +62,10 @@ module _ (h : Sheet) (t : State) (rel cs : List ℕ) (f : slot h t rel cs .outco
   slot-gives = rw slot-passed
 
   pub record-after : (i : ℕ) → i < h .count → recordAt (slot h t rel cs .state) i ≡ next (given h t rel) i
-  unfolding nextState
   record-after i l =
       let shown = slot-shows h t rel (length cs) slot-passed in
       ap (λ (x : SlotAnswer State). recordAt (x .state) i) slot-gives
-      ∙ upto-below (h .count) (next (given h t rel)) (t .rows) noRecord i l (legal-state-long h t (legal-state-is h t (shown .in-order .most-rows) (shown .in-order .state-legal)))
+      ∙ next-at h t rel (legal-state-is h t (shown .in-order .most-rows) (shown .in-order .state-legal)) i l
 
   pub code-after : (i : ℕ) → i < h .count → getD (slot h t rel cs .codes) i 0 ≡ code (given h t rel) i
   unfolding nextCodes

@@ -21,7 +21,7 @@ use Rattle.machine.specs.Answers.{SlotAnswer, slotAnswer, given, nextSta
 use Rattle.records.specs.Methods.{begunRow, steppedRow}
 use Rattle.machine.specs.Lists.{recordIn, stateIn, putRecord, putTo, putState, slotListed, slotIn}
 use Rattle.machine.proofs.Inside.Answers.{Accepted-slot, slot-shows, slot-is-refused, slot-is-accepted}
-use Rattle.machine.proofs.Inside.Courses.{part-holds, rest-holds, slot-at-accepted}
+use Rattle.machine.proofs.Inside.Courses.{slot-at-accepted}
 use Rattle.machine.proofs.Inside.LegalSlots.{next-at, next-legal}
 use Rattle.machine.proofs.Inside.Legals.{legal-state-is, legal-state-says}
 use Rattle.machine.proofs.LegalLists.{kept-spare, kept-long, kept-record}
@@ -81,7 +81,7 @@ module _ (h : Sheet) (l rel : List ℕ) (fine : legal h ≡ true) (kept : legalS
   moved-legal e =
       let w = legal-is h fine in
       ap (legalState h) moved-state
-      ∙ legal-state-says h (nextState h (stateIn l) rel) (w .most-rows) (next-legal h (stateIn l) rel w (legal-state-is h (stateIn l) (w .most-rows) kept) e)
+      ∙ legal-state-says h (nextState h (stateIn l) rel) (w .most-rows) (next-legal h (stateIn l) rel (legal-state-is h (stateIn l) (w .most-rows) kept) w e)
 
   pub moved-list : l′ ≡ putState (h .count) (nextState h (stateIn l) rel) l
   unfolding putState
@@ -89,7 +89,7 @@ module _ (h : Sheet) (l rel : List ℕ) (fine : legal h ≡ true) (kept : legalS
       let w = legal-is h fine in
       moved ∙ ap (λ (m : ℕ). putTo m (next (given h (stateIn l) rel)) l) en
       ∙ put-agree (h .count) (next (given h (stateIn l) rel)) (recordAt (nextState h (stateIn l) rel)) l
-      (λ k b. sym (next-at h (stateIn l) rel w (legal-state-is h (stateIn l) (w .most-rows) kept) k b))
+      (λ k b. sym (next-at h (stateIn l) rel (legal-state-is h (stateIn l) (w .most-rows) kept) k b))
 
 -- the state that a list hands over which the next state is put into
 pub moved-back : (h : Sheet) (l rel : List ℕ) → legal h ≡ true → legalState h (stateIn l) ≡ true → stateIn (putState (h .count) (nextState h (stateIn l) rel) l) ≡ nextState h (stateIn l) rel
@@ -100,12 +100,6 @@ moved-back h l rel fine kept =
 -- `slot_part`
 module _ (h : Sheet) (l rel cs : List ℕ) (j n : ℕ) (en : n ≡ h .count) (fine : legal h ≡ true) (kept : legalState h (stateIn l) ≡ true)
     (list : j * n + n ≤ length rel) (buffer : j * n + n ≤ length cs) where
-  pub entries-hold : n ≤ length (take (j * n + n - j * n) (drop (j * n) rel))
-  entries-hold = omega (arith, part-holds h (stateIn l) rel cs j n en fine kept list buffer)
-
-  pub codes-hold : n ≤ length (take (length cs - j * n) (drop (j * n) cs))
-  codes-hold = omega (arith, rest-holds h (stateIn l) rel cs j n en fine kept list buffer)
-
   module _ (c : Refusal) (e : outcome c ≡ checkReleases h (stateIn l) (take (j * n + n - j * n) (drop (j * n) rel))) (f : c ≡ Accepted)
       (l′ : List ℕ) (moved : l′ ≡ putTo n (next (given h (stateIn l) (take (j * n + n - j * n) (drop (j * n) rel)))) l) where
     pub part-accepted : (ds : List ℕ) → ds ≡ nextCodes h (stateIn l) (take (j * n + n - j * n) (drop (j * n) rel)) (take (length cs - j * n) (drop (j * n) cs))

@@ -11,13 +11,14 @@ use Rattle.machine.specs.Checks.{checkReleases}
 use Rattle.machine.specs.Answers.{given, nextState}
 use Rattle.records.proofs.Inside.Codes.{four-says}
 use Rattle.machine.proofs.Inside.Legals.{LegalState}
+use Rattle.machine.proofs.Inside.LegalSlots.{next-at}
 use Rattle.records.proofs.Inside.Records.{ended-else}
 use Rattle.green.specs.Inside.Model.{age, Reached, slot}
 use Rattle.green.specs.Calls.{Done}
 use Rattle.green.specs.Demand.{Bounded}
 use Rattle.green.proofs.Sheets.{rowsOf, ranges, safe}
 use Rattle.green.proofs.Soundness.{slot-within-bound}
-use Rattle.green.proofs.Slots.{momentOf, ran, slot-is, reached-remaining, reached-since, next-record, next-since}
+use Rattle.green.proofs.Slots.{momentOf, ran, slot-is, reached-remaining, reached-since, next-since}
 use Rattle.green.proofs.Inside.Codes.{finished-code, going-code}
 
 -- an accepted slot from a state: what it was checked for, and the codes that it wrote
@@ -87,7 +88,7 @@ module _ (h : Sheet) (legal : Legal h) (n : ℕ) (up : Bounded h n) where
           go (suc y) e =
               let b = in-bound (omega arith) in
               let early : old ≡ rowAt h k .deadline → ⊥ = λ f. omega (arith, ranges h legal n up k l) in
-              let r′ = next-record h t (d .releases) (s .state) (s .fine) k there in
+              let r′ = next-at h t (d .releases) (s .state) k there in
               let c = going-code (rowAt h k) (runs (given h t (d .releases)) k) (begun (given h t (d .releases)) k) (reached (given h t (d .releases)) k) x (omega arith) early in
               inr (record {
                 ran-or-waited = ⊎-elim (λ f. inl (s .wrote k there ∙ f)) (λ f. inr (s .wrote k there ∙ f)) c;

@@ -13,7 +13,7 @@ use Rattle.records.specs.Steps.{released, worked, older, aged, missed, e
 use Rattle.records.specs.Checks.{checkRow}
 use Rattle.records.specs.Methods.{agedRow}
 
-pub same-or-not : (a b : ℕ) → (a ≡ b) ⊎ (a ≡ b → ⊥)
+same-or-not : (a b : ℕ) → (a ≡ b) ⊎ (a ≡ b → ⊥)
 same-or-not a b = go (eqb a b) refl
   where
     go : (t : Bool) → eqb a b ≡ t → (a ≡ b) ⊎ (a ≡ b → ⊥)
@@ -29,15 +29,23 @@ pub released-some : (r : ℕ) (s : Job) → 1 ≤ r → released r s ≡ record 
 unfolding released
 released-some r s l = rw (ne-eqb r 0 (λ e. omega arith))
 
--- 3. running
-pub worked-most : (ran : Bool) (s : Job) → worked ran s .remaining ≤ s .remaining
+-- 3. running: a slot takes one at most
+pub worked-near : (ran : Bool) (s : Job) → (worked ran s .remaining ≤ s .remaining) × (s .remaining ≤ worked ran s .remaining + 1)
 unfolding worked
-worked-most true s = omega arith
-worked-most false s = omega arith
+worked-near true s = (omega arith, omega arith)
+worked-near false s = (omega arith, omega arith)
 
 pub worked-since : (ran : Bool) (s : Job) → worked ran s .since ≡ s .since
 unfolding worked
 worked-since ran s = refl
+
+pub worked-one : (ran : Bool) (s : Job) → ran ≡ true → worked ran s .remaining ≡ s .remaining - 1
+unfolding worked
+worked-one ran s e = rw e
+
+pub worked-none : (ran : Bool) (s : Job) → ran ≡ false → worked ran s .remaining ≡ s .remaining
+unfolding worked
+worked-none ran s e = rw e
 
 -- 4. ageing
 pub older-below : (T since : ℕ) → since < T → older T since ≡ since + 1
@@ -48,11 +56,9 @@ pub older-full : (T since : ℕ) → T ≤ since → older T since ≡ T
 unfolding older
 older-full T since l = rw (le-ltb since T l)
 
-pub older-some : (T since : ℕ) → 1 ≤ T → 1 ≤ older T since
-older-some T since p = ⊎-elim (λ l. omega (arith, older-below T since l)) (λ l. omega (arith, older-full T since l)) (lt-or-le since T)
-
-pub older-most : (T since : ℕ) → older T since ≤ T
-older-most T since = ⊎-elim (λ l. omega (arith, older-below T since l)) (λ l. omega (arith, older-full T since l)) (lt-or-le since T)
+pub older-within : (T since : ℕ) → 1 ≤ T → (1 ≤ older T since) × (older T since ≤ T)
+older-within T since p =
+    ⊎-elim (λ l. let e = older-below T since l in (omega arith, omega arith)) (λ l. let e = older-full T since l in (omega arith, omega arith)) (lt-or-le since T)
 
 -- 5. the end: at the deadline nothing is left, and elsewhere what was left is
 module _ (row : Row) (s : Job) where
@@ -72,6 +78,9 @@ module _ (row : Row) (s : Job) where
       go true = refl
       go false = refl
 
+  pub ended-less : ended row s .remaining ≤ s .remaining
+  ended-less = ⊎-elim (λ e. omega (arith, ended-at e)) (λ d. omega (arith, ended-else d)) (same-or-not (s .since) (row .deadline))
+
   pub ended-since : ended row s .since ≡ s .since
   unfolding ended
   ended-since = refl
@@ -87,20 +96,6 @@ release-allowed row s r k l e =
     go true ea b eb f = let z : _≡_ {A = ℕ} 0 1 = cc in absurd (omega arith)
     go false ea true eb f = let z : _≡_ {A = ℕ} 0 1 = cc in absurd (omega arith)
     go false ea false eb f = (ltb-false _ _ ea, ltb-false _ _ eb)
-
--- a slot takes one at most
-pub worked-least : (ran : Bool) (s : Job) → s .remaining ≤ worked ran s .remaining + 1
-unfolding worked
-worked-least true s = omega arith
-worked-least false s = omega arith
-
-pub worked-one : (ran : Bool) (s : Job) → ran ≡ true → worked ran s .remaining ≡ s .remaining - 1
-unfolding worked
-worked-one ran s e = rw e
-
-pub worked-none : (ran : Bool) (s : Job) → ran ≡ false → worked ran s .remaining ≡ s .remaining
-unfolding worked
-worked-none ran s e = rw e
 
 -- `age_row`: at the deadline, and elsewhere
 module _ (row : Row) (s : Job) (code since c : ℕ) (es : since ≡ older (row .separation) (s .since)) (ec : c ≡ codeAtEnd (s .remaining) since (row .deadline) code) where
