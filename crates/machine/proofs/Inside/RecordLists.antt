@@ -1,6 +1,6 @@
 -- Records of a state's list, as they are read and written in place.
 -- Assumes nothing.
-use Rattle.basis.specs.Prelude.{ℕ, zero, suc, _+_, _*_, _≤_, _<_, _≡_, refl, sym, ap, ap₂, _∙_, true, false, List, ⊎-elim, length, set, length-set, getD-set-same, getD-set-other, ext-getD, arith, le-refl, eq-or-lt-of-le, add-one, lt-ltb, le-ltb, eq-eqb}
+use Rattle.basis.specs.Prelude.{ℕ, zero, suc, _+_, _*_, _≤_, _<_, _≡_, refl, sym, ap, ap₂, _∙_, true, false, List, ⊎-elim, length, getD, set, length-set, getD-set-same, getD-set-other, ext-getD, arith, le-refl, eq-or-lt-of-le, add-one, lt-ltb, le-ltb, eq-eqb}
 use Rattle.basis.specs.Limits.{mostRows}
 use Rattle.basis.specs.Upto.{upto}
 use Rattle.basis.proofs.Inside.Words.{lt-or-le, all-same, all-true}
@@ -41,10 +41,9 @@ module _ (l : List ℕ) (k : ℕ) (s : RowState) where
   put-here : stateLong (k + 1) ≤ length l → recordIn (putRecord l k s) k ≡ s
   unfolding putRecord recordIn
   put-here r =
-      let a : numberAt (set (set l (k * recordWide) (s .job .remaining)) (k * recordWide + 1) (s .job .since)) (k * recordWide) ≡ s .job .remaining =
-      getD-set-other (set l (k * recordWide) (s .job .remaining)) (k * recordWide + 1) (k * recordWide) (s .job .since) 0 (λ e. omega arith) ∙ getD-set-same l (k * recordWide) (s .job .remaining) 0 (omega arith) in
-      let b : numberAt (set (set l (k * recordWide) (s .job .remaining)) (k * recordWide + 1) (s .job .since)) (k * recordWide + 1) ≡ s .job .since =
-      getD-set-same (set l (k * recordWide) (s .job .remaining)) (k * recordWide + 1) (s .job .since) 0 (simp length-set (omega arith)) in
+      let first = set l (k * recordWide) (s .job .remaining) in
+      let a = getD-set-other first (k * recordWide + 1) (k * recordWide) (s .job .since) 0 (λ e. omega arith) ∙ getD-set-same l (k * recordWide) (s .job .remaining) 0 (omega arith) in
+      let b = getD-set-same first (k * recordWide + 1) (s .job .since) 0 (simp length-set (omega arith)) in
       λ i. recordOf (record { remaining = a i; since = b i })
 
   put-elsewhere : (j : ℕ) → (j ≡ k → ⊥) → recordIn (putRecord l k s) j ≡ recordIn l j
@@ -109,6 +108,12 @@ pub state-rows-long : (l : List ℕ) → spareIsZero l ≡ true → length (stat
 unfolding stateIn
 state-rows-long l e = rw e (length-upto mostRows (recordIn l) (noState .rows))
 
+-- a list of all records, made another
+pub records-all : (f : ℕ → RowState) (l m : List RowState) → length l ≡ mostRows → length m ≡ mostRows → ((k : ℕ) → k < mostRows → f k ≡ getD m k noRecord) → upto mostRows f l ≡ m
+records-all f l m a b e =
+    ext-getD noRecord (upto mostRows f l) m (length-upto mostRows f l ∙ a ∙ sym b)
+    (λ k h. let there : k < mostRows = omega (arith, length-upto mostRows f l) in upto-below mostRows f l noRecord k there (omega arith) ∙ e k there)
+
 -- the state of a list whose first n records are written
 module _ (n : ℕ) (f : ℕ → RowState) (l : List ℕ) (spare : spareIsZero l ≡ true) (few : n ≤ mostRows) (room : stateLong n ≤ length l) where
   spare-put : spareIsZero (putTo n f l) ≡ true
@@ -124,11 +129,9 @@ module _ (n : ℕ) (f : ℕ → RowState) (l : List ℕ) (spare : spareIsZero l 
   state-put =
       rw (spare-put, spare)
       (ap stateOf
-      (ext-getD noRecord (upto mostRows (recordIn (putTo n f l)) (noState .rows)) (upto n f (upto mostRows (recordIn l) (noState .rows)))
-      (length-upto mostRows (recordIn (putTo n f l)) (noState .rows) ∙ sym (length-upto n f (upto mostRows (recordIn l) (noState .rows)) ∙ length-upto mostRows (recordIn l) (noState .rows)))
-      (λ i b. let there : i < mostRows = rw (length-upto mostRows (recordIn (putTo n f l)) (noState .rows)) at b in
-      upto-below mostRows (recordIn (putTo n f l)) (noState .rows) noRecord i there (le-refl mostRows)
-      ∙ ⊎-elim
+      (records-all (recordIn (putTo n f l)) (noState .rows) (upto n f (upto mostRows (recordIn l) (noState .rows))) refl
+      (length-upto n f (upto mostRows (recordIn l) (noState .rows)) ∙ length-upto mostRows (recordIn l) (noState .rows))
+      (λ i there. ⊎-elim
       (λ a. put-record-below f l n i a room ∙ sym (upto-below n f (upto mostRows (recordIn l) (noState .rows)) noRecord i a (rw (length-upto mostRows (recordIn l) (noState .rows)) few)))
       (λ a. put-record-past f l n i a ∙ sym (upto-past n f (upto mostRows (recordIn l) (noState .rows)) noRecord i a ∙ upto-below mostRows (recordIn l) (noState .rows) noRecord i there (le-refl mostRows)))
       (lt-or-le i n))))
@@ -171,12 +174,7 @@ module _ (l : List ℕ) (none : (i : ℕ) → numberAt l i ≡ 0) where
 
   pub zeros-state : stateIn l ≡ noState
   unfolding stateIn
-  zeros-state =
-      rw zeros-spare
-      (ap stateOf
-      (ext-getD noRecord (upto mostRows (recordIn l) (noState .rows)) (noState .rows) (length-upto mostRows (recordIn l) (noState .rows))
-      (λ k b. let there : k < mostRows = rw (length-upto mostRows (recordIn l) (noState .rows)) at b in
-      upto-below mostRows (recordIn l) (noState .rows) noRecord k there (le-refl mostRows) ∙ zeros-record k ∙ sym (getD-all mostRows k noRecord))))
+  zeros-state = rw zeros-spare (ap stateOf (records-all (recordIn l) (noState .rows) (noState .rows) refl refl (λ k there. zeros-record k ∙ sym (getD-all mostRows k noRecord))))
 
 pub cleared-none : (l : List ℕ) (i : ℕ) → numberAt (cleared l) i ≡ 0
 cleared-none l i = filled-read (λ i. 0) l i (λ b. refl)

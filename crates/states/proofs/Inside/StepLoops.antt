@@ -1,8 +1,8 @@
 -- What each loop's turn and end shows, in the words of its invariant and of what it calls.
 -- Assumes nothing.
-use Rattle.basis.specs.Prelude.{ℕ, _+_, _≤_, _≡_, ap, _∙_, List, getD, set, arith, add-one}
+use Rattle.basis.specs.Prelude.{ℕ, _+_, _≤_, _≡_, ap, _∙_, List, getD, set, add-one}
 use Rattle.basis.specs.Upto.{upto}
-use Rattle.basis.proofs.Inside.Upto.{upto-read, upto-set}
+use Rattle.basis.proofs.Inside.Upto.{upto-read, upto-set, upto-whole}
 use Rattle.sheet.specs.Legal.{rowAt}
 use Rattle.sheet.specs.declared.row.Sheet.{Sheet}
 use Rattle.records.specs.declared.record.Job.{Job}
@@ -16,7 +16,7 @@ use Rattle.machine.specs.States.{stateOf}
 use Rattle.machine.specs.Slot.{freeAt}
 use Rattle.states.specs.declared.state.State.{State as Value}
 use Rattle.states.specs.Values.{held}
-use Rattle.states.specs.Inside.Methods.{jobAt, releasedAt, releasedState, placedAt, placedRecord, placedCode, placedState, placedCodes, agedAt, agedRecord, agedCode, agedState, agedCodes}
+use Rattle.states.specs.Inside.Methods.{jobAt, releasedAt, placedAt, placedRecord, placedCode, agedAt, agedRecord, agedCode}
 
 -- `released`
 module _ (rel : List ℕ) (t₀ t : Value) (i : ℕ) (so-far : t .rows ≡ upto i (releasedAt (held t₀) rel) (t₀ .rows)) where
@@ -24,10 +24,6 @@ module _ (rel : List ℕ) (t₀ t : Value) (i : ℕ) (so-far : t .rows ≡ upto 
   released-more q e =
       upto-set i (releasedAt (held t₀) rel) (t .rows) (t₀ .rows) (recordOf q) so-far
       (ap recordOf e ∙ ap (λ (s : RowState). recordOf (released (getD rel i 0) (s .job))) (upto-read i (releasedAt (held t₀) rel) (t .rows) (t₀ .rows) noRecord so-far))
-
-  pub released-done : (h : Sheet) → i ≤ h .count → h .count ≤ i → held t ≡ releasedState h (held t₀) rel
-  unfolding releasedState
-  released-done h a b = let e : i ≡ h .count = omega arith in ap stateOf (rw e at so-far)
 
 -- `placed`
 module _ (h : Sheet) (t₀ t : Value) (free i : ℕ) (ef : free ≡ freeAt (h .processors) (rowAt h) (jobAt (held t₀)) i)
@@ -45,14 +41,6 @@ module _ (h : Sheet) (t₀ t : Value) (free i : ℕ) (ef : free ≡ freeAt (h .p
   pub placed-codes : (cs cs₀ : List ℕ) → cs ≡ upto i (placedCode h (held t₀)) cs₀ → set cs i (r .code) ≡ upto (i + 1) (placedCode h (held t₀)) cs₀
   placed-codes cs cs₀ e = upto-set i (placedCode h (held t₀)) cs cs₀ (r .code) e (ap (λ (x : Placed). x .code) is-placed)
 
-pub placed-done : (h : Sheet) (t₀ t : Value) (i : ℕ) → t .rows ≡ upto i (placedRecord h (held t₀)) (t₀ .rows) → i ≤ h .count → h .count ≤ i → held t ≡ placedState h (held t₀)
-unfolding placedState
-placed-done h t₀ t i so-far a b = let e : i ≡ h .count = omega arith in ap stateOf (rw e at so-far)
-
-pub placed-codes-done : (h : Sheet) (t₀ : Value) (i : ℕ) (cs cs₀ : List ℕ) → cs ≡ upto i (placedCode h (held t₀)) cs₀ → i ≤ h .count → h .count ≤ i → cs ≡ placedCodes h (held t₀) cs₀
-unfolding placedCodes
-placed-codes-done h t₀ i cs cs₀ so-far a b = let e : i ≡ h .count = omega arith in rw e at so-far
-
 -- `aged`
 module _ (h : Sheet) (t₀ t : Value) (cs₀ cs : List ℕ) (i : ℕ) (so-far : t .rows ≡ upto i (agedRecord h (held t₀) cs₀) (t₀ .rows))
     (codes-so-far : cs ≡ upto i (agedCode h (held t₀) cs₀) cs₀) (r : Aged) (er : r ≡ agedRow (rowAt h i) (jobAt (held t) i) (getD cs i 0)) where
@@ -67,10 +55,6 @@ module _ (h : Sheet) (t₀ t : Value) (cs₀ cs : List ℕ) (i : ℕ) (so-far : 
   pub aged-codes : set cs i (r .code) ≡ upto (i + 1) (agedCode h (held t₀) cs₀) cs₀
   aged-codes = upto-set i (agedCode h (held t₀) cs₀) cs cs₀ (r .code) codes-so-far (ap (λ (x : Aged). x .code) is-aged)
 
-pub aged-done : (h : Sheet) (t₀ t : Value) (cs₀ : List ℕ) (i : ℕ) → t .rows ≡ upto i (agedRecord h (held t₀) cs₀) (t₀ .rows) → i ≤ h .count → h .count ≤ i → held t ≡ agedState h (held t₀) cs₀
-unfolding agedState
-aged-done h t₀ t cs₀ i so-far a b = let e : i ≡ h .count = omega arith in ap stateOf (rw e at so-far)
-
-pub aged-codes-done : (h : Sheet) (t₀ : Value) (i : ℕ) (cs cs₀ : List ℕ) → cs ≡ upto i (agedCode h (held t₀) cs₀) cs₀ → i ≤ h .count → h .count ≤ i → cs ≡ agedCodes h (held t₀) cs₀
-unfolding agedCodes
-aged-codes-done h t₀ i cs cs₀ so-far a b = let e : i ≡ h .count = omega arith in rw e at so-far
+-- the end of each loop
+pub rows-done : (f : ℕ → RowState) (t₀ t : Value) (i n : ℕ) → t .rows ≡ upto i f (t₀ .rows) → i ≤ n → n ≤ i → held t ≡ stateOf (upto n f (t₀ .rows))
+rows-done f t₀ t i n so-far a b = ap stateOf (upto-whole n i f (t .rows) (t₀ .rows) so-far a b)

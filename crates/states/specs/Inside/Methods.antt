@@ -22,7 +22,7 @@ abbrev pub releasedAt : State → List ℕ → ℕ → RowState
 releasedAt t releases k = recordOf (released (getD releases k 0) (jobAt t k))
 
 -- Step 1 of every row.
-unfoldable pub releasedState : Sheet → State → List ℕ → State
+abbrev pub releasedState : Sheet → State → List ℕ → State
 releasedState h t releases = stateOf (upto (h .count) (releasedAt t releases) (t .rows))
 
 -- The placement of row k.
@@ -37,11 +37,11 @@ abbrev pub placedCode : Sheet → State → ℕ → ℕ
 placedCode h t k = placedAt h t k .code
 
 -- Steps 2 and 3 of every row.
-unfoldable pub placedState : Sheet → State → State
+abbrev pub placedState : Sheet → State → State
 placedState h t = stateOf (upto (h .count) (placedRecord h t) (t .rows))
 
 -- The codes so far: no job, waited or ran.
-unfoldable pub placedCodes : Sheet → State → List ℕ → List ℕ
+abbrev pub placedCodes : Sheet → State → List ℕ → List ℕ
 placedCodes h t codes = upto (h .count) (placedCode h t) codes
 
 -- The ageing of row k.
@@ -56,9 +56,9 @@ abbrev pub agedCode : Sheet → State → List ℕ → ℕ → ℕ
 agedCode h t codes k = agedAt h t codes k .code
 
 -- Steps 4 and 5 of every row.
-unfoldable pub agedState : Sheet → State → List ℕ → State
+abbrev pub agedState : Sheet → State → List ℕ → State
 agedState h t codes = stateOf (upto (h .count) (agedRecord h t codes) (t .rows))
 
 -- The codes of the slot.
-unfoldable pub agedCodes : Sheet → State → List ℕ → List ℕ
+abbrev pub agedCodes : Sheet → State → List ℕ → List ℕ
 agedCodes h t codes = upto (h .count) (agedCode h t codes) codes
