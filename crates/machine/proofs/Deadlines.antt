@@ -1,6 +1,6 @@
 -- What the margin of a job says of its deadline, in any continuation of accepted slots.
 -- Assumes nothing.
-use Rattle.basis.specs.Prelude.{ℕ, zero, suc, _+_, _≤_, _<_, _≡_, sym, ap, subst, _∙_, Bool, true, false, List, length, getD, arith, add-zero, lt-ltb, eq-eqb}
+use Rattle.basis.specs.Prelude.{ℕ, zero, suc, _+_, _≤_, _<_, _≡_, sym, ap, _∙_, Bool, true, false, List, length, getD, arith, lt-ltb, eq-eqb}
 use lib.IntN.{pos}
 use lib.Signed.{_<ℤ_}
 use Rattle.basis.specs.Refusals.{accepted}
@@ -105,63 +105,56 @@ module _ (h : Sheet) (n : ℕ) (g : Continuation h n) (k : ℕ) (there : k < h .
     one-older : at (suc i) .since ≡ at i .since + 1
     one-older = ap (λ (j : Job). j .since) next-now ∙ ended-since row (aged row left) ∙ older-now
 
-  from-next : (d i : ℕ) → getD (codes (i + suc d)) k 0 ≡ getD (codes (suc i + d)) k 0
-  from-next d i = let e : i + suc d ≡ suc i + d = omega arith in ap (λ (x : ℕ). getD (codes x) k 0) e
-
-  -- a job with more to run than slots to its deadline is missed at its deadline
-  late : (d i : ℕ) → i + d < n → 1 ≤ at i .remaining → at i .since + d + 1 ≡ row .deadline → row .deadline < at i .since + at i .remaining → getD (codes (i + d)) k 0 ≡ 4
-  late zero i b job e l =
-      rw add-zero (missed-now i (omega arith) job (omega (arith, worked-near (ran i) (at i))) (omega arith))
-  late (suc d) i b job e l =
+  -- a job with more to run than slots to its deadline is missed at its deadline, in slot j, d slots after slot i
+  late : (d i j : ℕ) → i + d ≡ j → j < n → 1 ≤ at i .remaining → at i .since + d + 1 ≡ row .deadline → row .deadline < at i .since + at i .remaining → getD (codes j) k 0 ≡ 4
+  late zero i j q b job e l = let s : j ≡ i = omega arith in rw s (missed-now i (omega arith) job (omega (arith, worked-near (ran i) (at i))) (omega arith))
+  late (suc d) i j q b job e l =
       let near = worked-near (ran i) (at i) in
       let more = still-there i (omega arith) job (λ f. omega arith) in
       let older = one-older i (omega arith) job in
-      from-next d i ∙ late d (suc i) (omega arith) (omega arith) (omega arith) (omega arith)
+      late d (suc i) j (omega arith) b (omega arith) (omega arith) (omega arith)
 
   -- a job that has just enough slots and runs in each is finished at its deadline
-  just : (d i : ℕ) → i + d < n → 1 ≤ at i .remaining → at i .since + d + 1 ≡ row .deadline → at i .since + at i .remaining ≡ row .deadline
-      → ((j : ℕ) → i ≤ j → j ≤ i + d → ran j ≡ true) → getD (codes (i + d)) k 0 ≡ 3
-  just zero i b job e l r = rw add-zero (finished-now i (omega arith) job (omega (arith, worked-one (ran i) (at i) (r i (omega arith) (omega arith)))))
-  just (suc d) i b job e l r =
+  just : (d i j : ℕ) → i + d ≡ j → j < n → 1 ≤ at i .remaining → at i .since + d + 1 ≡ row .deadline → at i .since + at i .remaining ≡ row .deadline
+      → ((x : ℕ) → i ≤ x → x ≤ j → ran x ≡ true) → getD (codes j) k 0 ≡ 3
+  just zero i j q b job e l r = let s : j ≡ i = omega arith in rw s (finished-now i (omega arith) job (omega (arith, worked-one (ran i) (at i) (r i (omega arith) (omega arith)))))
+  just (suc d) i j q b job e l r =
       let one-less = worked-one (ran i) (at i) (r i (omega arith) (omega arith)) in
       let more = still-there i (omega arith) job (λ f. omega arith) in
       let older = one-older i (omega arith) job in
-      from-next d i ∙ just d (suc i) (omega arith) (omega arith) (omega arith) (omega arith) (λ j a c. r j (omega arith) (omega arith))
+      just d (suc i) j (omega arith) b (omega arith) (omega arith) (omega arith) (λ x a c. r x (omega arith) c)
 
-  -- a job that has just enough slots and waits in one of them is missed at its deadline
-  waited : (v d i : ℕ) → v ≤ d → i + d < n → 1 ≤ at i .remaining → at i .since + d + 1 ≡ row .deadline → row .deadline ≤ at i .since + at i .remaining
-      → ran (i + v) ≡ false → getD (codes (i + d)) k 0 ≡ 4
-  waited zero zero i a b job e l r =
-      let all = worked-none (ran i) (at i) (subst (λ (x : ℕ). ran x ≡ false) (add-zero i) r) in
-      rw add-zero (missed-now i (omega arith) job (omega arith) (omega arith))
-  waited zero (suc d) i a b job e l r =
-      let all = worked-none (ran i) (at i) (subst (λ (x : ℕ). ran x ≡ false) (add-zero i) r) in
+  -- a job that has just enough slots and waits in one of them, slot w, is missed at its deadline
+  waited : (v d i w j : ℕ) → i + v ≡ w → i + d ≡ j → v ≤ d → j < n → 1 ≤ at i .remaining → at i .since + d + 1 ≡ row .deadline → row .deadline ≤ at i .since + at i .remaining
+      → ran w ≡ false → getD (codes j) k 0 ≡ 4
+  waited zero zero i w j p q a b job e l r =
+      let here : w ≡ i = omega arith in
+      let all = worked-none (ran i) (at i) (rw here at r) in
+      let s : j ≡ i = omega arith in
+      rw s (missed-now i (omega arith) job (omega arith) (omega arith))
+  waited zero (suc d) i w j p q a b job e l r =
+      let here : w ≡ i = omega arith in
+      let all = worked-none (ran i) (at i) (rw here at r) in
       let more = still-there i (omega arith) job (λ f. omega arith) in
       let older = one-older i (omega arith) job in
-      from-next d i ∙ late d (suc i) (omega arith) (omega arith) (omega arith) (omega arith)
-  waited (suc v) zero i a b job e l r = absurd (omega arith)
-  waited (suc v) (suc d) i a b job e l r =
+      late d (suc i) j (omega arith) b (omega arith) (omega arith) (omega arith)
+  waited (suc v) zero i w j p q a b job e l r = absurd (omega arith)
+  waited (suc v) (suc d) i w j p q a b job e l r =
       let near = worked-near (ran i) (at i) in
       let more = still-there i (omega arith) job (λ f. omega arith) in
       let older = one-older i (omega arith) job in
-      let same : i + suc v ≡ suc i + v = omega arith in
-      from-next d i ∙ waited v d (suc i) (omega arith) (omega arith) (omega arith) (omega arith) (omega arith) (subst (λ (x : ℕ). ran x ≡ false) same r)
+      waited v d (suc i) w j (omega arith) (omega arith) (omega arith) b (omega arith) (omega arith) (omega arith) r
 
   -- what the margin says before the first of the slots; since reaches the deadline in slot d
   module _ (job : 1 ≤ at 0 .remaining) (d : ℕ) (reaches : at 0 .since + d + 1 ≡ row .deadline) (given-it : d < n) where
-    from-none : getD (codes d) k 0 ≡ getD (codes (0 + d)) k 0
-    from-none = let e : d ≡ 0 + d = omega arith in ap (λ (x : ℕ). getD (codes x) k 0) e
-
     -- a negative margin: every continuation that reaches the deadline gives code 4 there
     pub negative-is-missed : marginOf row (at 0) <ℤ pos 0 → getD (codes d) k 0 ≡ 4
-    negative-is-missed m = from-none ∙ late d 0 (omega arith) job reaches (negative-late row (at 0) m)
+    negative-is-missed m = late d 0 d (omega arith) given-it job reaches (negative-late row (at 0) m)
 
     -- a margin of zero: one waiting slot, and it ends in 4
     pub zero-waits-once : marginOf row (at 0) ≡ pos 0 → (v : ℕ) → v ≤ d → ran v ≡ false → getD (codes d) k 0 ≡ 4
-    zero-waits-once m v l r =
-        let same : v ≡ 0 + v = omega arith in
-        from-none ∙ waited v d 0 l (omega arith) job reaches (omega (arith, zero-just row (at 0) m)) (subst (λ (x : ℕ). ran x ≡ false) same r)
+    zero-waits-once m v l r = waited v d 0 v d (omega arith) (omega arith) l given-it job reaches (omega (arith, zero-just row (at 0) m)) r
 
     -- and running in every slot it ends in 3
     pub zero-runs-on : marginOf row (at 0) ≡ pos 0 → ((v : ℕ) → v ≤ d → ran v ≡ true) → getD (codes d) k 0 ≡ 3
-    zero-runs-on m r = from-none ∙ just d 0 (omega arith) job reaches (zero-just row (at 0) m) (λ j a c. r j (omega arith))
+    zero-runs-on m r = just d 0 d (omega arith) given-it job reaches (zero-just row (at 0) m) (λ x a c. r x c)

@@ -1,6 +1,6 @@
 -- The margin of a row with a job: its value, its range, and what negative and zero say in numbers.
 -- Assumes nothing.
-use Rattle.basis.specs.Prelude.{ℕ, suc, _+_, _-_, _≤_, _<_, _≡_, refl, sym, _∙_, Bool, true, false, cond, ltb, le→leb, ltb→lt, arith, lt-ltb, ltb-true, ltb-false}
+use Rattle.basis.specs.Prelude.{ℕ, suc, _+_, _-_, _≤_, _<_, _≡_, refl, Bool, true, false, cond, ltb, le→leb, ltb→lt, arith, lt-ltb, ltb-true, ltb-false}
 use lib.IntN.{pos, negsuc, subℕ, _-ℤ_}
 use lib.Signed.{_≤ℤ_, _<ℤ_}
 use Rattle.basis.specs.Refusals.{accepted}
@@ -45,20 +45,18 @@ module _ (m : ℕ) (row : Row) (s : Job) (w : LegalRow m row) (l : LegalJob row 
       (difference-le (row .deadline) (s .since + s .remaining) (row .deadline) 2 (omega (arith, l .some-since)))
 
 -- negative, and zero, as numbers
-pub negative-late : (row : Row) (s : Job) → marginOf row s <ℤ pos 0 → row .deadline < s .since + s .remaining
-unfolding marginOf
-negative-late row s n = go (ltb (row .deadline) (s .since + s .remaining)) refl (rw less-twice at n)
+sign-of : (a b : ℕ) → (subℕ a b <ℤ pos 0 → a < b) × (subℕ a b ≡ pos 0 → b ≡ a)
+sign-of a b = go (ltb a b) refl
   where
-    go : (x : Bool) → ltb (row .deadline) (s .since + s .remaining) ≡ x
-        → cond x (negsuc (s .since + s .remaining - suc (row .deadline))) (pos (row .deadline - (s .since + s .remaining))) <ℤ pos 0 → row .deadline < s .since + s .remaining
-    go true e f = ltb-true _ _ e
-    go false e f = absurd (omega (arith, ltb→lt (row .deadline - (s .since + s .remaining)) 0 (f .lt)))
+    go : (x : Bool) → ltb a b ≡ x → (cond x (negsuc (b - suc a)) (pos (a - b)) <ℤ pos 0 → a < b) × (cond x (negsuc (b - suc a)) (pos (a - b)) ≡ pos 0 → b ≡ a)
+    go true e = (λ f. ltb-true _ _ e, λ f. let z : _≡_ {A = ℕ} 0 1 = cc in absurd (omega arith))
+    go false e = (λ f. absurd (omega (arith, ltb→lt (a - b) 0 (f .lt))), λ f. let z : a - b ≡ 0 = cc in omega (arith, ltb-false a b e))
 
-pub zero-just : (row : Row) (s : Job) → marginOf row s ≡ pos 0 → s .since + s .remaining ≡ row .deadline
-unfolding marginOf
-zero-just row s e = go (ltb (row .deadline) (s .since + s .remaining)) refl (sym (less-twice (row .deadline) (s .since) (s .remaining)) ∙ e)
-  where
-    go : (x : Bool) → ltb (row .deadline) (s .since + s .remaining) ≡ x
-        → cond x (negsuc (s .since + s .remaining - suc (row .deadline))) (pos (row .deadline - (s .since + s .remaining))) ≡ pos 0 → s .since + s .remaining ≡ row .deadline
-    go true f g = let z : _≡_ {A = ℕ} 0 1 = cc in absurd (omega arith)
-    go false f g = let z : row .deadline - (s .since + s .remaining) ≡ 0 = cc in omega (arith, ltb-false (row .deadline) (s .since + s .remaining) f)
+module _ (row : Row) (s : Job) where
+  pub negative-late : marginOf row s <ℤ pos 0 → row .deadline < s .since + s .remaining
+  unfolding marginOf
+  negative-late n = sign-of _ _ .0 (rw less-twice at n)
+
+  pub zero-just : marginOf row s ≡ pos 0 → s .since + s .remaining ≡ row .deadline
+  unfolding marginOf
+  zero-just e = sign-of _ _ .1 (rw less-twice at e)
