@@ -1,6 +1,6 @@
 -- The slot in place: what each turn and each way out shows, in the words of its invariant and of what it calls.
 -- Assumes nothing.
-use Rattle.basis.specs.Prelude.{ℕ, _+_, _*_, _-_, _≤_, _<_, _≡_, refl, sym, ap, ap₂, _∙_, true, List, length, getD, set, take, drop, arith, le-refl, add-one}
+use Rattle.basis.specs.Prelude.{ℕ, _+_, _*_, _-_, _≤_, _<_, _≡_, refl, sym, ap, _∙_, true, List, length, getD, set, take, drop, arith, le-refl, add-one}
 use borrow.Rule.Slice.PartMut.{putMid}
 use Rattle.basis.specs.Refusals.{accepted, refused, outcome}
 use Rattle.basis.specs.declared.refusal.Refusal.{Refusal}
@@ -30,7 +30,7 @@ use Rattle.machine.proofs.Inside.RecordLists.{put-record-past, put-more
 -- `step_row`
 pub row-stepped : (h : Sheet) (l : List ℕ) (k release f : ℕ) (row : Row) (s : RowState) (r : Placed) → row ≡ rowAt h k → s ≡ recordIn l k → r ≡ steppedRow row (s .job) release f
     → r ≡ steppedRow (rowAt h k) (recordIn l k .job) release f
-row-stepped h l k release f row s r er es e = e ∙ ap₂ (λ (x : Row) (y : RowState). steppedRow x (y .job) release f) er es
+row-stepped h l k release f row s r er es e = rw (er, es) at e
 
 -- `step_rows`: every processor is free at the top
 pub all-free : (h : Sheet) (t : State) (rel : List ℕ) (f : ℕ) → f ≡ h .processors → f ≡ free (given h t rel) 0

@@ -1,6 +1,6 @@
 -- The checks in place: of a sheet and a state, and of the releases, in the words of the loop over them.
 -- Assumes nothing.
-use Rattle.basis.specs.Prelude.{ℕ, _+_, _≤_, _<_, _≡_, sym, ap, ap₂, _∙_, Bool, true, false, List, getD, arith}
+use Rattle.basis.specs.Prelude.{ℕ, _+_, _≤_, _<_, _≡_, sym, ap, _∙_, Bool, true, false, List, getD, arith}
 use Rattle.basis.specs.Refusals.{Outcome, accepted, refused, outcome, firstOf}
 use Rattle.basis.specs.declared.refusal.Refusal.{Refusal}
 use Rattle.basis.specs.declared.refusal.Refusal.the-variants.{Accepted, Refused}
@@ -24,7 +24,7 @@ check-done h t rel i n so-far en a b = let e : i ≡ h .count = omega arith in s
 -- `check_in`
 pub check-in-there : (h : Sheet) (l : List ℕ) (release k : ℕ) (row : Row) (s : RowState) → row ≡ rowAt h k → s ≡ recordIn l k → (o : Outcome) → o ≡ checkRow row s release k
     → o ≡ checkRow (rowAt h k) (recordIn l k) release k
-check-in-there h l release k row s er es o e = e ∙ ap₂ (λ (r : Row) (x : RowState). checkRow r x release k) er es
+check-in-there h l release k row s er es o e = rw (er, es) at e
 
 -- `check_releases_in`
 module _ (h : Sheet) (l rel : List ℕ) (fine : legal h ≡ true) (kept : legalState h (stateIn l) ≡ true) (i : ℕ) (so-far : firstOf i (checkAt h (stateIn l) rel) ≡ accepted)

@@ -1,6 +1,6 @@
 -- What each step of a slot does to a row's job, as facts.
 -- Assumes nothing.
-use Rattle.basis.specs.Prelude.{ℕ, _+_, _-_, _≤_, _<_, _≡_, refl, sym, ap, _∙_, Bool, true, false, ltb, eqb, _⊎_, inl, inr, ⊎-elim, arith, lt-ltb, le-ltb, eq-eqb, ne-eqb, ltb-false, eqb-true, eqb-false}
+use Rattle.basis.specs.Prelude.{ℕ, _+_, _-_, _≤_, _<_, _≡_, refl, sym, _∙_, Bool, true, false, ltb, eqb, _⊎_, inl, inr, ⊎-elim, arith, lt-ltb, le-ltb, eq-eqb, ne-eqb, ltb-false, eqb-true, eqb-false}
 use Rattle.basis.specs.Words.{pick, both}
 use Rattle.basis.specs.Refusals.{accepted, refused}
 use Rattle.basis.proofs.Inside.Words.{lt-or-le}
@@ -101,14 +101,8 @@ release-allowed row s r k l e =
 module _ (row : Row) (s : Job) (code since c : ℕ) (es : since ≡ older (row .separation) (s .since)) (ec : c ≡ codeAtEnd (s .remaining) since (row .deadline) code) where
   pub age-at : since ≡ row .deadline → _≡_ {A = Aged} (record { after = record { remaining = 0; since = since }; code = c }) (agedRow row s code)
   unfolding agedRow aged ended
-  age-at e =
-      let none : 0 ≡ ended row (aged row s) .remaining = sym (ended-at row (aged row s) (sym es ∙ e)) in
-      let code-so = ec ∙ ap (λ (x : ℕ). codeAtEnd (s .remaining) x (row .deadline) code) es in
-      λ i. record { after = record { remaining = none i; since = es i }; code = code-so i }
+  age-at e = rw (ec, es, ended-at row (aged row s) (sym es ∙ e))
 
   pub age-else : (since ≡ row .deadline → ⊥) → _≡_ {A = Aged} (record { after = record { remaining = s .remaining; since = since }; code = c }) (agedRow row s code)
   unfolding agedRow aged ended
-  age-else d =
-      let all : s .remaining ≡ ended row (aged row s) .remaining = sym (ended-else row (aged row s) (λ e. d (es ∙ e))) in
-      let code-so = ec ∙ ap (λ (x : ℕ). codeAtEnd (s .remaining) x (row .deadline) code) es in
-      λ i. record { after = record { remaining = all i; since = es i }; code = code-so i }
+  age-else d = rw (ec, es, ended-else row (aged row s) (λ e. d (es ∙ e)))
