@@ -32,7 +32,7 @@ fixedIn k list = fieldsIn (accepted, fixedSheet k) list
 
 -- The number at place i of the list of a state, remaining and since of each row: past the rows it is zero.
 abbrev pub stateCell : State → ℕ → ℕ
-stateCell t = pairCell (λ k. recordAt t k .remaining) (λ k. recordAt t k .since)
+stateCell t = pairCell (λ k. recordAt t k .job .remaining) (λ k. recordAt t k .job .since)
 
 -- What a run tells, with a list that is made the state after it.
 abbrev pub courseTold : RunAnswer State → List ℕ → (ℕ × ℕ) × (ℕ × (List ℕ × List ℕ))

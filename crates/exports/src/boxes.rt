@@ -7,6 +7,7 @@ ghost use Rattle.exports.specs.Further.{stateCell, boxOn};
 use crate::telling::tell;
 use basis::MOST_ROWS;
 use basis::Refusal;
+use records::Job;
 use records::RowState;
 use states::State;
 
@@ -18,8 +19,10 @@ fn record_at(state: State, k: usize) -> RowState
         return state.rows[k];
     }
     RowState {
-        remaining: 0,
-        since: 0,
+        job: Job {
+            remaining: 0,
+            since: 0,
+        },
     }
 }
 
@@ -28,10 +31,11 @@ fn cell_of(state: State, at: usize) -> u64
     ensures { λ r. ⌜ r ≡ stateCell (held state) at ⌝ }
 {
     let s = record_at(state, at / 2);
+    let job = s.job;
     if at % 2 == 0 {
-        return s.remaining;
+        return job.remaining;
     }
-    s.since
+    job.since
 }
 
 // Makes a list the list of a state; places past its records are made zero.

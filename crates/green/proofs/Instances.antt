@@ -9,7 +9,7 @@ use Rattle.bound.specs.Test.{passes, amounts, amountOf, durationOf, room, q, X,
 use Rattle.bound.specs.Bound.{bound, holds, resultOf, resultsTo, judge, boundBy, least}
 use Rattle.tables.specs.Tables.{sheetA, sheetB, sheetD, sheetE, sheetF}
 use Rattle.machine.specs.States.{freshState, legalState}
-use Rattle.records.specs.Records.{legalRecord, isZero}
+use Rattle.records.specs.Records.{legalJob, isZeroJob}
 use Rattle.machine.specs.States as states
 use Rattle.records.specs.Steps.{released, fits, freeBelow, worked, older, aged, missed, ended, codeOf}
 use Rattle.machine.specs.Slot.{freeAt}
@@ -40,5 +40,5 @@ pub finishes-in-exactly-its-bound : (releaseIn (history sheetD (freshOf sheetD) 
     × (codeIn (history sheetD (freshOf sheetD) tight) 1 1 ≡ 2)
     × (codeIn (history sheetD (freshOf sheetD) tight) 2 1 ≡ 1)
     × (codeIn (history sheetD (freshOf sheetD) tight) 3 1 ≡ 3)
-unfolding history runDone fresh given nextState nextCodes slot slotAt onward course run checkRow checkReleases checkState checkRoom checkSlot checkRun released fits freeBelow freeAt worked older aged missed ended codeOf freshState legalState legalRecord isZero states.legalAt legal legalAt legalRow firstOf upto allOf
+unfolding history runDone fresh given nextState nextCodes slot slotAt onward course run checkRow checkReleases checkState checkRoom checkSlot checkRun released fits freeBelow freeAt worked older aged missed ended codeOf freshState legalState legalJob isZeroJob states.legalAt legal legalAt legalRow firstOf upto allOf
 finishes-in-exactly-its-bound = (refl, refl, refl, refl, refl)

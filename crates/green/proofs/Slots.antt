@@ -6,26 +6,26 @@ use Rattle.basis.specs.Refusals.{accepted}
 use Rattle.basis.proofs.Inside.FirstRefusal.{first-at}
 use Rattle.basis.proofs.Inside.Sums.{sum-same}
 use Rattle.basis.proofs.Inside.Words.{lt-or-le}
-use Rattle.basis.proofs.Inside.Upto.{upto-below}
 use Rattle.sheet.specs.Legal.{rowAt}
 use Rattle.sheet.specs.declared.row.Row.{Row}
 use Rattle.sheet.specs.declared.row.Sheet.{Sheet}
+use Rattle.records.specs.declared.record.Job.{Job}
 use Rattle.records.specs.declared.record.RowState.{RowState}
 use Rattle.machine.specs.States.{State, recordAt}
-use Rattle.records.specs.Records.{noRecord}
-use Rattle.machine.specs.Slot.{begun, free, runs, reached, next}
-use Rattle.records.specs.Steps.{released, fits, worked, older, aged, missed, ended}
+use Rattle.machine.specs.Slot.{begun, free, runs, reached}
+use Rattle.records.specs.Steps.{released, fits, worked, older, aged, ended}
 use Rattle.machine.specs.Checks.{checkAt, checkReleases}
 use Rattle.machine.specs.Answers.{given, nextState}
-use Rattle.machine.proofs.Inside.Legals.{LegalState, legal-state-long}
+use Rattle.machine.proofs.Inside.Legals.{LegalState}
+use Rattle.machine.proofs.Inside.LegalSlots.{next-at}
 use Rattle.machine.proofs.Placement.{takenBy, processors-are-kept, waits-unfit}
-use Rattle.records.proofs.Inside.Records.{release-allowed, older-below, older-full}
+use Rattle.records.proofs.Inside.Records.{release-allowed, older-below, older-full, ended-less}
 use Rattle.green.specs.Inside.Model.{Moment, owed, age, Slot}
 use Rattle.green.proofs.Sheets.{rowsOf}
 
 -- a state as functions of the row number
 abbrev pub momentOf : State → Moment
-momentOf t = record { remaining = λ k. recordAt t k .remaining; since = λ k. recordAt t k .since }
+momentOf t = record { remaining = λ k. recordAt t k .job .remaining; since = λ k. recordAt t k .job .since }
 
 -- one where a row runs
 abbrev pub bit : Bool → ℕ
@@ -37,18 +37,18 @@ at-most-one false = omega arith
 
 -- ---- a row's steps, by themselves
 
-pub released-remaining : (r : ℕ) (s : RowState) → released r s .remaining ≡ owed r (s .remaining)
+pub released-remaining : (r : ℕ) (s : Job) → released r s .remaining ≡ owed r (s .remaining)
 unfolding released owed
 released-remaining zero s = refl
 released-remaining (suc r) s = simp (ne-eqb (suc r) 0 (λ e. omega arith))
 
-pub released-since : (r : ℕ) (s : RowState) → released r s .since ≡ age r (s .since)
+pub released-since : (r : ℕ) (s : Job) → released r s .since ≡ age r (s .since)
 unfolding released age
 released-since zero s = refl
 released-since (suc r) s = simp (ne-eqb (suc r) 0 (λ e. omega arith))
 
 -- a row that runs has a job
-runs-with-job : (f : ℕ) (row : Row) (s : RowState) → bit (fits f row s) ≤ s .remaining
+runs-with-job : (f : ℕ) (row : Row) (s : Job) → bit (fits f row s) ≤ s .remaining
 unfolding fits
 runs-with-job f row s = go (ltb 0 (s .remaining)) (leb (row .threads) f) refl
   where
@@ -61,19 +61,11 @@ runs-with-job f row s = go (ltb 0 (s .remaining)) (leb (row .threads) f) refl
 older-is : (T s : ℕ) → s ≤ T → older T s ≡ min T (s + 1)
 older-is T s h = ⊎-elim (λ l. omega (arith, older-below T s l)) (λ l. omega (arith, older-full T s l)) (lt-or-le s T)
 
--- what is left after running, and what is stored is no more
-pub worked-remaining : (b : Bool) (s : RowState) → worked b s .remaining ≡ s .remaining - bit b
+-- what is left after running
+pub worked-remaining : (b : Bool) (s : Job) → worked b s .remaining ≡ s .remaining - bit b
 unfolding worked
 worked-remaining true s = refl
 worked-remaining false s = omega arith
-
-ended-less : (row : Row) (s : RowState) → ended row s .remaining ≤ s .remaining
-unfolding ended
-ended-less row s = go (missed row s)
-  where
-    go : (b : Bool) → pick b 0 (s .remaining) ≤ s .remaining
-    go true = omega arith
-    go false = omega arith
 
 -- what a row that runs takes, as a product
 taken-as : (b : Bool) (n : ℕ) → pick b n 0 ≡ bit b * n
@@ -91,51 +83,47 @@ module _ (h : Sheet) (t : State) (rel : List ℕ) (state : LegalState h t) (fine
   pub ran : ℕ → ℕ
   ran k = bit (runs (given h t rel) k)
 
-  pub next-record : (k : ℕ) → k < h .count → recordAt (nextState h t rel) k ≡ next (given h t rel) k
-  unfolding nextState
-  next-record k l = upto-below (h .count) (next (given h t rel)) (t .rows) noRecord k l (legal-state-long h t state)
-
-  abbrev begin : ℕ → RowState
+  abbrev begin : ℕ → Job
   begin k = begun (given h t rel) k
 
-  pub begin-remaining : (k : ℕ) → begin k .remaining ≡ owed (getD rel k 0) (recordAt t k .remaining)
+  pub begin-remaining : (k : ℕ) → begin k .remaining ≡ owed (getD rel k 0) (recordAt t k .job .remaining)
   unfolding given
-  begin-remaining k = released-remaining (getD rel k 0) (recordAt t k)
+  begin-remaining k = released-remaining (getD rel k 0) (recordAt t k .job)
 
-  begin-since : (k : ℕ) → begin k .since ≡ age (getD rel k 0) (recordAt t k .since)
+  begin-since : (k : ℕ) → begin k .since ≡ age (getD rel k 0) (recordAt t k .job .since)
   unfolding given
-  begin-since k = released-since (getD rel k 0) (recordAt t k)
+  begin-since k = released-since (getD rel k 0) (recordAt t k .job)
 
-  pub released-so : (k : ℕ) → k < h .count → 1 ≤ getD rel k 0 → (recordAt t k .since ≡ rowAt h k .separation) × (getD rel k 0 ≤ rowAt h k .budget)
+  pub released-so : (k : ℕ) → k < h .count → 1 ≤ getD rel k 0 → (recordAt t k .job .since ≡ rowAt h k .separation) × (getD rel k 0 ≤ rowAt h k .budget)
   unfolding checkReleases
   released-so k l r =
       let (a, b) = release-allowed (rowAt h k) (recordAt t k) (getD rel k 0) k r (first-at (h .count) (checkAt h t rel) fine k l) in
       (omega (arith, state .rows k l), a)
 
   -- after steps 3 and 4
-  pub reached-remaining : (k : ℕ) → reached (given h t rel) k .remaining ≡ owed (getD rel k 0) (recordAt t k .remaining) - ran k
+  pub reached-remaining : (k : ℕ) → reached (given h t rel) k .remaining ≡ owed (getD rel k 0) (recordAt t k .job .remaining) - ran k
   unfolding aged ran
   reached-remaining k = worked-remaining (runs (given h t rel) k) (begin k) ∙ ap (λ (x : ℕ). x - ran k) (begin-remaining k)
 
-  not-older : (k : ℕ) → k < h .count → age (getD rel k 0) (recordAt t k .since) ≤ rowAt h k .separation
+  not-older : (k : ℕ) → k < h .count → age (getD rel k 0) (recordAt t k .job .since) ≤ rowAt h k .separation
   unfolding age
   not-older k l = go (getD rel k 0)
     where
-      go : (r : ℕ) → age r (recordAt t k .since) ≤ rowAt h k .separation
+      go : (r : ℕ) → age r (recordAt t k .job .since) ≤ rowAt h k .separation
       go zero = state .rows k l .most-since
       go (suc r) = omega arith
 
-  pub reached-since : (k : ℕ) → k < h .count → reached (given h t rel) k .since ≡ min (rowAt h k .separation) (age (getD rel k 0) (recordAt t k .since) + 1)
+  pub reached-since : (k : ℕ) → k < h .count → reached (given h t rel) k .since ≡ min (rowAt h k .separation) (age (getD rel k 0) (recordAt t k .job .since) + 1)
   unfolding aged worked given
   reached-since k l = ap (older (rowAt h k .separation)) (begin-since k) ∙ older-is _ _ (not-older k l)
 
-  pub next-since : (k : ℕ) → k < h .count → recordAt (nextState h t rel) k .since ≡ reached (given h t rel) k .since
+  pub next-since : (k : ℕ) → k < h .count → recordAt (nextState h t rel) k .job .since ≡ reached (given h t rel) k .since
   unfolding ended
-  next-since k l = ap (λ (s : RowState). s .since) (next-record k l)
+  next-since k l = ap (λ (s : RowState). s .job .since) (next-at h t rel state k l)
 
-  next-remaining : (k : ℕ) → k < h .count → recordAt (nextState h t rel) k .remaining ≤ reached (given h t rel) k .remaining
+  next-remaining : (k : ℕ) → k < h .count → recordAt (nextState h t rel) k .job .remaining ≤ reached (given h t rel) k .remaining
   unfolding given
-  next-remaining k l = subst (λ (s : RowState). s .remaining ≤ reached (given h t rel) k .remaining) (sym (next-record k l)) (ended-less (rowAt h k) (reached (given h t rel) k))
+  next-remaining k l = subst (λ (s : RowState). s .job .remaining ≤ reached (given h t rel) k .remaining) (sym (next-at h t rel state k l)) (ended-less (rowAt h k) (reached (given h t rel) k))
 
   pub slot-is : (n : ℕ) → n ≤ h .count → Slot (rowsOf h n) (momentOf t) (λ k. getD rel k 0) ran (momentOf (nextState h t rel))
   unfolding ran given

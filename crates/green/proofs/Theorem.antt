@@ -12,6 +12,7 @@ use Rattle.bound.specs.Test.{passes}
 use Rattle.bound.specs.Bound.{isBound, valueOf, resultOf, holds}
 use Rattle.bound.proofs.Inside.Judging.{passes-local, bound-all}
 use Rattle.machine.specs.States.{State, recordAt, freshAt, freshState}
+use Rattle.records.specs.declared.record.Job.{Job}
 use Rattle.records.specs.declared.record.RowState.{RowState}
 use Rattle.records.specs.Records.{noRecord}
 use Rattle.machine.specs.Answers.{fresh, marginOf}
@@ -42,7 +43,7 @@ module _ (h : Sheet) (fine : legal h ≡ true) where
     fresh-leads =
         model.fresh (λ i l.
         let e = fresh-record i (omega (arith, up .within)) in
-        (ap (λ (s : RowState). s .remaining) e, ap (λ (s : RowState). s .since) e))
+        (ap (λ (s : RowState). s .job .remaining) e, ap (λ (s : RowState). s .job .since) e))
 
     -- demand 3 of the first n rows
     pub no-job-is-late-to : NoJobIsLateTo n h
@@ -50,21 +51,21 @@ module _ (h : Sheet) (fine : legal h ≡ true) where
         chain-in-time h (legal-is h fine) n up (history h (freshOf h) calls) (freshOf h) (stateAfterAll h (freshOf h) calls) (history-chain h (freshOf h) calls) fresh-leads
 
     -- in every state that calls lead to, what remains of a job and the slots since its release make its bound at most
-    pub within-its-bound : (calls : List Call) (k : ℕ) → k < n → 1 ≤ recordAt (stateAfterAll h (freshOf h) calls) k .remaining
-        → recordAt (stateAfterAll h (freshOf h) calls) k .since + recordAt (stateAfterAll h (freshOf h) calls) k .remaining ≤ valueOf (resultOf passes h k) .0
+    pub within-its-bound : (calls : List Call) (k : ℕ) → k < n → 1 ≤ recordAt (stateAfterAll h (freshOf h) calls) k .job .remaining
+        → recordAt (stateAfterAll h (freshOf h) calls) k .job .since + recordAt (stateAfterAll h (freshOf h) calls) k .job .remaining ≤ valueOf (resultOf passes h k) .0
     within-its-bound calls k l x =
         within-bound (rowsOf h n) (ranges h (legal-is h fine) n up) (safe h (legal-is h fine) n up)
         (chain-leads h (legal-is h fine) n up (history h (freshOf h) calls) (freshOf h) (stateAfterAll h (freshOf h) calls) (history-chain h (freshOf h) calls) fresh-leads) k l x
 
     -- so its margin is not negative
-    pub margin-is-not-negative : (calls : List Call) (k : ℕ) → k < n → 1 ≤ recordAt (stateAfterAll h (freshOf h) calls) k .remaining
-        → (z : ℕ) × (marginOf (rowAt h k) (recordAt (stateAfterAll h (freshOf h) calls) k) ≡ pos z)
+    pub margin-is-not-negative : (calls : List Call) (k : ℕ) → k < n → 1 ≤ recordAt (stateAfterAll h (freshOf h) calls) k .job .remaining
+        → (z : ℕ) × (marginOf (rowAt h k) (recordAt (stateAfterAll h (freshOf h) calls) k .job) ≡ pos z)
     unfolding marginOf
     margin-is-not-negative calls k l x =
-        let s : RowState = recordAt (stateAfterAll h (freshOf h) calls) k in
+        let j : Job = recordAt (stateAfterAll h (freshOf h) calls) k .job in
         let D : ℕ = rowAt h k .deadline in
-        let late : s .since + s .remaining ≤ D = omega (arith, within-its-bound calls k l x, ranges h (legal-is h fine) n up k l .high) in
-        (D - (s .since + s .remaining), less-twice D (s .since) (s .remaining) ∙ simp (le-ltb D (s .since + s .remaining) late))
+        let late : j .since + j .remaining ≤ D = omega (arith, within-its-bound calls k l x, ranges h (legal-is h fine) n up k l .high) in
+        (D - (j .since + j .remaining), less-twice D (j .since) (j .remaining) ∙ simp (le-ltb D (j .since + j .remaining) late))
 
   -- a sheet that holds: all its rows have bounds
   pub all-bounded : holds passes h ≡ true → Bounded h (h .count)

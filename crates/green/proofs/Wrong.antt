@@ -8,7 +8,7 @@ use Rattle.sheet.specs.Legal.{legal, legalAt, legalRow}
 use Rattle.bound.specs.Test.{passes, amounts, amountOf, durationOf, room, q, X, x, W}
 use Rattle.bound.specs.Bound.{holds, resultOf, resultsTo, judge, boundBy, least}
 use Rattle.machine.specs.States.{freshState, legalState}
-use Rattle.records.specs.Records.{legalRecord, isZero}
+use Rattle.records.specs.Records.{legalJob, isZeroJob}
 use Rattle.machine.specs.States as states
 use Rattle.records.specs.Steps.{released, fits, freeBelow, worked, older, aged, missed, ended, codeOf}
 use Rattle.machine.specs.Slot.{freeAt}
@@ -26,5 +26,5 @@ wrong-tests-pass = (refl, refl, refl, refl, refl)
 
 -- and row 1 has a code 4 in the first slot
 pub second-row-misses : codeIn (history twoOnes (freshOf twoOnes) bothReleased) 0 1 ≡ 4
-unfolding history runDone fresh given nextState nextCodes slot slotAt onward course run checkRow checkReleases checkState checkRoom checkSlot checkRun released fits freeBelow freeAt worked older aged missed ended codeOf freshState legalState legalRecord isZero states.legalAt legal legalAt legalRow firstOf upto allOf
+unfolding history runDone fresh given nextState nextCodes slot slotAt onward course run checkRow checkReleases checkState checkRoom checkSlot checkRun released fits freeBelow freeAt worked older aged missed ended codeOf freshState legalState legalJob isZeroJob states.legalAt legal legalAt legalRow firstOf upto allOf
 second-row-misses = refl

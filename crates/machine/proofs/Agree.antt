@@ -1,17 +1,16 @@
 -- Two sheets: rows 0 to k decide for rows 0 to k, and rows past n decide nothing.
 -- Assumes nothing.
-use Rattle.basis.specs.Prelude.{ℕ, _≤_, _<_, _≡_, refl, sym, ap, ap₂, _∙_, List, length, getD, arith}
+use Rattle.basis.specs.Prelude.{ℕ, _≤_, _<_, _≡_, refl, sym, ap, _∙_, List, length, getD, arith}
 use Rattle.basis.specs.Refusals.{Outcome, accepted}
 use Rattle.basis.proofs.Inside.Upto.{upto-below}
 use Rattle.sheet.specs.declared.row.Sheet.{Sheet}
 use Rattle.machine.specs.States.{State, recordAt}
-use Rattle.records.specs.Records.{noRecord}
-use Rattle.records.specs.Steps.{released, ended}
-use Rattle.machine.specs.Slot.{freeAt, Given, begun, free, runs, reached, next, code}
+use Rattle.machine.specs.Slot.{freeAt, Given, begun, free, runs, next, code}
 use Rattle.machine.specs.Checks.{checkSlot}
 use Rattle.machine.specs.Answers.{SlotAnswer, slotAnswer, given, nextState, nextCodes, slot}
 use Rattle.machine.proofs.Inside.Answers.{slot-shows}
-use Rattle.machine.proofs.Inside.Legals.{legal-state-is, legal-state-long}
+use Rattle.machine.proofs.Inside.Legals.{legal-state-is}
+use Rattle.machine.proofs.Inside.LegalSlots.{next-at}
 use Rattle.machine.proofs.Placement.{free-agrees}
 
 -- what two slots are given is equal in m and in rows 0 to k
@@ -22,27 +21,24 @@ pub record AgreeTo (k : ℕ) (g g′ : Given) : Type 0 where
   pub releases : (i : ℕ) → i ≤ k → g .releases i ≡ g′ .releases i
 
 -- then rows 0 to k begin, run, and end the slot alike
-module _ (k : ℕ) (g g′ : Given) (a : AgreeTo k g g′) (i : ℕ) (l : i ≤ k) where
-  begun-agrees : begun g i ≡ begun g′ i
-  begun-agrees = ap₂ released (a .releases i l) (a .records i l)
+module _ (k : ℕ) (g g′ : Given) (a : AgreeTo k g g′) where
+  begun-agrees : (i : ℕ) → i ≤ k → begun g i ≡ begun g′ i
+  begun-agrees i l = rw (a .releases i l, a .records i l)
 
-module _ (k : ℕ) (g g′ : Given) (a : AgreeTo k g g′) (i : ℕ) (l : i ≤ k) where
-  pub free-agrees-to : free g i ≡ free g′ i
-  free-agrees-to =
-      free-agrees (g .processors) (g .rows) (g′ .rows) (begun g) (begun g′) i (λ j b. a .rows j (omega arith)) (λ j b. begun-agrees k g g′ a j (omega arith))
-      ∙ ap (λ (m : ℕ). freeAt m (g′ .rows) (begun g′) i) (a .processors)
+  module _ (i : ℕ) (l : i ≤ k) where
+    free-agrees-to : free g i ≡ free g′ i
+    free-agrees-to =
+        free-agrees (g .processors) (g .rows) (g′ .rows) (begun g) (begun g′) i (λ j b. a .rows j (omega arith)) (λ j b. begun-agrees j (omega arith))
+        ∙ ap (λ (m : ℕ). freeAt m (g′ .rows) (begun g′) i) (a .processors)
 
-  pub runs-agrees : runs g i ≡ runs g′ i
-  runs-agrees = rw (free-agrees-to, a .rows i l, begun-agrees k g g′ a i l)
+    runs-agrees : runs g i ≡ runs g′ i
+    runs-agrees = rw (free-agrees-to, a .rows i l, begun-agrees i l)
 
-  pub reached-agrees : reached g i ≡ reached g′ i
-  reached-agrees = rw (runs-agrees, a .rows i l, begun-agrees k g g′ a i l)
+    pub next-agrees : next g i ≡ next g′ i
+    next-agrees = rw (runs-agrees, a .rows i l, begun-agrees i l)
 
-  pub next-agrees : next g i ≡ next g′ i
-  next-agrees = ap₂ ended (a .rows i l) reached-agrees
-
-  pub code-agrees : code g i ≡ code g′ i
-  code-agrees = rw (runs-agrees, a .rows i l, begun-agrees k g g′ a i l)
+    pub code-agrees : code g i ≡ code g′ i
+    code-agrees = rw (runs-agrees, a .rows i l, begun-agrees i l)
 
 -- an accepted slot, and what it gives
 pub slot-outcome : (h : Sheet) (t : State) (rel cs : List ℕ) → slot h t rel cs .outcome ≡ checkSlot h t rel (length cs)
@@ -58,11 +54,10 @@ module _ (h : Sheet) (t : State) (rel cs : List ℕ) (f : slot h t rel cs .outco
   slot-gives = rw slot-passed
 
   pub record-after : (i : ℕ) → i < h .count → recordAt (slot h t rel cs .state) i ≡ next (given h t rel) i
-  unfolding nextState
   record-after i l =
       let shown = slot-shows h t rel (length cs) slot-passed in
       ap (λ (x : SlotAnswer State). recordAt (x .state) i) slot-gives
-      ∙ upto-below (h .count) (next (given h t rel)) (t .rows) noRecord i l (legal-state-long h t (legal-state-is h t (shown .in-order .most-rows) (shown .in-order .state-legal)))
+      ∙ next-at h t rel (legal-state-is h t (shown .in-order .most-rows) (shown .in-order .state-legal)) i l
 
   pub code-after : (i : ℕ) → i < h .count → getD (slot h t rel cs .codes) i 0 ≡ code (given h t rel) i
   unfolding nextCodes

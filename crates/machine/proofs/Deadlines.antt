@@ -1,20 +1,28 @@
 -- What the margin of a job says of its deadline, in any continuation of accepted slots.
 -- Assumes nothing.
-use Rattle.basis.specs.Prelude.{ℕ, zero, suc, _+_, _≤_, _<_, _≡_, ap, subst, _∙_, Bool, true, false, List, getD, arith, add-zero}
+use Rattle.basis.specs.Prelude.{ℕ, zero, suc, _+_, _≤_, _<_, _≡_, sym, ap, _∙_, Bool, true, false, List, length, getD, arith, lt-ltb, eq-eqb}
 use lib.IntN.{pos}
 use lib.Signed.{_<ℤ_}
 use Rattle.basis.specs.Refusals.{accepted}
+use Rattle.basis.proofs.Inside.FirstRefusal.{first-at}
 use Rattle.sheet.specs.Legal.{rowAt}
 use Rattle.sheet.specs.declared.row.Row.{Row}
 use Rattle.sheet.specs.declared.row.Sheet.{Sheet}
+use Rattle.sheet.proofs.Legality.{legal-is}
+use Rattle.records.specs.declared.record.Job.{Job}
 use Rattle.records.specs.declared.record.RowState.{RowState}
+use Rattle.records.specs.Steps.{released, worked, aged, ended, codeOf}
+use Rattle.records.specs.Checks.{checkRow}
 use Rattle.machine.specs.States.{State, recordAt}
-use Rattle.records.specs.Steps.{worked}
-use Rattle.machine.specs.Slot.{runs}
-use Rattle.machine.specs.Answers.{slotAnswer, given, slot, marginOf}
-use Rattle.machine.proofs.Inside.Jobs.{JobSlot, job-slot, job-finished, job-missed, job-left, job-older}
+use Rattle.machine.specs.Slot.{begun, runs}
+use Rattle.machine.specs.Checks.{checkAt, checkReleases}
+use Rattle.machine.specs.Answers.{SlotAnswer, slotAnswer, given, slot, marginOf}
+use Rattle.machine.proofs.Agree.{slot-passed, record-after, code-after}
+use Rattle.machine.proofs.Inside.Answers.{Accepted-slot, slot-shows}
+use Rattle.machine.proofs.Inside.Legals.{legal-state-is}
 use Rattle.machine.proofs.Ranges.{negative-late, zero-just}
-use Rattle.records.proofs.Inside.Records.{worked-least, worked-one, worked-none}
+use Rattle.records.proofs.Inside.Codes.{code-is}
+use Rattle.records.proofs.Inside.Records.{released-none, release-allowed, worked-near, worked-one, worked-none, older-below, ended-else, ended-since}
 
 -- n accepted slots one after another, with any releases and any room for codes
 pub record Continuation (h : Sheet) (n : ℕ) : Type 0 where
@@ -24,12 +32,17 @@ pub record Continuation (h : Sheet) (n : ℕ) : Type 0 where
   pub codes : ℕ → List ℕ
   pub each : (j : ℕ) → j < n → slot h (state j) (releases j) (room j) ≡ slotAnswer accepted (state (suc j)) (codes j)
 
+-- a row that is too young has no release
+no-release : (row : Row) (s : RowState) (r k : ℕ) → s .job .since < row .separation → checkRow row s r k ≡ accepted → released r (s .job) ≡ s .job
+no-release row s zero k l e = released-none (s .job)
+no-release row s (suc r) k l e = absurd (omega (arith, release-allowed row s (suc r) k (omega arith) e .1))
+
 module _ (h : Sheet) (n : ℕ) (g : Continuation h n) (k : ℕ) (there : k < h .count) where
   open Continuation g using (state, releases, room, codes, each)
 
-  -- the record of the row before slot i, and whether it runs in it
-  abbrev at : ℕ → RowState
-  at i = recordAt (state i) k
+  -- the job of the row before slot i, and whether it runs in it
+  abbrev at : ℕ → Job
+  at i = recordAt (state i) k .job
 
   abbrev ran : ℕ → Bool
   ran i = runs (given h (state i) (releases i)) k
@@ -37,84 +50,111 @@ module _ (h : Sheet) (n : ℕ) (g : Continuation h n) (k : ℕ) (there : k < h .
   abbrev row : Row
   row = rowAt h k
 
-  -- a job that is not through by the slot before its deadline goes on
+  -- a slot that finds a job there: there is no release, and one slot more has passed since the last
   module _ (i : ℕ) (in-it : i < n) (job : 1 ≤ at i .remaining) where
-    one : JobSlot h (state i) (releases i) (state (suc i)) (codes i) k
-    one = job-slot h (state i) (releases i) (room i) (state (suc i)) (codes i) k (each i in-it) there job
+    did : slot h (state i) (releases i) (room i) .outcome ≡ accepted
+    did = ap (λ x. x .outcome) (each i in-it)
 
-    missed-now : 1 ≤ worked (ran i) (at i) .remaining → at i .since + 1 ≡ row .deadline → getD (codes i) k 0 ≡ 4
-    missed-now left e = one .code-is ∙ job-missed row (ran i) (at i) (one .young) job left e
+    shown : Accepted-slot h (state i) (releases i) (length (room i))
+    shown = slot-shows h (state i) (releases i) (length (room i)) (slot-passed h (state i) (releases i) (room i) did)
 
-    finished-now : worked (ran i) (at i) .remaining ≡ 0 → getD (codes i) k 0 ≡ 3
-    finished-now e = one .code-is ∙ job-finished row (ran i) (at i) (one .young) job e
+    young : at i .since < row .separation
+    young =
+        let in-time = legal-state-is h (state i) (shown .in-order .most-rows) (shown .in-order .state-legal) .rows k there .in-time job in
+        omega (arith, legal-is h (shown .in-order .sheet-legal) .rows k there .most-deadline)
 
-    still-there : 1 ≤ worked (ran i) (at i) .remaining → (at i .since + 1 ≡ row .deadline → ⊥) → at (suc i) .remaining ≡ worked (ran i) (at i) .remaining
-    still-there left d = ap (λ (s : RowState). s .remaining) (one .record-is) ∙ job-left row (ran i) (at i) (one .young) job left d
+    same : begun (given h (state i) (releases i)) k ≡ at i
+    unfolding checkReleases given
+    same = no-release row (recordAt (state i) k) (getD (releases i) k 0) k young (first-at (h .count) (checkAt h (state i) (releases i)) (shown .releases) k there)
+
+    -- its code, and its job after it
+    abbrev left : Job
+    left = worked (ran i) (at i)
+
+    code-now : getD (codes i) k 0 ≡ codeOf row (ran i) (at i) (aged row left)
+    unfolding given
+    code-now =
+        ap (λ (x : SlotAnswer State). getD (x .codes) k 0) (sym (each i in-it)) ∙ code-after h (state i) (releases i) (room i) did k there
+        ∙ ap (λ (j : Job). codeOf row (ran i) j (aged row (worked (ran i) j))) same
+
+    next-now : at (suc i) ≡ ended row (aged row left)
+    unfolding given
+    next-now =
+        ap (λ (x : SlotAnswer State). recordAt (x .state) k .job) (sym (each i in-it)) ∙ ap (λ (s : RowState). s .job) (record-after h (state i) (releases i) (room i) did k there)
+        ∙ ap (λ (j : Job). ended row (aged row (worked (ran i) j))) same
+
+    older-now : aged row left .since ≡ at i .since + 1
+    unfolding aged worked
+    older-now = older-below (row .separation) (at i .since) young
+
+    missed-now : 1 ≤ left .remaining → at i .since + 1 ≡ row .deadline → getD (codes i) k 0 ≡ 4
+    unfolding aged
+    missed-now some e =
+        code-now ∙ code-is row (ran i) (at i) (aged row left)
+        ∙ rw (lt-ltb 0 (at i .remaining) job, lt-ltb 0 (left .remaining) some, eq-eqb (aged row left .since) (row .deadline) (older-now ∙ e))
+
+    finished-now : left .remaining ≡ 0 → getD (codes i) k 0 ≡ 3
+    unfolding aged
+    finished-now e = code-now ∙ code-is row (ran i) (at i) (aged row left) ∙ rw (lt-ltb 0 (at i .remaining) job, e)
+
+    -- a job that is not through by the slot before its deadline goes on
+    still-there : (at i .since + 1 ≡ row .deadline → ⊥) → at (suc i) .remaining ≡ left .remaining
+    unfolding aged
+    still-there d = ap (λ (j : Job). j .remaining) next-now ∙ ended-else row (aged row left) (λ e. d (sym older-now ∙ e))
 
     one-older : at (suc i) .since ≡ at i .since + 1
-    one-older = ap (λ (s : RowState). s .since) (one .record-is) ∙ job-older row (ran i) (at i) (one .young) job
+    one-older = ap (λ (j : Job). j .since) next-now ∙ ended-since row (aged row left) ∙ older-now
 
-  from-next : (d i : ℕ) → getD (codes (i + suc d)) k 0 ≡ getD (codes (suc i + d)) k 0
-  from-next d i = let e : i + suc d ≡ suc i + d = omega arith in ap (λ (x : ℕ). getD (codes x) k 0) e
-
-  -- a job with more to run than slots to its deadline is missed at its deadline
-  late : (d i : ℕ) → i + d < n → 1 ≤ at i .remaining → at i .since + d + 1 ≡ row .deadline → row .deadline < at i .since + at i .remaining → getD (codes (i + d)) k 0 ≡ 4
-  late zero i b job e l =
-      rw add-zero (missed-now i (omega arith) job (omega (arith, worked-least (ran i) (at i))) (omega arith))
-  late (suc d) i b job e l =
-      let left : 1 ≤ worked (ran i) (at i) .remaining = omega (arith, worked-least (ran i) (at i)) in
-      let more = still-there i (omega arith) job left (λ f. omega arith) in
+  -- a job with more to run than slots to its deadline is missed at its deadline, in slot j, d slots after slot i
+  late : (d i j : ℕ) → i + d ≡ j → j < n → 1 ≤ at i .remaining → at i .since + d + 1 ≡ row .deadline → row .deadline < at i .since + at i .remaining → getD (codes j) k 0 ≡ 4
+  late zero i j q b job e l = let s : j ≡ i = omega arith in rw s (missed-now i (omega arith) job (omega (arith, worked-near (ran i) (at i))) (omega arith))
+  late (suc d) i j q b job e l =
+      let near = worked-near (ran i) (at i) in
+      let more = still-there i (omega arith) job (λ f. omega arith) in
       let older = one-older i (omega arith) job in
-      from-next d i
-      ∙ late d (suc i) (omega arith) (omega arith) (omega arith) (omega (arith, worked-least (ran i) (at i)))
+      late d (suc i) j (omega arith) b (omega arith) (omega arith) (omega arith)
 
   -- a job that has just enough slots and runs in each is finished at its deadline
-  just : (d i : ℕ) → i + d < n → 1 ≤ at i .remaining → at i .since + d + 1 ≡ row .deadline → at i .since + at i .remaining ≡ row .deadline
-      → ((j : ℕ) → i ≤ j → j ≤ i + d → ran j ≡ true) → getD (codes (i + d)) k 0 ≡ 3
-  just zero i b job e l r = rw add-zero (finished-now i (omega arith) job (omega (arith, worked-one (ran i) (at i) (r i (omega arith) (omega arith)))))
-  just (suc d) i b job e l r =
+  just : (d i j : ℕ) → i + d ≡ j → j < n → 1 ≤ at i .remaining → at i .since + d + 1 ≡ row .deadline → at i .since + at i .remaining ≡ row .deadline
+      → ((x : ℕ) → i ≤ x → x ≤ j → ran x ≡ true) → getD (codes j) k 0 ≡ 3
+  just zero i j q b job e l r = let s : j ≡ i = omega arith in rw s (finished-now i (omega arith) job (omega (arith, worked-one (ran i) (at i) (r i (omega arith) (omega arith)))))
+  just (suc d) i j q b job e l r =
       let one-less = worked-one (ran i) (at i) (r i (omega arith) (omega arith)) in
-      let left : 1 ≤ worked (ran i) (at i) .remaining = omega arith in
-      let more = still-there i (omega arith) job left (λ f. omega arith) in
+      let more = still-there i (omega arith) job (λ f. omega arith) in
       let older = one-older i (omega arith) job in
-      from-next d i
-      ∙ just d (suc i) (omega arith) (omega arith) (omega arith) (omega arith) (λ j a c. r j (omega arith) (omega arith))
+      just d (suc i) j (omega arith) b (omega arith) (omega arith) (omega arith) (λ x a c. r x (omega arith) c)
 
-  -- a job that has just enough slots and waits in one of them is missed at its deadline
-  waited : (v d i : ℕ) → v ≤ d → i + d < n → 1 ≤ at i .remaining → at i .since + d + 1 ≡ row .deadline → row .deadline ≤ at i .since + at i .remaining
-      → ran (i + v) ≡ false → getD (codes (i + d)) k 0 ≡ 4
-  waited zero zero i a b job e l r =
-      let all = worked-none (ran i) (at i) (subst (λ (x : ℕ). ran x ≡ false) (add-zero i) r) in
-      rw add-zero (missed-now i (omega arith) job (omega arith) (omega arith))
-  waited zero (suc d) i a b job e l r =
-      let all = worked-none (ran i) (at i) (subst (λ (x : ℕ). ran x ≡ false) (add-zero i) r) in
-      let more = still-there i (omega arith) job (omega arith) (λ f. omega arith) in
+  -- a job that has just enough slots and waits in one of them, slot w, is missed at its deadline
+  waited : (v d i w j : ℕ) → i + v ≡ w → i + d ≡ j → v ≤ d → j < n → 1 ≤ at i .remaining → at i .since + d + 1 ≡ row .deadline → row .deadline ≤ at i .since + at i .remaining
+      → ran w ≡ false → getD (codes j) k 0 ≡ 4
+  waited zero zero i w j p q a b job e l r =
+      let here : w ≡ i = omega arith in
+      let all = worked-none (ran i) (at i) (rw here at r) in
+      let s : j ≡ i = omega arith in
+      rw s (missed-now i (omega arith) job (omega arith) (omega arith))
+  waited zero (suc d) i w j p q a b job e l r =
+      let here : w ≡ i = omega arith in
+      let all = worked-none (ran i) (at i) (rw here at r) in
+      let more = still-there i (omega arith) job (λ f. omega arith) in
       let older = one-older i (omega arith) job in
-      from-next d i ∙ late d (suc i) (omega arith) (omega arith) (omega arith) (omega arith)
-  waited (suc v) zero i a b job e l r = absurd (omega arith)
-  waited (suc v) (suc d) i a b job e l r =
-      let left : 1 ≤ worked (ran i) (at i) .remaining = omega (arith, worked-least (ran i) (at i)) in
-      let more = still-there i (omega arith) job left (λ f. omega arith) in
+      late d (suc i) j (omega arith) b (omega arith) (omega arith) (omega arith)
+  waited (suc v) zero i w j p q a b job e l r = absurd (omega arith)
+  waited (suc v) (suc d) i w j p q a b job e l r =
+      let near = worked-near (ran i) (at i) in
+      let more = still-there i (omega arith) job (λ f. omega arith) in
       let older = one-older i (omega arith) job in
-      let same : i + suc v ≡ suc i + v = omega arith in
-      from-next d i
-      ∙ waited v d (suc i) (omega arith) (omega arith) (omega arith) (omega arith) (omega (arith, worked-least (ran i) (at i))) (subst (λ (x : ℕ). ran x ≡ false) same r)
+      waited v d (suc i) w j (omega arith) (omega arith) (omega arith) b (omega arith) (omega arith) (omega arith) r
 
   -- what the margin says before the first of the slots; since reaches the deadline in slot d
   module _ (job : 1 ≤ at 0 .remaining) (d : ℕ) (reaches : at 0 .since + d + 1 ≡ row .deadline) (given-it : d < n) where
-    from-none : getD (codes d) k 0 ≡ getD (codes (0 + d)) k 0
-    from-none = let e : d ≡ 0 + d = omega arith in ap (λ (x : ℕ). getD (codes x) k 0) e
-
     -- a negative margin: every continuation that reaches the deadline gives code 4 there
     pub negative-is-missed : marginOf row (at 0) <ℤ pos 0 → getD (codes d) k 0 ≡ 4
-    negative-is-missed m = from-none ∙ late d 0 (omega arith) job reaches (negative-late row (at 0) m)
+    negative-is-missed m = late d 0 d (omega arith) given-it job reaches (negative-late row (at 0) m)
 
     -- a margin of zero: one waiting slot, and it ends in 4
     pub zero-waits-once : marginOf row (at 0) ≡ pos 0 → (v : ℕ) → v ≤ d → ran v ≡ false → getD (codes d) k 0 ≡ 4
-    zero-waits-once m v l r =
-        let same : v ≡ 0 + v = omega arith in
-        from-none ∙ waited v d 0 l (omega arith) job reaches (omega (arith, zero-just row (at 0) m)) (subst (λ (x : ℕ). ran x ≡ false) same r)
+    zero-waits-once m v l r = waited v d 0 v d (omega arith) (omega arith) l given-it job reaches (omega (arith, zero-just row (at 0) m)) r
 
     -- and running in every slot it ends in 3
     pub zero-runs-on : marginOf row (at 0) ≡ pos 0 → ((v : ℕ) → v ≤ d → ran v ≡ true) → getD (codes d) k 0 ≡ 3
-    zero-runs-on m r = from-none ∙ just d 0 (omega arith) job reaches (zero-just row (at 0) m) (λ j a c. r j (omega arith))
+    zero-runs-on m r = just d 0 d (omega arith) given-it job reaches (zero-just row (at 0) m) (λ x a c. r x c)

@@ -12,7 +12,7 @@ use Rattle.sheet.specs.Lists.{numberAt}
 use Rattle.sheet.proofs.Ranges.{not-so}
 use Rattle.records.specs.declared.record.RowState.{RowState}
 use Rattle.machine.specs.States.{State, stateOf, recordAt, legalState}
-use Rattle.records.specs.Records.{noRecord, isZero}
+use Rattle.records.specs.Records.{recordOf, noRecord, isZero, isZeroJob}
 use Rattle.machine.specs.Lists.{recordWide, recordIn, stateLong, zeroAt, zeroFrom, spareIsZero, stateIn, putTo, putState}
 use Rattle.machine.proofs.Inside.Legals.{legal-state-is}
 use Rattle.machine.proofs.Inside.RecordLists.{record-in-state, record-of-none, length-put-to, put-past, put-agree, put-own, state-rows-long, state-put}
@@ -23,12 +23,12 @@ module _ (h : Sheet) (l : List ℕ) (fine : legal h ≡ true) where
   few = legal-is h fine .most-rows
 
   -- it is enough that some record of a row has no slot since its release
-  no-since : (k : ℕ) → k < h .count → recordAt (stateIn l) k .since ≡ 0 → legalState h (stateIn l) ≡ false
+  no-since : (k : ℕ) → k < h .count → recordAt (stateIn l) k .job .since ≡ 0 → legalState h (stateIn l) ≡ false
   no-since k b z = not-so (legalState h (stateIn l)) (λ e. omega (arith, z, legal-state-is h (stateIn l) few e .rows k b .some-since))
 
   -- A state's list with a number other than zero past the last record there is room for is refused.
   pub spare-records-are-refused : spareIsZero l ≡ false → legalState h (stateIn l) ≡ false
-  spare-records-are-refused e = no-since 0 (legal-is h fine .some-rows) (ap (λ (s : RowState). s .since) (record-of-none l 0 e))
+  spare-records-are-refused e = no-since 0 (legal-is h fine .some-rows) (ap (λ (s : RowState). s .job .since) (record-of-none l 0 e))
 
   -- by whether every number out there is zero
   by-spare : (spareIsZero l ≡ true → legalState h (stateIn l) ≡ false) → legalState h (stateIn l) ≡ false
@@ -46,7 +46,7 @@ module _ (h : Sheet) (l : List ℕ) (fine : legal h ≡ true) where
       let k : ℕ = h .count - 1 in
       let there : k < mostRows = omega (arith, r .some-rows, r .most-rows) in
       no-since k (omega (arith, r .some-rows))
-      (ap (λ (s : RowState). s .since) (record-in-state l k e there) ∙ List·getD-eq-default l 0 {n = k * recordWide + 1} (omega (arith, r .some-rows)))
+      (ap (λ (s : RowState). s .job .since) (record-in-state l k e there) ∙ List·getD-eq-default l 0 {n = k * recordWide + 1} (omega (arith, r .some-rows)))
 
   -- what a legal state shows of its list
   module _ (kept : legalState h (stateIn l) ≡ true) where
@@ -65,7 +65,7 @@ module _ (h : Sheet) (l : List ℕ) (fine : legal h ≡ true) where
 
     -- past the records of the sheet's rows there are zeros
     pair-zero : (i : ℕ) → isZero (recordIn l (i / recordWide)) ≡ true → numberAt l i ≡ 0
-    unfolding isZero recordIn
+    unfolding isZeroJob recordIn
     pair-zero i e =
         ⊎-elim (λ a. ap (λ (j : ℕ). numberAt l j) (first a) ∙ eqb-true _ 0 (both-left (eqb (numberAt l (i / recordWide * recordWide)) 0) _ e))
         (λ a. ap (λ (j : ℕ). numberAt l j) (second a) ∙ eqb-true _ 0 (both-right (eqb (numberAt l (i / recordWide * recordWide)) 0) _ e))
@@ -112,11 +112,11 @@ list-of-kept h l l₀ fine kept kept₀ long =
 
 -- a record that is all zero, as a value
 zero-record : (s : RowState) → isZero s ≡ true → s ≡ noRecord
-unfolding isZero
+unfolding isZeroJob
 zero-record s e =
-    let a : s .remaining ≡ 0 = eqb-true _ 0 (both-left (eqb (s .remaining) 0) _ e) in
-    let b : s .since ≡ 0 = eqb-true _ 0 (both-right (eqb (s .remaining) 0) _ e) in
-    λ i. record { remaining = a i; since = b i }
+    let a : s .job .remaining ≡ 0 = eqb-true _ 0 (both-left (eqb (s .job .remaining) 0) _ e) in
+    let b : s .job .since ≡ 0 = eqb-true _ 0 (both-right (eqb (s .job .remaining) 0) _ e) in
+    λ i. recordOf (record { remaining = a i; since = b i })
 
 -- A legal state that is put into a list that holds a legal state is the state that the list hands over.
 pub state-comes-back : (h : Sheet) (l : List ℕ) (t : State) → legal h ≡ true → legalState h (stateIn l) ≡ true → legalState h t ≡ true → length (t .rows) ≡ mostRows

@@ -12,7 +12,7 @@ use Rattle.sheet.specs.declared.row.Row.{Row}
 use Rattle.sheet.specs.declared.row.Sheet.{Sheet}
 use Rattle.records.specs.declared.record.RowState.{RowState}
 use Rattle.machine.specs.States.{State, noState, recordAt, stateOf, freshAt, freshState, legalAt, legalState}
-use Rattle.records.specs.Records.{noRecord, legalRecord}
+use Rattle.records.specs.Records.{recordOf, noRecord, legalRecord}
 use Rattle.machine.specs.Slot.{next, code}
 use Rattle.records.specs.Checks.{checkRow}
 use Rattle.machine.specs.Checks.{checkAt, checkReleases, checkState, checkRoom, checkSlot, checkRun, checkMargin}
@@ -47,7 +47,7 @@ module _ (h : Sheet) (rows : List Row) (same : (i : ℕ) → i < h .count → ro
   unfolding fresh freshState
   fresh-alike =
       ap₂ (λ (b : Bool) (l : List RowState). freshAnswer (needed b 10) (pick b (stateOf l) noState)) legal-alike
-      (upto-agree (h .count) (freshAt h) (freshAt (withRows h rows)) (replicate mostRows noRecord) (λ i l. ap (λ (row : Row). record { remaining = 0; since = row .separation }) (same i l)))
+      (upto-agree (h .count) (freshAt h) (freshAt (withRows h rows)) (replicate mostRows noRecord) (λ i l. ap (λ (row : Row). recordOf (record { remaining = 0; since = row .separation })) (same i l)))
 
   state-alike : (t : State) → legalState h t ≡ legalState (withRows h rows) t
   unfolding legalState legalAt
@@ -62,8 +62,8 @@ module _ (h : Sheet) (rows : List Row) (same : (i : ℕ) → i < h .count → ro
   margin-alike : (t : State) (k : ℕ) → margin h t k ≡ margin (withRows h rows) t k
   unfolding margin checkMargin
   margin-alike t k =
-      ⊎-elim (λ l. ap₂ (λ (o : Outcome) (row : Row). marginBy (orElse o (needed (ltb k (h .count)) 14)) (marginAt row (recordAt t k))) (check-alike t) (same k l))
-      (λ l. rw (le-ltb k (h .count) l) (rw check-alike (past-told (checkState (withRows h rows) t) (marginAt (rowAt h k) (recordAt t k)) (marginAt (getD rows k noRow) (recordAt t k)))))
+      ⊎-elim (λ l. ap₂ (λ (o : Outcome) (row : Row). marginBy (orElse o (needed (ltb k (h .count)) 14)) (marginAt row (recordAt t k .job))) (check-alike t) (same k l))
+      (λ l. rw (le-ltb k (h .count) l) (rw check-alike (past-told (checkState (withRows h rows) t) (marginAt (rowAt h k) (recordAt t k .job)) (marginAt (getD rows k noRow) (recordAt t k .job)))))
       (lt-or-le k (h .count))
 
   releases-alike : (t : State) (rel : List ℕ) → checkReleases h t rel ≡ checkReleases (withRows h rows) t rel

@@ -4,12 +4,12 @@ use Rattle.basis.specs.Prelude.{ℕ, zero, suc, _+_, _-_, _≤_, _<_, _≡_, re
 use Rattle.basis.specs.Words.{pick, sum}
 use Rattle.basis.proofs.Inside.Words.{both-right}
 use Rattle.sheet.specs.declared.row.Row.{Row}
-use Rattle.records.specs.declared.record.RowState.{RowState}
+use Rattle.records.specs.declared.record.Job.{Job}
 use Rattle.records.specs.Records.{hasJob}
 use Rattle.records.specs.Steps.{fits, freeBelow}
 use Rattle.machine.specs.Slot.{freeAt, Given, begun, free, runs}
 
-pub free-agrees : (m : ℕ) (p q : ℕ → Row) (a b : ℕ → RowState) (k : ℕ) → ((i : ℕ) → i < k → p i ≡ q i) → ((i : ℕ) → i < k → a i ≡ b i) → freeAt m p a k ≡ freeAt m q b k
+pub free-agrees : (m : ℕ) (p q : ℕ → Row) (a b : ℕ → Job) (k : ℕ) → ((i : ℕ) → i < k → p i ≡ q i) → ((i : ℕ) → i < k → a i ≡ b i) → freeAt m p a k ≡ freeAt m q b k
 unfolding freeAt
 free-agrees m p q a b zero e f = refl
 free-agrees m p q a b (suc k) e f =
@@ -21,7 +21,7 @@ abbrev pub takenBy : Given → ℕ → ℕ
 takenBy g k = pick (runs g k) (g .rows k .threads) 0
 
 -- a row that runs fits
-pub runs-fits : (free : ℕ) (row : Row) (s : RowState) → fits free row s ≡ true → row .threads ≤ free
+pub runs-fits : (free : ℕ) (row : Row) (s : Job) → fits free row s ≡ true → row .threads ≤ free
 unfolding fits
 runs-fits free row s e = leb-true (row .threads) free (both-right (hasJob s) (leb (row .threads) free) e)
 

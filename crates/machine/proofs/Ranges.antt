@@ -1,24 +1,24 @@
 -- The margin of a row with a job: its value, its range, and what negative and zero say in numbers.
 -- Assumes nothing.
-use Rattle.basis.specs.Prelude.{ℕ, suc, _+_, _-_, _≤_, _<_, _≡_, refl, sym, _∙_, Bool, true, false, cond, ltb, le→leb, ltb→lt, arith, lt-ltb, ltb-true, ltb-false}
+use Rattle.basis.specs.Prelude.{ℕ, suc, _+_, _-_, _≤_, _<_, _≡_, refl, Bool, true, false, cond, ltb, le→leb, ltb→lt, arith, lt-ltb, ltb-true, ltb-false}
 use lib.IntN.{pos, negsuc, subℕ, _-ℤ_}
 use lib.Signed.{_≤ℤ_, _<ℤ_}
 use Rattle.basis.specs.Refusals.{accepted}
 use Rattle.sheet.specs.Legal.{rowAt, LegalRow}
 use Rattle.sheet.specs.declared.row.Row.{Row}
 use Rattle.sheet.specs.declared.row.Sheet.{Sheet}
-use Rattle.records.specs.declared.record.RowState.{RowState}
+use Rattle.records.specs.declared.record.Job.{Job}
 use Rattle.machine.specs.States.{State, recordAt}
 use Rattle.machine.specs.Checks.{checkMargin}
 use Rattle.machine.specs.Answers.{margin-is, marginOf, marginAt, margin}
 use Rattle.machine.proofs.Inside.Differences.{less, less-twice}
-use Rattle.machine.proofs.Inside.Legals.{LegalRecord}
+use Rattle.machine.proofs.Inside.Legals.{LegalJob}
 
 -- where the checks pass: a row with a job has the margin D - since - remaining, and a row without one has none
-pub margin-of-a-job : (h : Sheet) (t : State) (k : ℕ) → checkMargin h t k ≡ accepted → 1 ≤ recordAt t k .remaining
-    → margin h t k ≡ margin-is ((pos (rowAt h k .deadline) -ℤ pos (recordAt t k .since)) -ℤ pos (recordAt t k .remaining))
+pub margin-of-a-job : (h : Sheet) (t : State) (k : ℕ) → checkMargin h t k ≡ accepted → 1 ≤ recordAt t k .job .remaining
+    → margin h t k ≡ margin-is ((pos (rowAt h k .deadline) -ℤ pos (recordAt t k .job .since)) -ℤ pos (recordAt t k .job .remaining))
 unfolding margin marginAt marginOf
-margin-of-a-job h t k e j = rw (e, lt-ltb 0 (recordAt t k .remaining) j)
+margin-of-a-job h t k e j = rw (e, lt-ltb 0 (recordAt t k .job .remaining) j)
 
 -- differences in order
 difference-le : (a b c d : ℕ) → a + d ≤ c + b → subℕ a b ≤ℤ subℕ c d
@@ -31,7 +31,7 @@ difference-le a b c d h = go (ltb a b) refl (ltb c d) refl
     go false e false f = record { le = le→leb (a - b) (c - d) (omega (arith, ltb-false a b e, ltb-false c d f)) }
 
 -- the range: from 1 - C to D - 2
-module _ (m : ℕ) (row : Row) (s : RowState) (w : LegalRow m row) (l : LegalRecord row s) (job : 1 ≤ s .remaining) where
+module _ (m : ℕ) (row : Row) (s : Job) (w : LegalRow m row) (l : LegalJob row s) (job : 1 ≤ s .remaining) where
   pub margin-least : (pos 1 -ℤ pos (row .budget)) ≤ℤ marginOf row s
   unfolding marginOf
   margin-least =
@@ -45,20 +45,18 @@ module _ (m : ℕ) (row : Row) (s : RowState) (w : LegalRow m row) (l : LegalRec
       (difference-le (row .deadline) (s .since + s .remaining) (row .deadline) 2 (omega (arith, l .some-since)))
 
 -- negative, and zero, as numbers
-pub negative-late : (row : Row) (s : RowState) → marginOf row s <ℤ pos 0 → row .deadline < s .since + s .remaining
-unfolding marginOf
-negative-late row s n = go (ltb (row .deadline) (s .since + s .remaining)) refl (rw less-twice at n)
+sign-of : (a b : ℕ) → (subℕ a b <ℤ pos 0 → a < b) × (subℕ a b ≡ pos 0 → b ≡ a)
+sign-of a b = go (ltb a b) refl
   where
-    go : (x : Bool) → ltb (row .deadline) (s .since + s .remaining) ≡ x
-        → cond x (negsuc (s .since + s .remaining - suc (row .deadline))) (pos (row .deadline - (s .since + s .remaining))) <ℤ pos 0 → row .deadline < s .since + s .remaining
-    go true e f = ltb-true _ _ e
-    go false e f = absurd (omega (arith, ltb→lt (row .deadline - (s .since + s .remaining)) 0 (f .lt)))
+    go : (x : Bool) → ltb a b ≡ x → (cond x (negsuc (b - suc a)) (pos (a - b)) <ℤ pos 0 → a < b) × (cond x (negsuc (b - suc a)) (pos (a - b)) ≡ pos 0 → b ≡ a)
+    go true e = (λ f. ltb-true _ _ e, λ f. let z : _≡_ {A = ℕ} 0 1 = cc in absurd (omega arith))
+    go false e = (λ f. absurd (omega (arith, ltb→lt (a - b) 0 (f .lt))), λ f. let z : a - b ≡ 0 = cc in omega (arith, ltb-false a b e))
 
-pub zero-just : (row : Row) (s : RowState) → marginOf row s ≡ pos 0 → s .since + s .remaining ≡ row .deadline
-unfolding marginOf
-zero-just row s e = go (ltb (row .deadline) (s .since + s .remaining)) refl (sym (less-twice (row .deadline) (s .since) (s .remaining)) ∙ e)
-  where
-    go : (x : Bool) → ltb (row .deadline) (s .since + s .remaining) ≡ x
-        → cond x (negsuc (s .since + s .remaining - suc (row .deadline))) (pos (row .deadline - (s .since + s .remaining))) ≡ pos 0 → s .since + s .remaining ≡ row .deadline
-    go true f g = let z : _≡_ {A = ℕ} 0 1 = cc in absurd (omega arith)
-    go false f g = let z : row .deadline - (s .since + s .remaining) ≡ 0 = cc in omega (arith, ltb-false (row .deadline) (s .since + s .remaining) f)
+module _ (row : Row) (s : Job) where
+  pub negative-late : marginOf row s <ℤ pos 0 → row .deadline < s .since + s .remaining
+  unfolding marginOf
+  negative-late n = sign-of _ _ .0 (rw less-twice at n)
+
+  pub zero-just : marginOf row s ≡ pos 0 → s .since + s .remaining ≡ row .deadline
+  unfolding marginOf
+  zero-just e = sign-of _ _ .1 (rw less-twice at e)

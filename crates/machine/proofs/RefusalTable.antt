@@ -50,7 +50,7 @@ first-listed (suc j) f l = or-listed (firstOf j f) (f j) (first-listed j f (λ i
 
 row-listed : {n : ℕ} (row : Row) (s : RowState) (release k : ℕ) → k < n → Listed n (checkRow row s release k)
 unfolding checkRow
-row-listed {n} row s release k l = go (eqb release 0) (ltb (row .budget) release) (ltb (s .since) (row .separation))
+row-listed {n} row s release k l = go (eqb release 0) (ltb (row .budget) release) (ltb (s .job .since) (row .separation))
   where
     go : (x y z : Bool) → Listed n (pick x accepted (pick y (refused 12 k) (pick z (refused 13 k) accepted)))
     go true y z = accepted-listed
@@ -103,9 +103,9 @@ run-refusals h t rel cs =
 pub margin-refusals : (h : Sheet) (t : State) (k : ℕ) {a b : ℕ} → margin h t k ≡ refused-by a b → InTable (h .count) a b
 unfolding margin checkMargin marginAt
 margin-refusals h t k {a} {b} e =
-    go (orElse (checkState h t) (needed (ltb k (h .count)) 14)) (hasJob (recordAt t k))
+    go (orElse (checkState h t) (needed (ltb k (h .count)) 14)) (hasJob (recordAt t k .job))
     (or-listed (checkState h t) _ (state-listed h t) (needed-listed (ltb k (h .count)) 14 no-such-row)) e where
-      go : (o : Outcome) (j : Bool) → Listed (h .count) o → marginBy o (pick j (margin-is (marginOf (rowAt h k) (recordAt t k))) no-job) ≡ refused-by a b → InTable (h .count) a b
+      go : (o : Outcome) (j : Bool) → Listed (h .count) o → marginBy o (pick j (margin-is (marginOf (rowAt h k) (recordAt t k .job))) no-job) ≡ refused-by a b → InTable (h .count) a b
       go accepted true l f = let z : _≡_ {A = ℕ} 0 1 = cc in absurd (omega arith)
       go accepted false l f = let z : _≡_ {A = ℕ} 0 1 = cc in absurd (omega arith)
       go (refused c d) j l f = l .listed a b (cc)

@@ -1,6 +1,6 @@
 -- The slot in place: what each turn and each way out shows, in the words of its invariant and of what it calls.
 -- Assumes nothing.
-use Rattle.basis.specs.Prelude.{ℕ, _+_, _*_, _-_, _≤_, _<_, _≡_, refl, sym, ap, ap₂, _∙_, true, List, length, getD, set, take, drop, arith, le-refl, add-one}
+use Rattle.basis.specs.Prelude.{ℕ, _+_, _*_, _-_, _≤_, _<_, _≡_, refl, sym, ap, _∙_, true, List, length, getD, set, take, drop, arith, le-refl, add-one}
 use borrow.Rule.Slice.PartMut.{putMid}
 use Rattle.basis.specs.Refusals.{accepted, refused, outcome}
 use Rattle.basis.specs.declared.refusal.Refusal.{Refusal}
@@ -12,6 +12,7 @@ use Rattle.sheet.specs.declared.row.Row.{Row}
 use Rattle.sheet.specs.declared.row.Sheet.{Sheet}
 use Rattle.sheet.proofs.Legality.{legal-is}
 use Rattle.records.specs.declared.record.RowState.{RowState}
+use Rattle.records.specs.Records.{recordOf}
 use Rattle.machine.specs.States.{State, stateOf, recordAt, legalState}
 use Rattle.records.specs.declared.steps.Placed.{Placed}
 use Rattle.machine.specs.Slot.{freeAt, free, next, code}
@@ -20,16 +21,16 @@ use Rattle.machine.specs.Answers.{SlotAnswer, slotAnswer, given, nextSta
 use Rattle.records.specs.Methods.{begunRow, steppedRow}
 use Rattle.machine.specs.Lists.{recordIn, stateIn, putRecord, putTo, putState, slotListed, slotIn}
 use Rattle.machine.proofs.Inside.Answers.{Accepted-slot, slot-shows, slot-is-refused, slot-is-accepted}
-use Rattle.machine.proofs.Inside.Courses.{part-holds, rest-holds, slot-at-accepted}
+use Rattle.machine.proofs.Inside.Courses.{slot-at-accepted}
 use Rattle.machine.proofs.Inside.LegalSlots.{next-at, next-legal}
 use Rattle.machine.proofs.Inside.Legals.{legal-state-is, legal-state-says}
 use Rattle.machine.proofs.LegalLists.{kept-spare, kept-long, kept-record}
 use Rattle.machine.proofs.Inside.RecordLists.{put-record-past, put-more, put-agree, state-put}
 
 -- `step_row`
-pub row-stepped : (h : Sheet) (l : List ℕ) (k release f : ℕ) (row : Row) (s : RowState) (r : Placed) → row ≡ rowAt h k → s ≡ recordIn l k → r ≡ steppedRow row s release f
-    → r ≡ steppedRow (rowAt h k) (recordIn l k) release f
-row-stepped h l k release f row s r er es e = e ∙ ap₂ (λ (x : Row) (y : RowState). steppedRow x y release f) er es
+pub row-stepped : (h : Sheet) (l : List ℕ) (k release f : ℕ) (row : Row) (s : RowState) (r : Placed) → row ≡ rowAt h k → s ≡ recordIn l k → r ≡ steppedRow row (s .job) release f
+    → r ≡ steppedRow (rowAt h k) (recordIn l k .job) release f
+row-stepped h l k release f row s r er es e = rw (er, es) at e
 
 -- `step_rows`: every processor is free at the top
 pub all-free : (h : Sheet) (t : State) (rel : List ℕ) (f : ℕ) → f ≡ h .processors → f ≡ free (given h t rel) 0
@@ -39,8 +40,8 @@ all-free h t rel f e = e
 -- a turn
 module _ (h : Sheet) (l₀ l rel : List ℕ) (fine : legal h ≡ true) (kept : legalState h (stateIn l₀) ≡ true) (f i n : ℕ) (en : n ≡ h .count) (below : i < n)
     (ef : f ≡ free (given h (stateIn l₀) rel) i) (so-far : l ≡ putTo i (next (given h (stateIn l₀) rel)) l₀)
-    (r : Placed) (er : r ≡ steppedRow (rowAt h i) (recordIn l i) (getD rel i 0) f) where
-  here-stepped : r ≡ steppedRow (rowAt h i) (recordAt (stateIn l₀) i) (getD rel i 0) (free (given h (stateIn l₀) rel) i)
+    (r : Placed) (er : r ≡ steppedRow (rowAt h i) (recordIn l i .job) (getD rel i 0) f) where
+  here-stepped : r ≡ steppedRow (rowAt h i) (recordAt (stateIn l₀) i .job) (getD rel i 0) (free (given h (stateIn l₀) rel) i)
   here-stepped =
       let e : recordIn l i ≡ recordAt (stateIn l₀) i =
       ap (λ (x : List ℕ). recordIn x i) so-far ∙ put-record-past (next (given h (stateIn l₀) rel)) l₀ i i (le-refl i) ∙ kept-record h l₀ fine kept i (omega arith) in
@@ -50,9 +51,9 @@ module _ (h : Sheet) (l₀ l rel : List ℕ) (fine : legal h ≡ true) (kept : l
   unfolding freeAt steppedRow begunRow given
   free-moves = rw add-one (ap (λ (x : Placed). x .free) here-stepped)
 
-  pub list-moves : (l′ : List ℕ) → l′ ≡ putRecord l i (r .after) → l′ ≡ putTo (i + 1) (next (given h (stateIn l₀) rel)) l₀
+  pub list-moves : (l′ : List ℕ) → l′ ≡ putRecord l i (recordOf (r .after)) → l′ ≡ putTo (i + 1) (next (given h (stateIn l₀) rel)) l₀
   unfolding steppedRow begunRow given
-  list-moves l′ e = e ∙ put-more i (next (given h (stateIn l₀) rel)) l l₀ (r .after) so-far (ap (λ (x : Placed). x .after) here-stepped)
+  list-moves l′ e = e ∙ put-more i (next (given h (stateIn l₀) rel)) l l₀ (recordOf (r .after)) so-far (ap (λ (x : Placed). recordOf (x .after)) here-stepped)
 
   pub codes-move : (cs cs₀ : List ℕ) → cs ≡ upto i (code (given h (stateIn l₀) rel)) cs₀ → set cs i (r .code) ≡ upto (i + 1) (code (given h (stateIn l₀) rel)) cs₀
   unfolding steppedRow begunRow given
@@ -80,7 +81,7 @@ module _ (h : Sheet) (l rel : List ℕ) (fine : legal h ≡ true) (kept : legalS
   moved-legal e =
       let w = legal-is h fine in
       ap (legalState h) moved-state
-      ∙ legal-state-says h (nextState h (stateIn l) rel) (w .most-rows) (next-legal h (stateIn l) rel w (legal-state-is h (stateIn l) (w .most-rows) kept) e)
+      ∙ legal-state-says h (nextState h (stateIn l) rel) (w .most-rows) (next-legal h (stateIn l) rel (legal-state-is h (stateIn l) (w .most-rows) kept) w e)
 
   pub moved-list : l′ ≡ putState (h .count) (nextState h (stateIn l) rel) l
   unfolding putState
@@ -88,7 +89,7 @@ module _ (h : Sheet) (l rel : List ℕ) (fine : legal h ≡ true) (kept : legalS
       let w = legal-is h fine in
       moved ∙ ap (λ (m : ℕ). putTo m (next (given h (stateIn l) rel)) l) en
       ∙ put-agree (h .count) (next (given h (stateIn l) rel)) (recordAt (nextState h (stateIn l) rel)) l
-      (λ k b. sym (next-at h (stateIn l) rel w (legal-state-is h (stateIn l) (w .most-rows) kept) k b))
+      (λ k b. sym (next-at h (stateIn l) rel (legal-state-is h (stateIn l) (w .most-rows) kept) k b))
 
 -- the state that a list hands over which the next state is put into
 pub moved-back : (h : Sheet) (l rel : List ℕ) → legal h ≡ true → legalState h (stateIn l) ≡ true → stateIn (putState (h .count) (nextState h (stateIn l) rel) l) ≡ nextState h (stateIn l) rel
@@ -99,12 +100,6 @@ moved-back h l rel fine kept =
 -- `slot_part`
 module _ (h : Sheet) (l rel cs : List ℕ) (j n : ℕ) (en : n ≡ h .count) (fine : legal h ≡ true) (kept : legalState h (stateIn l) ≡ true)
     (list : j * n + n ≤ length rel) (buffer : j * n + n ≤ length cs) where
-  pub entries-hold : n ≤ length (take (j * n + n - j * n) (drop (j * n) rel))
-  entries-hold = omega (arith, part-holds h (stateIn l) rel cs j n en fine kept list buffer)
-
-  pub codes-hold : n ≤ length (take (length cs - j * n) (drop (j * n) cs))
-  codes-hold = omega (arith, rest-holds h (stateIn l) rel cs j n en fine kept list buffer)
-
   module _ (c : Refusal) (e : outcome c ≡ checkReleases h (stateIn l) (take (j * n + n - j * n) (drop (j * n) rel))) (f : c ≡ Accepted)
       (l′ : List ℕ) (moved : l′ ≡ putTo n (next (given h (stateIn l) (take (j * n + n - j * n) (drop (j * n) rel)))) l) where
     pub part-accepted : (ds : List ℕ) → ds ≡ nextCodes h (stateIn l) (take (j * n + n - j * n) (drop (j * n) rel)) (take (length cs - j * n) (drop (j * n) cs))

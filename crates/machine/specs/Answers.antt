@@ -7,7 +7,7 @@ use Rattle.basis.specs.Upto.{upto}
 use Rattle.sheet.specs.Legal.{rowAt, legal}
 use Rattle.sheet.specs.declared.row.Row.{Row}
 use Rattle.sheet.specs.declared.row.Sheet.{Sheet}
-use Rattle.records.specs.declared.record.RowState.{RowState}
+use Rattle.records.specs.declared.record.Job.{Job}
 use Rattle.machine.specs.States.{State, noState, freshState, stateOf, recordAt}
 use Rattle.machine.specs.declared.margins.Margin.{Margin}
 use Rattle.machine.specs.declared.margins.Margin.the-variants as margin-variants
@@ -107,12 +107,12 @@ marginAnswer (margin-variants.Is z) = margin-is z
 marginAnswer (margin-variants.Refused number place) = refused-by number place
 
 -- D - since - remaining, signed.
-unfoldable pub marginOf : Row → RowState → ℤ
-marginOf row s = (pos (row .deadline) -ℤ pos (s .since)) -ℤ pos (s .remaining)
+unfoldable pub marginOf : Row → Job → ℤ
+marginOf row j = (pos (row .deadline) -ℤ pos (j .since)) -ℤ pos (j .remaining)
 
 -- A row without a job has no margin, which is not a margin of zero.
-unfoldable pub marginAt : Row → RowState → MarginAnswer
-marginAt row s = pick (hasJob s) (margin-is (marginOf row s)) no-job
+unfoldable pub marginAt : Row → Job → MarginAnswer
+marginAt row j = pick (hasJob j) (margin-is (marginOf row j)) no-job
 
 -- The margin of a row whose checks gave this outcome.
 abbrev pub marginBy : Outcome → MarginAnswer → MarginAnswer
@@ -121,4 +121,4 @@ marginBy (refused number place) a = refused-by number place
 
 -- The margin of a row.
 unfoldable pub margin : Sheet → State → ℕ → MarginAnswer
-margin h t row = marginBy (checkMargin h t row) (marginAt (rowAt h row) (recordAt t row))
+margin h t row = marginBy (checkMargin h t row) (marginAt (rowAt h row) (recordAt t row .job))

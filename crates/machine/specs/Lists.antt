@@ -7,6 +7,7 @@ use Rattle.basis.specs.Upto.{upto}
 use Rattle.sheet.specs.Lists.{numberAt, filled}
 use Rattle.sheet.specs.declared.row.Sheet.{Sheet}
 use Rattle.records.specs.declared.record.RowState.{RowState}
+use Rattle.records.specs.Records.{recordOf}
 use Rattle.machine.specs.States.{State, noState, stateOf, recordAt}
 use Rattle.machine.specs.declared.places.Done.{Done}
 use Rattle.machine.specs.Answers.{FreshAnswer, SlotAnswer, RunAnswer, freshAnswer, slotAnswer, runAnswer, fresh, slot, run}
@@ -17,7 +18,7 @@ recordWide = 2
 
 -- Record k of a state's list.
 unfoldable pub recordIn : List ℕ → ℕ → RowState
-recordIn l k = record { remaining = numberAt l (k * recordWide); since = numberAt l (k * recordWide + 1) }
+recordIn l k = recordOf (record { remaining = numberAt l (k * recordWide); since = numberAt l (k * recordWide + 1) })
 
 -- The places that a list needs for the state of so many rows.
 abbrev pub stateLong : ℕ → ℕ
@@ -41,7 +42,7 @@ stateIn l = pick (spareIsZero l) (stateOf (upto mostRows (recordIn l) (noState .
 
 -- The list with record k made s,
 unfoldable pub putRecord : List ℕ → ℕ → RowState → List ℕ
-putRecord l k s = set (set l (k * recordWide) (s .remaining)) (k * recordWide + 1) (s .since)
+putRecord l k s = set (set l (k * recordWide) (s .job .remaining)) (k * recordWide + 1) (s .job .since)
 
 -- and with its first n records made f 0, f 1, ..; the numbers past them are as they were.
 unfoldable pub putTo : ℕ → (ℕ → RowState) → List ℕ → List ℕ

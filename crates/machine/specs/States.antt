@@ -6,7 +6,7 @@ use Rattle.basis.specs.Upto.{upto}
 use Rattle.sheet.specs.Legal.{rowAt}
 use Rattle.sheet.specs.declared.row.Sheet.{Sheet}
 use Rattle.records.specs.declared.record.RowState.{RowState}
-use Rattle.records.specs.Records.{noRecord, legalRecord, isZero}
+use Rattle.records.specs.Records.{recordOf, noRecord, legalRecord, isZero}
 
 -- The state of a box: a record for each row.
 pub record State : Type 0 where
@@ -26,7 +26,7 @@ noState = stateOf (replicate mostRows noRecord)
 
 -- Fresh: each row without a job, T slots since release.
 abbrev pub freshAt : Sheet → ℕ → RowState
-freshAt h k = record { remaining = 0; since = rowAt h k .separation }
+freshAt h k = recordOf (record { remaining = 0; since = rowAt h k .separation })
 
 -- The fresh state: each row is fresh, and the records past them are zero.
 unfoldable pub freshState : Sheet → State

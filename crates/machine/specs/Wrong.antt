@@ -8,11 +8,11 @@ use Rattle.basis.specs.Upto.{upto}
 use Rattle.sheet.specs.Legal.{rowAt, legal}
 use Rattle.sheet.specs.declared.row.Sheet.{Sheet}
 use Rattle.records.specs.declared.record.RowState.{RowState}
-use Rattle.records.specs.Records.{noRecord, hasJob}
-use Rattle.records.specs.Steps.{fits, worked, aged, ended, codeOf}
-use Rattle.records.specs.Wrong.{rec, thirteenFirst, stopsAtUnfit}
+use Rattle.records.specs.Records.{recordOf, noRecord, hasJob}
+use Rattle.records.specs.Steps.{fits, worked, aged, ended, codeSoFar, codeOf}
+use Rattle.records.specs.Wrong.{rec, thirteenFirst, stopsAtUnfit, missedFirst}
 use Rattle.machine.specs.States.{State, noState, stateOf, recordAt, freshState}
-use Rattle.machine.specs.Slot.{Given, begun, runs, reached, next}
+use Rattle.machine.specs.Slot.{Given, begun, runs, next}
 use Rattle.machine.specs.Checks.{checkState, checkRoom, checkSlot, checkMargin}
 use Rattle.machine.specs.Answers.{FreshAnswer, SlotAnswer, RunAnswer, freshAnswer, slotAnswer, runAnswer, given, nextState, nextCodes, slotBy, slot, course, run, MarginAnswer, no-job, margin-is, marginAt, marginBy, margin}
 use Rattle.machine.specs.Lists.{putState, cleared, freshOn, slotIn, runIn}
@@ -42,7 +42,7 @@ slotWith next code h t releases codes =
 -- A slot in which these rows run.
 abbrev pub slotRunning : (Given → ℕ → Bool) → Sheet → State → List ℕ → List ℕ → SlotAnswer State
 slotRunning ran =
-    slotWith (λ g k. ended (g .rows k) (aged (g .rows k) (worked (ran g k) (begun g k))))
+    slotWith (λ g k. recordOf (ended (g .rows k) (aged (g .rows k) (worked (ran g k) (begun g k)))))
     (λ g k. codeOf (g .rows k) (ran g k) (begun g k) (aged (g .rows k) (worked (ran g k) (begun g k))))
 
 -- The processors free at row k where nothing is free below a row that does not fit.
@@ -62,7 +62,7 @@ slotOfAll = slotRunning (λ g k. fits (g .processors) (g .rows k) (begun g k))
 unfoldable pub slotMissedFirst : Sheet → State → List ℕ → List ℕ → SlotAnswer State
 slotMissedFirst =
     slotWith next
-    (λ g k. pick (hasJob (begun g k)) (pick (eqb (reached g k .since) (g .rows k .deadline)) 4 (pick (hasJob (reached g k)) (pick (runs g k) 2 1) 3)) 0)
+    (λ g k. missedFirst (g .rows k) (worked (runs g k) (begun g k)) (codeSoFar (runs g k) (begun g k)) .code)
 
 -- The state is handed back untouched.
 unfoldable pub slotUntouched : Sheet → State → List ℕ → List ℕ → SlotAnswer State
@@ -141,13 +141,13 @@ anyState h t releases room =
 -- A row without a job has a margin of zero.
 unfoldable pub zeroForNone : Sheet → State → ℕ → MarginAnswer
 zeroForNone h t row =
-    marginBy (checkMargin h t row) (pick (hasJob (recordAt t row)) (marginAt (rowAt h row) (recordAt t row)) (margin-is (pos 0)))
+    marginBy (checkMargin h t row) (pick (hasJob (recordAt t row .job)) (marginAt (rowAt h row) (recordAt t row .job)) (margin-is (pos 0)))
 
 -- The slots since the release are not taken off.
 unfoldable pub sinceLeftOut : Sheet → State → ℕ → MarginAnswer
 sinceLeftOut h t row =
     marginBy (checkMargin h t row)
-    (pick (hasJob (recordAt t row)) (margin-is (pos (rowAt h row .deadline) -ℤ pos (recordAt t row .remaining))) no-job)
+    (pick (hasJob (recordAt t row .job)) (margin-is (pos (rowAt h row .deadline) -ℤ pos (recordAt t row .job .remaining))) no-job)
 
 -- Whatever row is asked for, the margin is that of row 0.
 unfoldable pub marginOfFirst : Sheet → State → ℕ → MarginAnswer

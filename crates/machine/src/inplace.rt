@@ -9,6 +9,7 @@ ghost use Rattle.sheet.specs.Legal.{rowAt, legal};
 ghost use Rattle.sheet.specs.Lists.{sheetIn, sheetLong};
 ghost use Rattle.machine.specs.States.{legalState};
 ghost use Rattle.machine.specs.Slot.{next};
+ghost use Rattle.records.specs.Records.{recordOf};
 ghost use Rattle.records.specs.Checks.{checkRow};
 ghost use Rattle.machine.specs.Checks.{checkReleases, checkState, checkSlot, checkRun};
 ghost use Rattle.machine.specs.Answers.{slotAnswer, runAnswer, given, nextCodes, slotAt, course};
@@ -23,6 +24,7 @@ use crate::sheets::row_inside;
 use crate::sheets::rows_in;
 use basis::Refusal;
 use records::Placed;
+use records::RowState;
 use records::check_row;
 
 // Whether a row may be released for so many slots; a row without a release is not looked at.
@@ -58,14 +60,15 @@ fn check_releases_in(sheet: &[u64], list: &[u64], n: usize, releases: &[u64]) ->
 // One row's slot, with so many processors free: its record is changed where it stands.
 fn step_row(sheet: &[u64], list: &mut [u64], k: usize, release: u64, free: u64) -> Placed
     requires { ⌜ (k < mostRows) × (sheetLong (k + 1) ≤ length (now sheet)) × (stateLong (k + 1) ≤ length (now list)) ⌝ }
-    ensures { λ r. ⌜ (r ≡ steppedRow (rowAt (sheetIn (now (sheet .entry))) k) (recordIn (now (list .entry)) k) release free)
-        × (now (list .exit) ≡ putRecord (now (list .entry)) k (r .after)) ⌝ }
+    ensures { λ r. ⌜ (r ≡ steppedRow (rowAt (sheetIn (now (sheet .entry))) k) (recordIn (now (list .entry)) k .job) release free)
+        × (now (list .exit) ≡ putRecord (now (list .entry)) k (recordOf (r .after))) ⌝ }
 {
     let row = row_inside(sheet, k);
     let s = record_in(list, k);
-    let stepped = s.stepped(row, release, free);
+    let job = s.job;
+    let stepped = job.stepped(row, release, free);
     let after = stepped.after;
-    put_record(list, k, after);
+    put_record(list, k, RowState { job: after });
     stepped
 }
 

@@ -12,7 +12,7 @@ use crate::places::record_in;
 use crate::sheets::row_inside;
 use crate::sheets::rows_in;
 use basis::Refusal;
-use records::RowState;
+use records::Job;
 use sheet::Row;
 
 // What is told of a row's margin.
@@ -25,13 +25,13 @@ pub enum Margin {
     Refused(u64, usize),
 }
 
-// The margin of a row by its record.
-fn margin_of(row: Row, s: RowState) -> Margin
-    requires { ⌜ (row .deadline ≤ mostSeparation) × (s .since ≤ mostSeparation) × (s .remaining ≤ mostSeparation) ⌝ }
-    ensures { λ r. ⌜ marginAnswer r ≡ marginAt row s ⌝ }
+// The margin of a row by its job.
+fn margin_of(row: Row, job: Job) -> Margin
+    requires { ⌜ (row .deadline ≤ mostSeparation) × (job .since ≤ mostSeparation) × (job .remaining ≤ mostSeparation) ⌝ }
+    ensures { λ r. ⌜ marginAnswer r ≡ marginAt row job ⌝ }
 {
-    let remaining = s.remaining;
-    let since = s.since;
+    let remaining = job.remaining;
+    let since = job.since;
     let deadline = row.deadline;
     if remaining <= 0 {
         return Margin::NoJob;
@@ -66,7 +66,8 @@ pub fn margin_on(sheet: &[u64], list: &[u64], row: usize) -> Margin
         Refusal::Accepted => {
             let numbers = row_inside(sheet, row);
             let s = record_in(list, row);
-            margin_of(numbers, s)
+            let job = s.job;
+            margin_of(numbers, job)
         }
     }
 }

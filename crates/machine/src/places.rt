@@ -11,6 +11,7 @@ ghost use Rattle.machine.specs.Lists.{recordIn, putRecord, stateLong, ze
 use crate::sheets::row_inside;
 use basis::MOST_ROWS;
 use basis::Refusal;
+use records::Job;
 use records::RowState;
 use records::is_legal_record;
 
@@ -33,8 +34,10 @@ pub(crate) fn record_in(list: &[u64], k: usize) -> RowState
 {
     let at = k * RECORD_WIDE;
     RowState {
-        remaining: list[at],
-        since: list[at + 1],
+        job: Job {
+            remaining: list[at],
+            since: list[at + 1],
+        },
     }
 }
 
@@ -44,8 +47,9 @@ pub(crate) fn put_record(list: &mut [u64], k: usize, s: RowState)
     ensures { λ _. ⌜ now (list .exit) ≡ putRecord (now (list .entry)) k s ⌝ }
 {
     let at = k * RECORD_WIDE;
-    list[at] = s.remaining;
-    list[at + 1] = s.since;
+    let job = s.job;
+    list[at] = job.remaining;
+    list[at + 1] = job.since;
 }
 
 // Whether every number from a place on is zero; two are looked at in each turn.

@@ -14,6 +14,7 @@ use crate::places::put_record;
 use crate::sheets::row_inside;
 use crate::sheets::rows_in;
 use basis::Refusal;
+use records::Job;
 use records::RowState;
 
 // Makes the records of n rows fresh: each without a job, T slots since release.
@@ -25,8 +26,10 @@ fn put_fresh(sheet: &[u64], list: &mut [u64], n: usize)
     while i < n {
         let row = row_inside(sheet, i);
         let s = RowState {
-            remaining: 0,
-            since: row.separation,
+            job: Job {
+                remaining: 0,
+                since: row.separation,
+            },
         };
         put_record(list, i, s);
         i += 1;

@@ -5,6 +5,7 @@ use Rattle.basis.specs.Refusals.{outcome}
 use Rattle.basis.specs.declared.refusal.Refusal.{Refusal}
 use Rattle.basis.proofs.Refusals.{outcome-one-to-one}
 use Rattle.sheet.specs.declared.row.Row.{Row}
+use Rattle.records.specs.declared.record.Job.{Job}
 use Rattle.records.specs.declared.record.RowState.{RowState}
 use Rattle.records.specs.declared.steps.Placed.{Placed}
 use Rattle.records.specs.declared.steps.Aged.{Aged}
@@ -22,18 +23,19 @@ module _ (row : Row) (s : RowState) where
   pub check-row-same : (release place : ℕ) (a b : Refusal) → outcome a ≡ checkRow row s release place → outcome b ≡ checkRow row s release place → a ≡ b
   check-row-same release place a b e f = outcome-one-to-one a b (e ∙ sym f)
 
+module _ (row : Row) (j : Job) where
   -- `released`
-  pub released-same : (release : ℕ) (a b : RowState) → a ≡ released release s → b ≡ released release s → a ≡ b
+  pub released-same : (release : ℕ) (a b : Job) → a ≡ released release j → b ≡ released release j → a ≡ b
   released-same release a b e f = e ∙ sym f
 
   -- `placed`
-  pub placed-same : (free : ℕ) (a b : Placed) → a ≡ placedRow row s free → b ≡ placedRow row s free → a ≡ b
+  pub placed-same : (free : ℕ) (a b : Placed) → a ≡ placedRow row j free → b ≡ placedRow row j free → a ≡ b
   placed-same free a b e f = e ∙ sym f
 
   -- `aged`
-  pub aged-same : (code : ℕ) (a b : Aged) → a ≡ agedRow row s code → b ≡ agedRow row s code → a ≡ b
+  pub aged-same : (code : ℕ) (a b : Aged) → a ≡ agedRow row j code → b ≡ agedRow row j code → a ≡ b
   aged-same code a b e f = e ∙ sym f
 
   -- `stepped`
-  pub stepped-same : (release free : ℕ) (a b : Placed) → a ≡ steppedRow row s release free → b ≡ steppedRow row s release free → a ≡ b
+  pub stepped-same : (release free : ℕ) (a b : Placed) → a ≡ steppedRow row j release free → b ≡ steppedRow row j release free → a ≡ b
   stepped-same release free a b e f = e ∙ sym f

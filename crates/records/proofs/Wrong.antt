@@ -3,14 +3,14 @@
 use Rattle.basis.specs.Prelude.{refl, arith}
 use Rattle.basis.specs.Faults.{NoneMeets}
 use Rattle.basis.proofs.Faults.{apart, numberOf, bit}
-use Rattle.records.specs.declared.record.RowState.{RowState}
+use Rattle.records.specs.declared.record.Job.{Job}
 use Rattle.records.specs.declared.steps.Placed.{Placed}
 use Rattle.records.specs.declared.steps.Aged.{Aged}
-use Rattle.records.specs.Records.{legalRecord}
+use Rattle.records.specs.Records.{legalRecord, legalJob}
 use Rattle.records.specs.Steps.{released, fits, freeBelow, worked, older, aged, missed, ended, codeOf}
 use Rattle.records.specs.Checks.{checkRow}
 use Rattle.records.specs.Methods.{placedRow, agedRow, begunRow, steppedRow}
-use Rattle.records.specs.Wrong.{upperC, lowerC, early, rec, thirteenFirst, soonByDeadline, oneSoon, lateIsLegal, noSlotIsLegal, releaseLost, sinceKept, everyJobRuns, stopsAtUnfit, missedFirst, restKept, sinceGoesOn, steppedUnreleased, steppedIdle}
+use Rattle.records.specs.Wrong.{upperC, lowerC, early, jobOf, rec, thirteenFirst, soonByDeadline, oneSoon, lateIsLegal, noSlotIsLegal, releaseLost, sinceKept, everyJobRuns, stopsAtUnfit, missedFirst, restKept, sinceGoesOn, steppedUnreleased, steppedIdle}
 
 -- ---- `check_row`
 
@@ -33,61 +33,61 @@ one-soon-is-shut-out = apart numberOf _ _ 0 13 refl refl (λ e. omega arith)
 
 -- one slot of a job remains at the deadline
 pub late-is-legal-is-shut-out : NoneMeets (lateIsLegal lowerC (rec 1 4)) (legalRecord lowerC (rec 1 4))
-unfolding lateIsLegal legalRecord
+unfolding lateIsLegal legalJob
 late-is-legal-is-shut-out = apart bit _ _ 1 0 refl refl (λ e. omega arith)
 
 -- a record of zeros
 pub no-slot-is-legal-is-shut-out : NoneMeets (noSlotIsLegal lowerC (rec 0 0)) (legalRecord lowerC (rec 0 0))
-unfolding noSlotIsLegal legalRecord
+unfolding noSlotIsLegal legalJob
 no-slot-is-legal-is-shut-out = apart bit _ _ 1 0 refl refl (λ e. omega arith)
 
 -- ---- `released`
 
 -- a release of 3 in a fresh row
-pub release-lost-is-shut-out : NoneMeets (releaseLost 3 (rec 0 4)) (released 3 (rec 0 4))
+pub release-lost-is-shut-out : NoneMeets (releaseLost 3 (jobOf 0 4)) (released 3 (jobOf 0 4))
 unfolding released
-release-lost-is-shut-out = apart (λ (s : RowState). s .remaining) _ _ 0 3 refl refl (λ e. omega arith)
+release-lost-is-shut-out = apart (λ (s : Job). s .remaining) _ _ 0 3 refl refl (λ e. omega arith)
 
-pub since-kept-is-shut-out : NoneMeets (sinceKept 3 (rec 0 4)) (released 3 (rec 0 4))
+pub since-kept-is-shut-out : NoneMeets (sinceKept 3 (jobOf 0 4)) (released 3 (jobOf 0 4))
 unfolding sinceKept released
-since-kept-is-shut-out = apart (λ (s : RowState). s .since) _ _ 4 0 refl refl (λ e. omega arith)
+since-kept-is-shut-out = apart (λ (s : Job). s .since) _ _ 4 0 refl refl (λ e. omega arith)
 
 -- ---- `placed`
 
 -- row 0 of sheet C has a job, and both processors are free
-pub every-job-runs-is-shut-out : NoneMeets (everyJobRuns upperC (rec 1 0) 2) (placedRow upperC (rec 1 0) 2)
+pub every-job-runs-is-shut-out : NoneMeets (everyJobRuns upperC (jobOf 1 0) 2) (placedRow upperC (jobOf 1 0) 2)
 unfolding everyJobRuns placedRow freeBelow fits
 every-job-runs-is-shut-out = apart (λ (r : Placed). r .free) _ _ 2 0 refl refl (λ e. omega arith)
 
 -- the same with one processor free
-pub stops-at-unfit-is-shut-out : NoneMeets (stopsAtUnfit upperC (rec 1 0) 1) (placedRow upperC (rec 1 0) 1)
+pub stops-at-unfit-is-shut-out : NoneMeets (stopsAtUnfit upperC (jobOf 1 0) 1) (placedRow upperC (jobOf 1 0) 1)
 unfolding stopsAtUnfit placedRow freeBelow fits
 stops-at-unfit-is-shut-out = apart (λ (r : Placed). r .free) _ _ 0 1 refl refl (λ e. omega arith)
 
 -- ---- `aged`
 
 -- a job that ran to its end in the slot in which since reaches the deadline
-pub missed-first-is-shut-out : NoneMeets (missedFirst lowerC (rec 0 3) 2) (agedRow lowerC (rec 0 3) 2)
+pub missed-first-is-shut-out : NoneMeets (missedFirst lowerC (jobOf 0 3) 2) (agedRow lowerC (jobOf 0 3) 2)
 unfolding missedFirst agedRow aged older
 missed-first-is-shut-out = apart (λ (r : Aged). r .code) _ _ 4 3 refl refl (λ e. omega arith)
 
 -- the same job with one slot left of it
-pub rest-kept-is-shut-out : NoneMeets (restKept lowerC (rec 1 3) 2) (agedRow lowerC (rec 1 3) 2)
+pub rest-kept-is-shut-out : NoneMeets (restKept lowerC (jobOf 1 3) 2) (agedRow lowerC (jobOf 1 3) 2)
 unfolding restKept agedRow aged older ended missed
 rest-kept-is-shut-out = apart (λ (r : Aged). r .after .remaining) _ _ 1 0 refl refl (λ e. omega arith)
 
 -- a row without a job that may be released
-pub since-goes-on-is-shut-out : NoneMeets (sinceGoesOn lowerC (rec 0 4) 0) (agedRow lowerC (rec 0 4) 0)
+pub since-goes-on-is-shut-out : NoneMeets (sinceGoesOn lowerC (jobOf 0 4) 0) (agedRow lowerC (jobOf 0 4) 0)
 unfolding sinceGoesOn agedRow aged older ended
 since-goes-on-is-shut-out = apart (λ (r : Aged). r .after .since) _ _ 5 4 refl refl (λ e. omega arith)
 
 -- ---- `stepped`
 
 -- a fresh row is released for 3, with one processor free
-pub stepped-unreleased-is-shut-out : NoneMeets (steppedUnreleased lowerC (rec 0 4) 3 1) (steppedRow lowerC (rec 0 4) 3 1)
+pub stepped-unreleased-is-shut-out : NoneMeets (steppedUnreleased lowerC (jobOf 0 4) 3 1) (steppedRow lowerC (jobOf 0 4) 3 1)
 unfolding steppedUnreleased steppedRow begunRow released fits worked older aged missed codeOf
 stepped-unreleased-is-shut-out = apart (λ (r : Placed). r .code) _ _ 0 2 refl refl (λ e. omega arith)
 
-pub stepped-idle-is-shut-out : NoneMeets (steppedIdle lowerC (rec 0 4) 3 1) (steppedRow lowerC (rec 0 4) 3 1)
+pub stepped-idle-is-shut-out : NoneMeets (steppedIdle lowerC (jobOf 0 4) 3 1) (steppedRow lowerC (jobOf 0 4) 3 1)
 unfolding steppedIdle steppedRow begunRow released fits worked older aged missed ended
 stepped-idle-is-shut-out = apart (λ (r : Placed). r .after .remaining) _ _ 3 2 refl refl (λ e. omega arith)

@@ -10,4 +10,4 @@ unfoldable pub checkRow : Row → RowState → ℕ → ℕ → Outcome
 checkRow row s release k =
     pick (eqb release 0) accepted
     (pick (ltb (row .budget) release) (refused 12 k)
-    (pick (ltb (s .since) (row .separation)) (refused 13 k) accepted))
+    (pick (ltb (s .job .since) (row .separation)) (refused 13 k) accepted))

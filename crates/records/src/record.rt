@@ -3,18 +3,24 @@ ghost use mathlib.Core.Path.{_≡_};
 ghost use Rattle.records.specs.Records.{legalRecord};
 use sheet::Row;
 
-// The record of a row: the slots that remain of its job, and the slots since its release.
-pub struct RowState {
+// What a row has to do: the slots that remain of its job, and the slots since its release.
+pub struct Job {
     pub remaining: u64,
     pub since: u64,
+}
+
+// The record of a row: its job.
+pub struct RowState {
+    pub job: Job,
 }
 
 // Whether a record is legal for its row.
 pub fn is_legal_record(row: Row, s: RowState) -> bool
     ensures { λ r. ⌜ r ≡ legalRecord row s ⌝ }
 {
-    let remaining = s.remaining;
-    let since = s.since;
+    let job = s.job;
+    let remaining = job.remaining;
+    let since = job.since;
     let separation = row.separation;
     let deadline = row.deadline;
     let budget = row.budget;

@@ -16,7 +16,8 @@ pub fn check_row(row: Row, s: RowState, release: u64, place: usize) -> Refusal
     if row.budget < release {
         return Refusal::Refused(12, place);
     }
-    if s.since < row.separation {
+    let job = s.job;
+    if job.since < row.separation {
         return Refusal::Refused(13, place);
     }
     Refusal::Accepted

@@ -2,19 +2,19 @@
 ghost use mathlib.Core.Path.{_≡_};
 ghost use Rattle.records.specs.Steps.{released, older, codeAtEnd};
 ghost use Rattle.records.specs.Methods.{placedRow, agedRow, steppedRow};
-use crate::record::RowState;
+use crate::record::Job;
 use sheet::Row;
 
-// What placing a row makes, and what its whole slot makes: the processors that it leaves free, its record, and its code.
+// What placing a row makes, and what its whole slot makes: the processors that it leaves free, its job, and its code.
 pub struct Placed {
     pub free: u64,
-    pub after: RowState,
+    pub after: Job,
     pub code: u8,
 }
 
-// What ageing a row makes: its record, and its code.
+// What ageing a row makes: its job, and its code.
 pub struct Aged {
-    pub after: RowState,
+    pub after: Job,
     pub code: u8,
 }
 
@@ -45,15 +45,15 @@ fn judge(left: u64, since: u64, deadline: u64, code: u8) -> u8
     code
 }
 
-impl RowState {
-    // Releases: the record after a row's release; zero is no release.
-    pub fn released(self, release: u64) -> RowState
+impl Job {
+    // Releases: the job after a row's release; zero is no release.
+    pub fn released(self, release: u64) -> Job
         ensures { λ r. ⌜ r ≡ released release self ⌝ }
     {
         if release == 0 {
             return self;
         }
-        RowState {
+        Job {
             remaining: release,
             since: 0,
         }
@@ -69,20 +69,20 @@ impl RowState {
         if remaining <= 0 {
             return Placed {
                 free,
-                after: RowState { remaining, since },
+                after: Job { remaining, since },
                 code: 0,
             };
         }
         if free < threads {
             return Placed {
                 free,
-                after: RowState { remaining, since },
+                after: Job { remaining, since },
                 code: 1,
             };
         }
         Placed {
             free: free - threads,
-            after: RowState {
+            after: Job {
                 remaining: remaining - 1,
                 since,
             },
@@ -100,7 +100,7 @@ impl RowState {
         let code = judge(left, since, due, code);
         if since == due {
             return Aged {
-                after: RowState {
+                after: Job {
                     remaining: 0,
                     since,
                 },
@@ -108,7 +108,7 @@ impl RowState {
             };
         }
         Aged {
-            after: RowState {
+            after: Job {
                 remaining: left,
                 since,
             },

@@ -5,14 +5,15 @@ use Rattle.basis.specs.Limits.{mostRows}
 use Rattle.basis.proofs.Inside.Upto.{length-upto, upto-below, upto-agree, upto-over}
 use Rattle.sheet.specs.Legal.{rowAt}
 use Rattle.sheet.specs.declared.row.Sheet.{Sheet}
-use Rattle.machine.specs.States.{State, stateOf, recordAt}
+use Rattle.machine.specs.States.{State, stateOf}
+use Rattle.records.specs.declared.record.RowState.{RowState}
 use Rattle.records.specs.declared.steps.Placed.{Placed}
 use Rattle.records.specs.declared.steps.Aged.{Aged}
-use Rattle.records.specs.Records.{noRecord}
+use Rattle.records.specs.Records.{recordOf, noRecord}
 use Rattle.records.specs.Steps.{worked}
 use Rattle.machine.specs.Slot.{begun, free, runs, next, code}
 use Rattle.machine.specs.Answers.{given, nextState, nextCodes}
-use Rattle.states.specs.Inside.Methods.{releasedAt, releasedState, placedAt, placedRecord, placedCode, placedState, placedCodes, agedAt, agedRecord, agedCode, agedState, agedCodes}
+use Rattle.states.specs.Inside.Methods.{jobAt, releasedAt, releasedState, placedAt, placedRecord, placedCode, placedState, placedCodes, agedAt, agedRecord, agedCode, agedState, agedCodes}
 use Rattle.records.specs.Methods.{placedRow, agedRow}
 use Rattle.records.proofs.RowSlots.{row-code}
 use Rattle.machine.proofs.Placement.{free-agrees}
@@ -28,37 +29,36 @@ abbrev codesSoFar : Sheet → State → List ℕ → List ℕ → List ℕ
 codesSoFar h t rel cs = placedCodes h (begunState h t rel) cs
 
 module _ (h : Sheet) (t : State) (rel cs : List ℕ) (long : h .count ≤ length (t .rows)) (room : h .count ≤ length cs) where
-  u-at : (k : ℕ) → k < h .count → recordAt (begunState h t rel) k ≡ begun (given h t rel) k
-  unfolding releasedState given
-  u-at k l = upto-below (h .count) (releasedAt t rel) (t .rows) noRecord k l long
+  u-at : (k : ℕ) → k < h .count → jobAt (begunState h t rel) k ≡ begun (given h t rel) k
+  unfolding given
+  u-at k l = ap (λ (s : RowState). s .job) (upto-below (h .count) (releasedAt t rel) (t .rows) noRecord k l long)
 
   placed-at : (k : ℕ) → k < h .count → placedAt h (begunState h t rel) k ≡ placedRow (rowAt h k) (begun (given h t rel) k) (free (given h t rel) k)
   unfolding given
-  placed-at k l = ap₂ (placedRow (rowAt h k)) (u-at k l) (free-agrees (h .processors) (rowAt h) (rowAt h) (recordAt (begunState h t rel)) (begun (given h t rel)) k (λ i b. refl) (λ i b. u-at i (omega arith)))
+  placed-at k l = ap₂ (placedRow (rowAt h k)) (u-at k l) (free-agrees (h .processors) (rowAt h) (rowAt h) (jobAt (begunState h t rel)) (begun (given h t rel)) k (λ i b. refl) (λ i b. u-at i (omega arith)))
 
-  v-at : (k : ℕ) → k < h .count → recordAt (workedState h t rel) k ≡ worked (runs (given h t rel) k) (begun (given h t rel) k)
-  unfolding placedState releasedState given placedRow
+  v-at : (k : ℕ) → k < h .count → jobAt (workedState h t rel) k ≡ worked (runs (given h t rel) k) (begun (given h t rel) k)
+  unfolding given placedRow
   v-at k l =
-      upto-below (h .count) (placedRecord h (begunState h t rel)) (begunState h t rel .rows) noRecord k l (rw length-upto long)
+      ap (λ (s : RowState). s .job) (upto-below (h .count) (placedRecord h (begunState h t rel)) (begunState h t rel .rows) noRecord k l (rw length-upto long))
       ∙ ap (λ (x : Placed). x .after) (placed-at k l)
 
   ds-at : (k : ℕ) → k < h .count → getD (codesSoFar h t rel cs) k 0 ≡ placedRow (rowAt h k) (begun (given h t rel) k) (free (given h t rel) k) .code
-  unfolding placedCodes
   ds-at k l = upto-below (h .count) (placedCode h (begunState h t rel)) cs 0 k l room ∙ ap (λ (x : Placed). x .code) (placed-at k l)
 
   aged-at : (k : ℕ) → k < h .count → agedAt h (workedState h t rel) (codesSoFar h t rel cs) k ≡ agedRow (rowAt h k) (worked (runs (given h t rel) k) (begun (given h t rel) k)) (placedRow (rowAt h k) (begun (given h t rel) k) (free (given h t rel) k) .code)
   aged-at k l = ap₂ (agedRow (rowAt h k)) (v-at k l) (ds-at k l)
 
   state-is : agedState h (workedState h t rel) (codesSoFar h t rel cs) ≡ nextState h t rel
-  unfolding agedState placedState releasedState nextState given agedRow
+  unfolding nextState given agedRow
   state-is =
       ap stateOf
-      (upto-agree (h .count) (agedRecord h (workedState h t rel) (codesSoFar h t rel cs)) (next (given h t rel)) (workedState h t rel .rows) (λ k l. ap (λ (x : Aged). x .after) (aged-at k l))
+      (upto-agree (h .count) (agedRecord h (workedState h t rel) (codesSoFar h t rel cs)) (next (given h t rel)) (workedState h t rel .rows) (λ k l. ap (λ (x : Aged). recordOf (x .after)) (aged-at k l))
       ∙ upto-over (h .count) (h .count) (next (given h t rel)) (placedRecord h (begunState h t rel)) (begunState h t rel .rows) noRecord (le-refl (h .count)) (rw length-upto long)
       ∙ upto-over (h .count) (h .count) (next (given h t rel)) (releasedAt t rel) (t .rows) noRecord (le-refl (h .count)) long)
 
   codes-are : agedCodes h (workedState h t rel) (codesSoFar h t rel cs) ≡ nextCodes h t rel cs
-  unfolding agedCodes placedCodes nextCodes given
+  unfolding nextCodes given
   codes-are =
       upto-agree (h .count) (agedCode h (workedState h t rel) (codesSoFar h t rel cs)) (code (given h t rel)) (codesSoFar h t rel cs)
       (λ k l. ap (λ (x : Aged). x .code) (aged-at k l) ∙ row-code (free (given h t rel) k) (rowAt h k) (begun (given h t rel) k))

@@ -10,6 +10,7 @@ use crate::state::State;
 use basis::MOST_ROWS;
 use machine::RECORD_WIDE;
 use machine::STATE_LONG;
+use records::Job;
 use records::RowState;
 use sheet::SHEET_LONG;
 use sheet::Sheet;
@@ -32,8 +33,9 @@ pub(crate) fn state_list(state: State) -> [u64; STATE_LONG]
     while i < MOST_ROWS {
         let s = state.rows[i];
         let at = i * RECORD_WIDE;
-        list[at] = s.remaining;
-        list[at + 1] = s.since;
+        let job = s.job;
+        list[at] = job.remaining;
+        list[at + 1] = job.since;
         i += 1;
     }
     list
@@ -44,8 +46,10 @@ fn zeros() -> State
     ensures { λ r. ⌜ held r ≡ noState ⌝ }
 {
     let none = RowState {
-        remaining: 0,
-        since: 0,
+        job: Job {
+            remaining: 0,
+            since: 0,
+        },
     };
     let rows = [none; MOST_ROWS];
     State { rows }
@@ -61,8 +65,10 @@ pub(crate) fn state_of(list: &[u64]) -> State
     while i < MOST_ROWS {
         let at = i * RECORD_WIDE;
         let s = RowState {
-            remaining: list[at],
-            since: list[at + 1],
+            job: Job {
+                remaining: list[at],
+                since: list[at + 1],
+            },
         };
         state.rows[i] = s;
         i += 1;

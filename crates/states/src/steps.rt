@@ -6,6 +6,7 @@ ghost use Rattle.basis.specs.Limits.{mostRows};
 ghost use Rattle.states.specs.Values.{held};
 ghost use Rattle.states.specs.Inside.Methods.{releasedState, placedState, placedCodes, agedState, agedCodes};
 use crate::state::State;
+use records::RowState;
 use sheet::Sheet;
 
 impl State {
@@ -19,8 +20,9 @@ impl State {
         let mut i: usize = 0;
         while i < n {
             let s = state.rows[i];
-            let after = s.released(releases[i]);
-            state.rows[i] = after;
+            let job = s.job;
+            let after = job.released(releases[i]);
+            state.rows[i] = RowState { job: after };
             i += 1;
         }
         state
@@ -38,9 +40,10 @@ impl State {
         while i < n {
             let row = sheet.rows[i];
             let s = state.rows[i];
-            let placed = s.placed(row, free);
+            let job = s.job;
+            let placed = job.placed(row, free);
             let after = placed.after;
-            state.rows[i] = after;
+            state.rows[i] = RowState { job: after };
             codes[i] = placed.code;
             free = placed.free;
             i += 1;
@@ -59,9 +62,10 @@ impl State {
         while i < n {
             let row = sheet.rows[i];
             let s = state.rows[i];
-            let aged = s.aged(row, codes[i]);
+            let job = s.job;
+            let aged = job.aged(row, codes[i]);
             let after = aged.after;
-            state.rows[i] = after;
+            state.rows[i] = RowState { job: after };
             codes[i] = aged.code;
             i += 1;
         }

@@ -24,13 +24,13 @@ record-past t k long b = sym (List·getD-eq-default (t .rows) noRecord {n = k} (
 
 -- `cell_of`
 module _ (t : State) (i : ℕ) (s : RowState) (e : s ≡ recordAt t (i / 2)) where
-  pub even-cell : i % 2 ≡ 0 → s .remaining ≡ stateCell t i
+  pub even-cell : i % 2 ≡ 0 → s .job .remaining ≡ stateCell t i
   unfolding pairCell
-  even-cell z = rw (eq-eqb (i % 2) 0 z) (ap (λ (x : RowState). x .remaining) e)
+  even-cell z = rw (eq-eqb (i % 2) 0 z) (ap (λ (x : RowState). x .job .remaining) e)
 
-  pub odd-cell : (i % 2 ≡ 0 → ⊥) → s .since ≡ stateCell t i
+  pub odd-cell : (i % 2 ≡ 0 → ⊥) → s .job .since ≡ stateCell t i
   unfolding pairCell
-  odd-cell z = rw (ne-eqb (i % 2) 0 z) (ap (λ (x : RowState). x .since) e)
+  odd-cell z = rw (ne-eqb (i % 2) 0 z) (ap (λ (x : RowState). x .job .since) e)
 
 -- `giachimu_box`
 module _ (s list rel cs : List ℕ) (b : Bool) (eb : b ≡ legal (sheetIn s)) where

@@ -11,13 +11,14 @@ use Rattle.machine.specs.Checks.{checkReleases}
 use Rattle.machine.specs.Answers.{given, nextState}
 use Rattle.records.proofs.Inside.Codes.{four-says}
 use Rattle.machine.proofs.Inside.Legals.{LegalState}
+use Rattle.machine.proofs.Inside.LegalSlots.{next-at}
 use Rattle.records.proofs.Inside.Records.{ended-else}
 use Rattle.green.specs.Inside.Model.{age, Reached, slot}
 use Rattle.green.specs.Calls.{Done}
 use Rattle.green.specs.Demand.{Bounded}
 use Rattle.green.proofs.Sheets.{rowsOf, ranges, safe}
 use Rattle.green.proofs.Soundness.{slot-within-bound}
-use Rattle.green.proofs.Slots.{momentOf, ran, slot-is, reached-remaining, reached-since, next-record, next-since}
+use Rattle.green.proofs.Slots.{momentOf, ran, slot-is, reached-remaining, reached-since, next-since}
 use Rattle.green.proofs.Inside.Codes.{finished-code, going-code}
 
 -- an accepted slot from a state: what it was checked for, and the codes that it wrote
@@ -75,8 +76,8 @@ module _ (h : Sheet) (legal : Legal h) (n : ℕ) (up : Bounded h n) where
       -- a job finishes in this slot, or goes on: it waited or ran, and is a slot older
       pub record GoesOn : Type 0 where
         pub ran-or-waited : (getD (d .codes) k 0 ≡ 1) ⊎ (getD (d .codes) k 0 ≡ 2)
-        pub some : 1 ≤ recordAt (nextState h t (d .releases)) k .remaining
-        pub older : recordAt (nextState h t (d .releases)) k .since ≡ age (getD (d .releases) k 0) (recordAt t k .since) + 1
+        pub some : 1 ≤ recordAt (nextState h t (d .releases)) k .job .remaining
+        pub older : recordAt (nextState h t (d .releases)) k .job .since ≡ age (getD (d .releases) k 0) (recordAt t k .job .since) + 1
 
       pub step : 1 ≤ begun (given h t (d .releases)) k .remaining → (getD (d .codes) k 0 ≡ 3) ⊎ GoesOn
       unfolding given
@@ -87,10 +88,10 @@ module _ (h : Sheet) (legal : Legal h) (n : ℕ) (up : Bounded h n) where
           go (suc y) e =
               let b = in-bound (omega arith) in
               let early : old ≡ rowAt h k .deadline → ⊥ = λ f. omega (arith, ranges h legal n up k l) in
-              let r′ = next-record h t (d .releases) (s .state) (s .fine) k there in
+              let r′ = next-at h t (d .releases) (s .state) k there in
               let c = going-code (rowAt h k) (runs (given h t (d .releases)) k) (begun (given h t (d .releases)) k) (reached (given h t (d .releases)) k) x (omega arith) early in
               inr (record {
                 ran-or-waited = ⊎-elim (λ f. inl (s .wrote k there ∙ f)) (λ f. inr (s .wrote k there ∙ f)) c;
-                some = omega (arith, ap (λ (z : RowState). z .remaining) r′, ended-else (rowAt h k) (reached (given h t (d .releases)) k) early);
+                some = omega (arith, ap (λ (z : RowState). z .job .remaining) r′, ended-else (rowAt h k) (reached (given h t (d .releases)) k) early);
                 older = omega (arith, next-since h t (d .releases) (s .state) (s .fine) k there, reached-since h t (d .releases) (s .state) (s .fine) k there, ranges h legal n up k l);
               })

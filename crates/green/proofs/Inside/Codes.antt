@@ -3,11 +3,11 @@
 use Rattle.basis.specs.Prelude.{ℕ, _≤_, _≡_, refl, _∙_, Bool, true, false, _⊎_, inl, inr, ⊎-elim, arith, lt-ltb, le-ltb}
 use Rattle.basis.specs.Words.{pick}
 use Rattle.sheet.specs.declared.row.Row.{Row}
-use Rattle.records.specs.declared.record.RowState.{RowState}
+use Rattle.records.specs.declared.record.Job.{Job}
 use Rattle.records.specs.Steps.{codeOf}
 use Rattle.records.proofs.Inside.Codes.{code-is, goes-on}
 
-module _ (row : Row) (ran : Bool) (before after : RowState) where
+module _ (row : Row) (ran : Bool) (before after : Job) where
   -- nothing is left: 3
   pub finished-code : 1 ≤ before .remaining → after .remaining ≡ 0 → codeOf row ran before after ≡ 3
   finished-code h e = code-is row ran before after ∙ simp (lt-ltb 0 (before .remaining) h, le-ltb 0 (after .remaining) (omega arith))

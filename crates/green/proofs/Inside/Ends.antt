@@ -58,14 +58,14 @@ module _ (h : Sheet) (legal : Legal h) (n : ℕ) (up : Bounded h n) (k : ℕ) (l
   R = bounds h legal n up k
 
   -- a job that is there at a state goes on to its end
-  goes-on : (ds : List Done) (t u : State) → Chain h t ds u → Reached (rowsOf h n) (momentOf t) → 1 ≤ recordAt t k .remaining → R ≤ recordAt t k .since + length ds
-      → Ends ds k (R - recordAt t k .since)
+  goes-on : (ds : List Done) (t u : State) → Chain h t ds u → Reached (rowsOf h n) (momentOf t) → 1 ≤ recordAt t k .job .remaining → R ≤ recordAt t k .job .since + length ds
+      → Ends ds k (R - recordAt t k .job .since)
   goes-on [] t u none r x y = absurd (omega (arith, within-bound (rowsOf h n) (ranges h legal n up) (safe h legal n up) r k l x))
   goes-on (d ∷ ds) t u (more s c) r x y =
       let b = within-bound (rowsOf h n) (ranges h legal n up) (safe h legal n up) r k l x in
       let quiet : 1 ≤ getD (d .releases) k 0 → ⊥ = λ z. omega (arith, released-so h t (d .releases) (s .state) (s .fine) k (omega (arith, up .within)) z, ranges h legal n up k l) in
-      let o = owed-as-was (getD (d .releases) k 0) (recordAt t k .remaining) quiet in
-      let a = age-as-was (getD (d .releases) k 0) (recordAt t k .since) quiet in
+      let o = owed-as-was (getD (d .releases) k 0) (recordAt t k .job .remaining) quiet in
+      let a = age-as-was (getD (d .releases) k 0) (recordAt t k .job .since) quiet in
       ⊎-elim
       (λ f. ends-now d ds k _ (omega arith) f)
       (λ g. ends-later d ds k _ (g .ran-or-waited)
@@ -77,8 +77,8 @@ module _ (h : Sheet) (legal : Legal h) (n : ℕ) (up : Bounded h n) (k : ℕ) (l
   released-ends : (ds : List Done) (t u : State) → Chain h t ds u → Reached (rowsOf h n) (momentOf t) → 1 ≤ releaseIn ds 0 k → R ≤ length ds → Ends ds k R
   released-ends [] t u none r x y = absurd (omega arith)
   released-ends (d ∷ ds) t u (more s c) r x y =
-      let o = owed-new (getD (d .releases) k 0) (recordAt t k .remaining) x in
-      let a = age-new (getD (d .releases) k 0) (recordAt t k .since) x in
+      let o = owed-new (getD (d .releases) k 0) (recordAt t k .job .remaining) x in
+      let a = age-new (getD (d .releases) k 0) (recordAt t k .job .since) x in
       ⊎-elim
       (λ f. ends-now d ds k R (omega (arith, ranges h legal n up k l)) f)
       (λ g. ends-later d ds k R (g .ran-or-waited)

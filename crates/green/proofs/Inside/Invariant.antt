@@ -22,7 +22,7 @@ module _ (p : Rows) where
   open Rows p using (m, n, threads, T, D, C, R)
 
   -- A job of row k, with ρ to run, s slots after its release: vs has the slots in which it waited.
-  record Job (a : Moment) (k ρ s : ℕ) (vs : List (ℕ → ℕ)) : Type 0 where
+  record JobSoFar (a : Moment) (k ρ s : ℕ) (vs : List (ℕ → ℕ)) : Type 0 where
     ends : s + ρ ≤ C k + length vs
     slack : length vs + C k ≤ R k
     busy : Each (Busy p k) vs
@@ -31,7 +31,7 @@ module _ (p : Rows) where
   pub record Inv (a : Moment) : Type 0 where
     less : (i : ℕ) → i < n → a .remaining i ≤ C i
     old : (i : ℕ) → i < n → a .since i ≤ T i
-    job : (k : ℕ) → k < n → 1 ≤ a .remaining k → (vs : List (ℕ → ℕ)) × Job a k (a .remaining k) (a .since k) vs
+    job : (k : ℕ) → k < n → 1 ≤ a .remaining k → (vs : List (ℕ → ℕ)) × JobSoFar a k (a .remaining k) (a .since k) vs
 
   pub in-time : {a : Moment} → Inv a → (k : ℕ) → k < n → 1 ≤ a .remaining k → a .since k + a .remaining k ≤ R k
   in-time v k h x = let j = v .job k h x in omega (arith, j .1 .ends, j .1 .slack)
@@ -51,11 +51,11 @@ module _ (p : Rows) (legal : (i : ℕ) → i < p .n → Ranges p i) (safe : (k :
       (c .releases i h) (c .once i h) (c .runs i h) (c .left i h) (c .ages i h)
 
   -- row k's job after the releases, and before the slot runs
-  released : (k : ℕ) → k < n → 1 ≤ owed (release k) (a .remaining k) → (vs : List (ℕ → ℕ)) × Job p a k (owed (release k) (a .remaining k)) (age (release k) (a .since k)) vs
+  released : (k : ℕ) → k < n → 1 ≤ owed (release k) (a .remaining k) → (vs : List (ℕ → ℕ)) × JobSoFar p a k (owed (release k) (a .remaining k)) (age (release k) (a .since k)) vs
   unfolding owed age tally W
   released k h x = go (release k) (c .releases k h) x
     where
-      go : (r : ℕ) → (1 ≤ r → (a .since k ≡ T k) × (r ≤ C k)) → 1 ≤ owed r (a .remaining k) → (vs : List (ℕ → ℕ)) × Job p a k (owed r (a .remaining k)) (age r (a .since k)) vs
+      go : (r : ℕ) → (1 ≤ r → (a .since k ≡ T k) × (r ≤ C k)) → 1 ≤ owed r (a .remaining k) → (vs : List (ℕ → ℕ)) × JobSoFar p a k (owed r (a .remaining k)) (age r (a .since k)) vs
       go zero f y = v .job k h y
       go (suc r) f y = (
         [],
@@ -76,7 +76,7 @@ module _ (p : Rows) (legal : (i : ℕ) → i < p .n → Ranges p i) (safe : (k :
 
   -- the slot, after which ρ is left to run of the job of row k, which is dropped only then
   module _ (k ρ : ℕ) (h : k < n) (alive : 1 ≤ ρ) (rest : ρ ≤ owed (release k) (a .remaining k) - ran k) (vs : List (ℕ → ℕ))
-      (j : Job p a k (owed (release k) (a .remaining k)) (age (release k) (a .since k)) vs) where
+      (j : JobSoFar p a k (owed (release k) (a .remaining k)) (age (release k) (a .since k)) vs) where
     -- the job is a slot older
     older : b .since k ≡ suc (age (release k) (a .since k))
     older = omega (arith, j .ends, j .slack, legal k h, c .ages k h)
@@ -87,10 +87,10 @@ module _ (p : Rows) (legal : (i : ℕ) → i < p .n → Ranges p i) (safe : (k :
     bound : (i : ℕ) → i < k → ran i + tally vs i + Φ (C i) (T i) (b .remaining i) (b .since i) (R k - b .since k) ≤ W p i (R k)
     bound i l = omega (arith, rw window at (j .bounded i l), falls i (omega arith) (R k - b .since k))
 
-    ran-on : 1 ≤ ran k → Job p b k ρ (b .since k) vs
+    ran-on : 1 ≤ ran k → JobSoFar p b k ρ (b .since k) vs
     ran-on r = record { ends = omega (arith, j .ends, older); slack = j .slack; busy = j .busy; bounded = λ i l. omega (arith, bound i l) }
 
-    waited : ran k ≡ 0 → Job p b k ρ (b .since k) (ran ∷ vs)
+    waited : ran k ≡ 0 → JobSoFar p b k ρ (b .since k) (ran ∷ vs)
     unfolding tally g q X
     waited r = record { ends = omega (arith, j .ends, older); slack = in-slack; busy = all; bounded = bound }
       where
@@ -109,13 +109,13 @@ module _ (p : Rows) (legal : (i : ℕ) → i < p .n → Ranges p i) (safe : (k :
             absurd (safe k h (ran ∷ vs) (record { many = omega (arith, j .slack); busy = all; bounded = λ i l. omega (arith, bound i l) }))
 
   -- the job of row k after the slot, by whether it ran
-  after : (k ρ : ℕ) → k < n → 1 ≤ ρ → ρ ≤ owed (release k) (a .remaining k) - ran k → (vs : List (ℕ → ℕ)) × Job p b k ρ (b .since k) vs
+  after : (k ρ : ℕ) → k < n → 1 ≤ ρ → ρ ≤ owed (release k) (a .remaining k) - ran k → (vs : List (ℕ → ℕ)) × JobSoFar p b k ρ (b .since k) vs
   after k ρ h x y = go (ran k) refl
     where
-      j : (vs : List (ℕ → ℕ)) × Job p a k (owed (release k) (a .remaining k)) (age (release k) (a .since k)) vs
+      j : (vs : List (ℕ → ℕ)) × JobSoFar p a k (owed (release k) (a .remaining k)) (age (release k) (a .since k)) vs
       j = released k h (omega arith)
 
-      go : (r : ℕ) → ran k ≡ r → (vs : List (ℕ → ℕ)) × Job p b k ρ (b .since k) vs
+      go : (r : ℕ) → ran k ≡ r → (vs : List (ℕ → ℕ)) × JobSoFar p b k ρ (b .since k) vs
       go zero e = (ran ∷ j .0, waited k ρ h x y (j .0) (j .1) e)
       go (suc r) e = (j .0, ran-on k ρ h x y (j .0) (j .1) (omega arith))
 

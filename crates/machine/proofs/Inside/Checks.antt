@@ -47,9 +47,6 @@ module _ (h : Sheet) (t : State) (c : Refusal) (e : outcome c ≡ checkState h t
     is-ready : Ready h t
     is-ready = ready h t (sym e ∙ ap outcome f)
 
-    pub rows-fit : h .count ≤ mostRows
-    rows-fit = is-ready .most-rows
-
     pub some-row : (n : ℕ) → n ≡ h .count → 0 < n
     some-row n en = omega (arith, is-ready .some-rows)
 

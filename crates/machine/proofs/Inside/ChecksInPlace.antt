@@ -1,6 +1,6 @@
 -- The checks in place: of a sheet and a state, and of the releases, in the words of the loop over them.
 -- Assumes nothing.
-use Rattle.basis.specs.Prelude.{ℕ, _+_, _≤_, _<_, _≡_, sym, ap, ap₂, _∙_, Bool, true, false, List, getD, arith}
+use Rattle.basis.specs.Prelude.{ℕ, _+_, _≤_, _<_, _≡_, sym, ap, _∙_, Bool, true, false, List, getD, arith}
 use Rattle.basis.specs.Refusals.{Outcome, accepted, refused, outcome, firstOf}
 use Rattle.basis.specs.declared.refusal.Refusal.{Refusal}
 use Rattle.basis.specs.declared.refusal.Refusal.the-variants.{Accepted, Refused}
@@ -16,23 +16,15 @@ use Rattle.machine.proofs.Inside.Checks.{ready}
 use Rattle.machine.proofs.LegalLists.{kept-record}
 use Rattle.basis.proofs.Inside.FirstRefusal.{first-more, first-found}
 
--- the loop over the releases
-module _ (h : Sheet) (t : State) (rel : List ℕ) (i : ℕ) (so-far : firstOf i (checkAt h t rel) ≡ accepted) where
-  check-more : (c : Refusal) → outcome c ≡ checkRow (rowAt h i) (recordAt t i) (getD rel i 0) i → c ≡ Accepted → firstOf (i + 1) (checkAt h t rel) ≡ accepted
-  check-more c ec e = first-more i (checkAt h t rel) so-far (sym ec ∙ ap outcome e)
-
-  check-found : (n : ℕ) (c : Refusal) (a b : ℕ) → n ≡ h .count → i < n → outcome c ≡ checkRow (rowAt h i) (recordAt t i) (getD rel i 0) i → c ≡ Refused a b → refused a b ≡ checkReleases h t rel
-  unfolding checkReleases
-  check-found n c a b en l ec e = sym (first-found (h .count) i (checkAt h t rel) a b (omega arith) so-far (sym ec ∙ ap outcome e))
-
-  pub check-done : (n : ℕ) → n ≡ h .count → i ≤ n → n ≤ i → accepted ≡ checkReleases h t rel
-  unfolding checkReleases
-  check-done n en a b = let e : i ≡ h .count = omega arith in sym (rw e at so-far)
+-- the loop over the releases: its end
+pub check-done : (h : Sheet) (t : State) (rel : List ℕ) (i n : ℕ) → firstOf i (checkAt h t rel) ≡ accepted → n ≡ h .count → i ≤ n → n ≤ i → accepted ≡ checkReleases h t rel
+unfolding checkReleases
+check-done h t rel i n so-far en a b = let e : i ≡ h .count = omega arith in sym (rw e at so-far)
 
 -- `check_in`
 pub check-in-there : (h : Sheet) (l : List ℕ) (release k : ℕ) (row : Row) (s : RowState) → row ≡ rowAt h k → s ≡ recordIn l k → (o : Outcome) → o ≡ checkRow row s release k
     → o ≡ checkRow (rowAt h k) (recordIn l k) release k
-check-in-there h l release k row s er es o e = e ∙ ap₂ (λ (r : Row) (x : RowState). checkRow r x release k) er es
+check-in-there h l release k row s er es o e = rw (er, es) at e
 
 -- `check_releases_in`
 module _ (h : Sheet) (l rel : List ℕ) (fine : legal h ≡ true) (kept : legalState h (stateIn l) ≡ true) (i : ℕ) (so-far : firstOf i (checkAt h (stateIn l) rel) ≡ accepted)
@@ -41,10 +33,11 @@ module _ (h : Sheet) (l rel : List ℕ) (fine : legal h ≡ true) (kept : legalS
   in-state = ec ∙ ap (λ (s : RowState). checkRow (rowAt h i) s (getD rel i 0) i) (kept-record h l fine kept i (omega arith))
 
   pub check-in-more : c ≡ Accepted → firstOf (i + 1) (checkAt h (stateIn l) rel) ≡ accepted
-  check-in-more e = check-more h (stateIn l) rel i so-far c in-state e
+  check-in-more e = first-more i (checkAt h (stateIn l) rel) so-far (sym in-state ∙ ap outcome e)
 
   pub check-in-found : (a b : ℕ) → c ≡ Refused a b → refused a b ≡ checkReleases h (stateIn l) rel
-  check-in-found a b e = check-found h (stateIn l) rel i so-far n c a b en below in-state e
+  unfolding checkReleases
+  check-in-found a b e = sym (first-found (h .count) i (checkAt h (stateIn l) rel) a b (omega arith) so-far (sym in-state ∙ ap outcome e))
 
 -- `check_state_in`
 module _ (h : Sheet) (t : State) (fine : Bool) (e : fine ≡ legal h) where

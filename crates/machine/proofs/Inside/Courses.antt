@@ -24,11 +24,11 @@ module _ (h : Sheet) (t : State) (rel cs : List ℕ) (j n : ℕ) (en : n ≡ h .
   rest-is : take (length cs - j * n) (drop (j * n) cs) ≡ drop (j * n) cs
   rest-is = take-all (length cs - j * n) (drop (j * n) cs) (omega (arith, length-drop (j * n) cs))
 
-  pub part-holds : h .count ≤ length (take (j * n + n - j * n) (drop (j * n) rel))
-  part-holds = rw part-is (omega (arith, part-long, en))
+  pub part-holds : n ≤ length (take (j * n + n - j * n) (drop (j * n) rel))
+  part-holds = rw part-is (omega (arith, part-long))
 
-  pub rest-holds : h .count ≤ length (take (length cs - j * n) (drop (j * n) cs))
-  rest-holds = rw rest-is (omega (arith, length-drop (j * n) cs, en))
+  pub rest-holds : n ≤ length (take (length cs - j * n) (drop (j * n) cs))
+  rest-holds = rw rest-is (omega (arith, length-drop (j * n) cs))
 
   check-is : checkSlot h t (entriesOf n j rel) (length (drop (j * n) cs)) ≡ checkReleases h t (entriesOf n j rel)
   unfolding checkSlot checkState checkRoom

@@ -12,7 +12,7 @@ use Rattle.sheet.specs.Lists.{filled, clearedCell}
 use Rattle.sheet.proofs.Inside.ClearedLists.{cleared-is-filled}
 use Rattle.sheet.proofs.Inside.FilledLists.{length-filled}
 use Rattle.records.specs.declared.record.RowState.{RowState}
-use Rattle.records.specs.Records.{noRecord}
+use Rattle.records.specs.Records.{recordOf, noRecord}
 use Rattle.machine.specs.States.{noState, recordAt, freshAt, freshState}
 use Rattle.machine.specs.Answers.{freshAnswer, fresh}
 use Rattle.machine.specs.Lists.{recordWide, stateLong, putRecord, putTo, putState, cleared, freshOn}
@@ -31,7 +31,7 @@ all-cleared l l₁ e = e ∙ cleared-is-filled (λ i. 0) 0 l l (upto-none (λ i.
 
 -- `put_fresh`
 abbrev freshRow : Row → RowState
-freshRow row = record { remaining = 0; since = row .separation }
+freshRow row = recordOf (record { remaining = 0; since = row .separation })
 
 pub fresh-more : (h : Sheet) (l l₀ l′ : List ℕ) (i : ℕ) (row : Row) → l ≡ putTo i (freshAt h) l₀ → row ≡ rowAt h i → l′ ≡ putRecord l i (freshRow row) → l′ ≡ putTo (i + 1) (freshAt h) l₀
 fresh-more h l l₀ l′ i row so-far er e = e ∙ put-more i (freshAt h) l l₀ (freshRow row) so-far (ap freshRow er)

@@ -12,9 +12,9 @@ use Rattle.sheet.specs.Lists.{numberAt}
 use Rattle.sheet.proofs.Ranges.{not-so}
 use Rattle.records.specs.declared.record.RowState.{RowState}
 use Rattle.machine.specs.States.{recordAt, legalState}
-use Rattle.records.specs.Records.{isZero, legalRecord}
+use Rattle.records.specs.Records.{isZero, isZeroJob, legalRecord}
 use Rattle.machine.specs.Lists.{recordWide, recordIn, stateLong, zeroAt, zeroFrom, spareIsZero, stateIn}
-use Rattle.machine.proofs.Inside.Legals.{legal-record-is, legal-record-says, legal-state-is, legal-state-says}
+use Rattle.machine.proofs.Inside.Legals.{legal-job-is, legal-job-says, legal-state-is, legal-state-says}
 use Rattle.machine.proofs.Inside.RecordLists.{record-in-state}
 use Rattle.machine.proofs.LegalLists.{few, kept-record, kept-zeros, missing-records-are-refused}
 
@@ -24,7 +24,7 @@ legalIn h l k = legalRecord (rowAt h k) (recordIn l k)
 
 -- a record of zeros
 zero-pair : (l : List ℕ) (k : ℕ) → numberAt l (k * recordWide) ≡ 0 → numberAt l (k * recordWide + 1) ≡ 0 → isZero (recordIn l k) ≡ true
-unfolding isZero recordIn
+unfolding isZeroJob recordIn
 zero-pair l k y z = rw (eq-eqb (numberAt l (k * recordWide)) 0 y, eq-eqb (numberAt l (k * recordWide + 1)) 0 z)
 
 -- `is_legal_in`
@@ -54,12 +54,12 @@ module _ (h : Sheet) (l : List ℕ) (fine : legal h ≡ true) (n : ℕ) (en : n 
           never : legalState h (stateIn l) ≡ true → ⊥
           never k =
               let r = legal-state-is h (stateIn l) (few h l fine) k .rows i (omega arith) in
-              let t = legal-record-says (rowAt h i) (recordAt (stateIn l) i) r in
+              let t = legal-job-says (rowAt h i) (recordAt (stateIn l) i .job) r in
               let u = ap (legalRecord (rowAt h i)) (kept-record h l fine k i (omega arith)) in
               true-not-false (sym t ∙ sym u ∙ sym legal-here ∙ e)
 
     zeros-decide : n ≤ i → i ≤ n → (r : Bool) → zeroFrom (stateLong (h .count)) l ≡ r → r ≡ legalState h (stateIn l)
-    unfolding zeroFrom zeroAt isZero legalIn
+    unfolding zeroFrom zeroAt isZeroJob legalIn
     zeros-decide a b false e = sym (not-so (legalState h (stateIn l)) (λ k. true-not-false (sym (kept-zeros h l fine k) ∙ e)))
     zeros-decide a b true e =
         let zero : (j : ℕ) → stateLong (h .count) ≤ j → numberAt l j ≡ 0 = λ j m. ⊎-elim
@@ -69,7 +69,7 @@ module _ (h : Sheet) (l : List ℕ) (fine : legal h ≡ true) (n : ℕ) (en : n 
         (λ j y. ⊎-elim (λ m. rw (lt-ltb j (stateLong mostRows) m)) (λ m. rw (le-ltb j (stateLong mostRows) m, eq-eqb (numberAt l j) 0 (zero j (omega (arith, few h l fine))))) (lt-or-le j (stateLong mostRows))) in
         sym (legal-state-says h (stateIn l) (few h l fine) (record {
           rows = λ k m. rw (record-in-state l k spare (omega (arith, few h l fine)))
-              (legal-record-is (rowAt h k) (recordIn l k) (all-at i (legalIn h l) (sym so-far) k (omega arith)));
+              (legal-job-is (rowAt h k) (recordIn l k .job) (all-at i (legalIn h l) (sym so-far) k (omega arith)));
           past = λ k m y. rw (record-in-state l k spare y) (zero-pair l k (zero (k * recordWide) (omega arith)) (zero (k * recordWide + 1) (omega arith)));
         }))
 

@@ -9,82 +9,66 @@ use Rattle.basis.proofs.Inside.Upto.{upto-below, upto-past}
 use Rattle.sheet.specs.Legal.{rowAt, Legal, LegalRow}
 use Rattle.sheet.specs.declared.row.Row.{Row}
 use Rattle.sheet.specs.declared.row.Sheet.{Sheet}
+use Rattle.records.specs.declared.record.Job.{Job}
 use Rattle.records.specs.declared.record.RowState.{RowState}
 use Rattle.machine.specs.States.{State, recordAt, freshAt, freshState}
-use Rattle.records.specs.Records.{noRecord, isZero}
-use Rattle.records.specs.Steps.{released, worked, aged, ended}
+use Rattle.records.specs.Records.{noRecord, isZeroJob}
+use Rattle.records.specs.Steps.{released, worked, older, aged, ended}
 use Rattle.machine.specs.Slot.{begun, runs, next}
 use Rattle.records.specs.Checks.{checkRow}
 use Rattle.machine.specs.Checks.{checkAt, checkReleases}
 use Rattle.machine.specs.Answers.{given, nextState}
-use Rattle.machine.proofs.Inside.Legals.{LegalRecord, LegalState, legal-state-long}
-use Rattle.records.proofs.Inside.Records.{released-none, released-some, release-allowed, worked-most, worked-since, older-below, older-some, older-most, ended-at, ended-else, ended-since, same-or-not}
+use Rattle.machine.proofs.Inside.Legals.{LegalJob, LegalState, legal-state-long}
+use Rattle.records.proofs.Inside.Records.{released-none, released-some, release-allowed, worked-near, older-below, older-within, ended-at, ended-less, ended-since}
 
--- a record after step 1
-record BegunRecord (row : Row) (s : RowState) : Type 0 where
+-- a job after step 1
+record BegunJob (row : Row) (s : Job) : Type 0 where
   pub most-since : s .since ≤ row .separation
   pub most-remaining : s .remaining ≤ row .budget
   pub in-time : 1 ≤ s .remaining → s .since < row .deadline
 
-begun-legal : (m : ℕ) (row : Row) (s : RowState) (r k : ℕ) → LegalRow m row → LegalRecord row s → checkRow row s r k ≡ accepted → BegunRecord row (released r s)
+begun-legal : (m : ℕ) (row : Row) (s : RowState) (r k : ℕ) → LegalRow m row → LegalJob row (s .job) → checkRow row s r k ≡ accepted → BegunJob row (released r (s .job))
 begun-legal m row s zero k w l e =
     rw released-none (record { most-since = l .most-since; most-remaining = l .most-remaining; in-time = l .in-time })
 begun-legal m row s (suc r) k w l e =
-    rw (released-some (suc r) s (omega arith))
+    rw (released-some (suc r) (s .job) (omega arith))
     (record { most-since = omega arith; most-remaining = release-allowed row s (suc r) k (omega arith) e .0; in-time = λ j. omega (arith, w .some-deadline) })
 
 -- and at the end of the slot
-module _ (row : Row) (a : RowState) (p : 1 ≤ a .since) (q : a .since ≤ row .separation) (r : a .remaining ≤ row .budget) (u : 1 ≤ a .remaining → a .since ≤ row .deadline) where
-  end-legal : LegalRecord row (ended row a)
-  end-legal = ⊎-elim late early (same-or-not (a .since) (row .deadline))
-    where
-      late : a .since ≡ row .deadline → LegalRecord row (ended row a)
-      late e =
-          let none = ended-at row a e in
-          record { some-since = rw ended-since p; most-since = rw ended-since q; most-remaining = omega arith; in-time = λ j. absurd (omega arith) }
-
-      early : (a .since ≡ row .deadline → ⊥) → LegalRecord row (ended row a)
-      early d =
-          let all = ended-else row a d in
-          record {
-            some-since = rw ended-since p;
-            most-since = rw ended-since q;
-            most-remaining = omega arith;
-            in-time = λ j. rw ended-since (⊎-elim (λ l. l) (λ l. absurd (d (omega (arith, u (omega arith))))) (lt-or-le (a .since) (row .deadline)));
-          }
-
-row-legal : (m : ℕ) (row : Row) (s : RowState) (ran : Bool) → LegalRow m row → BegunRecord row s → LegalRecord row (ended row (aged row (worked ran s)))
-unfolding aged
+row-legal : (m : ℕ) (row : Row) (s : Job) (ran : Bool) → LegalRow m row → BegunJob row s → LegalJob row (ended row (aged row (worked ran s)))
+unfolding aged worked
 row-legal m row s ran w b =
-    end-legal row (aged row (worked ran s))
-    (older-some (row .separation) (worked ran s .since) (w .some-separation))
-    (older-most (row .separation) (worked ran s .since))
-    (omega (arith, worked-most ran s, b .most-remaining))
-    (λ j. let soon = b .in-time (omega (arith, worked-most ran s)) in omega (arith, worked-since ran s, older-below (row .separation) (worked ran s .since) (omega (arith, worked-since ran s, w .most-deadline))))
+    let since = older-within (row .separation) (s .since) (w .some-separation) in
+    let less = ended-less row (aged row (worked ran s)) in
+    record {
+      some-since = rw ended-since (since .0);
+      most-since = rw ended-since (since .1);
+      most-remaining = omega (arith, worked-near ran s, b .most-remaining);
+      in-time = λ j.
+          let soon = b .in-time (omega (arith, worked-near ran s)) in
+          let next = older-below (row .separation) (s .since) (omega (arith, w .most-deadline)) in
+          rw ended-since (⊎-elim (λ l. l) (λ l. absurd (omega (arith, ended-at row (aged row (worked ran s)) (omega arith)))) (lt-or-le (older (row .separation) (s .since)) (row .deadline)));
+    }
 
 -- from a legal state an accepted slot gives a legal state
-module _ (h : Sheet) (t : State) (rel : List ℕ) (w : Legal h) (l : LegalState h t) where
+module _ (h : Sheet) (t : State) (rel : List ℕ) (l : LegalState h t) where
   pub next-at : (k : ℕ) → k < h .count → recordAt (nextState h t rel) k ≡ next (given h t rel) k
   unfolding nextState
   next-at k b = upto-below (h .count) (next (given h t rel)) (t .rows) noRecord k b (legal-state-long h t l)
 
-  next-past : (k : ℕ) → h .count ≤ k → recordAt (nextState h t rel) k ≡ recordAt t k
-  unfolding nextState
-  next-past k b = upto-past (h .count) (next (given h t rel)) (t .rows) noRecord k b
-
-  pub next-legal : checkReleases h t rel ≡ accepted → LegalState h (nextState h t rel)
-  unfolding checkReleases given
-  next-legal e =
+  pub next-legal : Legal h → checkReleases h t rel ≡ accepted → LegalState h (nextState h t rel)
+  unfolding checkReleases given nextState
+  next-legal w e =
       record {
         rows = λ k b. rw (next-at k b)
             (row-legal (h .processors) (rowAt h k) (begun (given h t rel) k) (runs (given h t rel) k) (w .rows k b)
             (begun-legal (h .processors) (rowAt h k) (recordAt t k) (getD rel k 0) k (w .rows k b) (l .rows k b) (first-at (h .count) (checkAt h t rel) e k b)));
-        past = λ k b m. rw (next-past k b) (l .past k b m);
+        past = λ k b m. rw (upto-past (h .count) (next (given h t rel)) (t .rows) noRecord k b) (l .past k b m);
       }
 
 -- fresh is legal
 pub fresh-legal : (h : Sheet) → Legal h → LegalState h (freshState h)
-unfolding freshState isZero
+unfolding freshState isZeroJob
 fresh-legal h w =
     record {
       rows = λ k b. rw (upto-below (h .count) (freshAt h) (replicate mostRows noRecord) noRecord k b (rw length-replicate (w .most-rows)))

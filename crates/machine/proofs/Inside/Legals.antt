@@ -1,4 +1,4 @@
--- Legal records and states as facts, and back.
+-- Legal jobs and states as facts, and back.
 -- Assumes nothing.
 use Rattle.basis.specs.Prelude.{ℕ, _≤_, _<_, _≡_, refl, sym, ap, Bool, true, false, length, List·getD-eq-default, ltb, leb, ⊎-elim, arith, lt-ltb, le-ltb, le-leb, leb-true, ltb-true}
 use Rattle.basis.specs.Limits.{mostRows}
@@ -7,46 +7,47 @@ use Rattle.basis.proofs.Inside.Words.{both-left, both-right, both-true, at-leas
 use Rattle.sheet.specs.Legal.{rowAt}
 use Rattle.sheet.specs.declared.row.Row.{Row}
 use Rattle.sheet.specs.declared.row.Sheet.{Sheet}
+use Rattle.records.specs.declared.record.Job.{Job}
 use Rattle.records.specs.declared.record.RowState.{RowState}
 use Rattle.machine.specs.States.{State, recordAt, legalAt, legalState}
-use Rattle.records.specs.Records.{noRecord, hasJob, legalRecord, isZero}
+use Rattle.records.specs.Records.{noRecord, hasJob, legalJob, isZero}
 
--- a record that is legal for its row
-pub record LegalRecord (row : Row) (s : RowState) : Type 0 where
-  pub some-since : 1 ≤ s .since
-  pub most-since : s .since ≤ row .separation
-  pub most-remaining : s .remaining ≤ row .budget
-  pub in-time : 1 ≤ s .remaining → s .since < row .deadline
+-- a job that is legal for its row
+pub record LegalJob (row : Row) (j : Job) : Type 0 where
+  pub some-since : 1 ≤ j .since
+  pub most-since : j .since ≤ row .separation
+  pub most-remaining : j .remaining ≤ row .budget
+  pub in-time : 1 ≤ j .remaining → j .since < row .deadline
 
 pick-true : (t a : Bool) → pick t a true ≡ true → t ≡ true → a ≡ true
 pick-true true a e f = e
 pick-true false a e f = true-not-false (sym f)
 
-pub legal-record-is : (row : Row) (s : RowState) → legalRecord row s ≡ true → LegalRecord row s
-unfolding legalRecord
-legal-record-is row s e =
-    let since = both-left (within 1 (row .separation) (s .since)) _ e in
-    let rest = both-right (within 1 (row .separation) (s .since)) _ e in
-    let late = both-right (leb (s .remaining) (row .budget)) _ rest in
+pub legal-job-is : (row : Row) (j : Job) → legalJob row j ≡ true → LegalJob row j
+unfolding legalJob
+legal-job-is row j e =
+    let since = both-left (within 1 (row .separation) (j .since)) _ e in
+    let rest = both-right (within 1 (row .separation) (j .since)) _ e in
+    let late = both-right (leb (j .remaining) (row .budget)) _ rest in
     record {
-      some-since = at-least 1 (row .separation) (s .since) since;
-      most-since = at-most 1 (row .separation) (s .since) since;
-      most-remaining = leb-true _ _ (both-left (leb (s .remaining) (row .budget)) _ rest);
-      in-time = λ j. ltb-true _ _ (pick-true (hasJob s) (ltb (s .since) (row .deadline)) late (lt-ltb 0 (s .remaining) j));
+      some-since = at-least 1 (row .separation) (j .since) since;
+      most-since = at-most 1 (row .separation) (j .since) since;
+      most-remaining = leb-true _ _ (both-left (leb (j .remaining) (row .budget)) _ rest);
+      in-time = λ l. ltb-true _ _ (pick-true (hasJob j) (ltb (j .since) (row .deadline)) late (lt-ltb 0 (j .remaining) l));
     }
 
-pub legal-record-says : (row : Row) (s : RowState) → LegalRecord row s → legalRecord row s ≡ true
-unfolding legalRecord
-legal-record-says row s r =
-    both-true _ _ (within-true 1 (row .separation) (s .since) (r .some-since) (r .most-since))
-    (both-true _ _ (le-leb _ _ (r .most-remaining)) (late (hasJob s) refl)) where
-      late : (t : Bool) → hasJob s ≡ t → pick t (ltb (s .since) (row .deadline)) true ≡ true
-      late true e = lt-ltb _ _ (r .in-time (ltb-true 0 (s .remaining) e))
+pub legal-job-says : (row : Row) (j : Job) → LegalJob row j → legalJob row j ≡ true
+unfolding legalJob
+legal-job-says row j r =
+    both-true _ _ (within-true 1 (row .separation) (j .since) (r .some-since) (r .most-since))
+    (both-true _ _ (le-leb _ _ (r .most-remaining)) (late (hasJob j) refl)) where
+      late : (t : Bool) → hasJob j ≡ t → pick t (ltb (j .since) (row .deadline)) true ≡ true
+      late true e = lt-ltb _ _ (r .in-time (ltb-true 0 (j .remaining) e))
       late false e = refl
 
 -- a state that is legal for a sheet: each row's record is, and those past them are zero
 pub record LegalState (h : Sheet) (t : State) : Type 0 where
-  pub rows : (k : ℕ) → k < h .count → LegalRecord (rowAt h k) (recordAt t k)
+  pub rows : (k : ℕ) → k < h .count → LegalJob (rowAt h k) (recordAt t k .job)
   pub past : (k : ℕ) → h .count ≤ k → k < mostRows → isZero (recordAt t k) ≡ true
 
 module _ (h : Sheet) (t : State) (fit : h .count ≤ mostRows) where
@@ -54,7 +55,7 @@ module _ (h : Sheet) (t : State) (fit : h .count ≤ mostRows) where
   unfolding legalState legalAt
   legal-state-is e =
       record {
-        rows = λ k l. legal-record-is (rowAt h k) (recordAt t k) (rw (lt-ltb k (h .count) l) at (all-at mostRows (legalAt h t) e k (omega arith)));
+        rows = λ k l. legal-job-is (rowAt h k) (recordAt t k .job) (rw (lt-ltb k (h .count) l) at (all-at mostRows (legalAt h t) e k (omega arith)));
         past = λ k l m. rw (le-ltb k (h .count) l) at (all-at mostRows (legalAt h t) e k m);
       }
 
@@ -62,7 +63,7 @@ module _ (h : Sheet) (t : State) (fit : h .count ≤ mostRows) where
   unfolding legalState legalAt
   legal-state-says r =
       all-true mostRows (legalAt h t)
-      (λ k m. ⊎-elim (λ l. rw (lt-ltb k (h .count) l) (legal-record-says (rowAt h k) (recordAt t k) (r .rows k l))) (λ l. rw (le-ltb k (h .count) l) (r .past k l m)) (lt-or-le k (h .count)))
+      (λ k m. ⊎-elim (λ l. rw (lt-ltb k (h .count) l) (legal-job-says (rowAt h k) (recordAt t k .job) (r .rows k l))) (λ l. rw (le-ltb k (h .count) l) (r .past k l m)) (lt-or-le k (h .count)))
 
 -- a legal state has a record for each row
 pub legal-state-long : (h : Sheet) (t : State) → LegalState h t → h .count ≤ length (t .rows)
@@ -71,4 +72,4 @@ legal-state-long h t r = ⊎-elim (λ l. absurd (never l)) (λ l. l) (lt-or-le (
     never : length (t .rows) < h .count → ⊥
     never l =
         let e = List·getD-eq-default (t .rows) noRecord {n = length (t .rows)} (omega arith) in
-        omega (arith, r .rows (length (t .rows)) l .some-since, ap (λ (s : RowState). s .since) e)
+        omega (arith, r .rows (length (t .rows)) l .some-since, ap (λ (s : RowState). s .job .since) e)

@@ -1,105 +1,89 @@
 -- What is told of a margin, from the answers of what `margin` calls.
 -- Assumes nothing.
-use Rattle.basis.specs.Prelude.{ℕ, _+_, _≤_, _<_, _≡_, refl, sym, ap, _∙_, true, List, length, arith, lt-ltb, le-ltb, ltb-true, w64}
+use Rattle.basis.specs.Prelude.{ℕ, _+_, _≤_, _<_, _≡_, refl, sym, ap, ap₂, _∙_, List, length, arith, lt-ltb, le-ltb, ltb-true, w64}
 use lib.IntN.{_-ℤ_}
 use mir.Val.{SFits, toZ, ofZ}
 use mir.ValLaws.{toZ-ofZ}
 use Rattle.basis.specs.Limits.{mostRows, mostSeparation}
-use Rattle.basis.specs.Refusals.{accepted, outcome}
+use Rattle.basis.specs.Refusals.{outcome}
 use Rattle.basis.specs.declared.refusal.Refusal.{Refusal}
 use Rattle.basis.specs.declared.refusal.Refusal.the-variants.{Accepted, Refused}
 use Rattle.basis.proofs.Inside.FirstRefusal.{both-accepted}
 use Rattle.basis.proofs.Refusals.{needed-holds}
-use Rattle.sheet.specs.Legal.{rowAt, legal, LegalRow}
+use Rattle.sheet.specs.Legal.{rowAt, LegalRow}
 use Rattle.sheet.specs.declared.row.Row.{Row}
-use Rattle.sheet.specs.declared.row.Sheet.{Sheet}
 use Rattle.sheet.proofs.Legality.{legal-is}
+use Rattle.records.specs.declared.record.Job.{Job}
 use Rattle.records.specs.declared.record.RowState.{RowState}
-use Rattle.machine.specs.States.{State, recordAt, legalState}
+use Rattle.machine.specs.States.{recordAt}
 use Rattle.machine.specs.Checks.{checkState, checkMargin}
 use Rattle.machine.specs.Answers.{MarginAnswer, no-job, margin-is, refused-by, marginOf, marginAt, margin}
 use Rattle.machine.specs.Lists.{recordIn, stateLong, stateIn}
 use Rattle.sheet.specs.Lists.{sheetIn, sheetLong}
 use Rattle.sheet.proofs.Ranges.{legal-sheet-long}
 use Rattle.machine.proofs.LegalLists.{kept-long, kept-record}
-use Rattle.machine.proofs.Inside.Checks.{ready}
+use Rattle.machine.proofs.Inside.Checks.{Ready, ready}
 use Rattle.machine.proofs.Inside.Differences.{themselves, difference-fits, less-twice}
-use Rattle.machine.proofs.Inside.Legals.{LegalRecord, legal-state-is}
+use Rattle.machine.proofs.Inside.Legals.{LegalJob, legal-state-is}
 
 -- `margin_of`
-pub margin-none : (row : Row) (s : RowState) → s .remaining ≤ 0 → no-job ≡ marginAt row s
+pub margin-none : (row : Row) (s : Job) → s .remaining ≤ 0 → no-job ≡ marginAt row s
 unfolding marginAt
 margin-none row s l = rw (le-ltb _ _ l)
 
-pub margin-fits : (row : Row) (s : RowState) → row .deadline ≤ mostSeparation → s .since ≤ mostSeparation → s .remaining ≤ mostSeparation
+pub margin-fits : (row : Row) (s : Job) → row .deadline ≤ mostSeparation → s .since ≤ mostSeparation → s .remaining ≤ mostSeparation
     → SFits w64 (toZ w64 (row .deadline) -ℤ toZ w64 (s .since + s .remaining))
 margin-fits row s a b c = difference-fits (row .deadline) (s .since + s .remaining) a (omega arith)
 
-pub margin-some : (row : Row) (s : RowState) → row .deadline ≤ mostSeparation → s .since ≤ mostSeparation → s .remaining ≤ mostSeparation → 0 < s .remaining
+pub margin-some : (row : Row) (s : Job) → row .deadline ≤ mostSeparation → s .since ≤ mostSeparation → s .remaining ≤ mostSeparation → 0 < s .remaining
     → margin-is (toZ w64 (ofZ w64 (toZ w64 (row .deadline) -ℤ toZ w64 (s .since + s .remaining)))) ≡ marginAt row s
 unfolding marginAt marginOf
 margin-some row s a b c l =
     rw (lt-ltb _ _ l)
     (ap margin-is (toZ-ofZ w64 _ (margin-fits row s a b c) ∙ themselves (row .deadline) (s .since + s .remaining) a (omega arith) ∙ sym (less-twice (row .deadline) (s .since) (s .remaining))))
 
--- `margin`
-module _ (h : Sheet) (t : State) (k : ℕ) (c : Refusal) (e : outcome c ≡ checkMargin h t k) where
-  pub margin-is-refused : (a b : ℕ) → c ≡ Refused a b → refused-by a b ≡ margin h t k
+-- `margin_on`
+module _ (s l : List ℕ) (k : ℕ) (c : Refusal) (e : outcome c ≡ checkMargin (sheetIn s) (stateIn l) k) where
+  pub margin-is-refused : (a b : ℕ) → c ≡ Refused a b → refused-by a b ≡ margin (sheetIn s) (stateIn l) k
   unfolding margin
   margin-is-refused a b f = rw (sym e ∙ ap outcome f)
 
   module _ (f : c ≡ Accepted) where
-    both-checked : (checkState h t ≡ accepted) × (k < h .count)
+    checked : Ready (sheetIn s) (stateIn l) × (k < sheetIn s .count)
     unfolding checkMargin
-    both-checked =
-        let (a, b) = both-accepted (checkState h t) _ (sym e ∙ ap outcome f) in
-        (a, ltb-true _ _ (needed-holds _ 14 b))
+    checked =
+        let (a, b) = both-accepted (checkState (sheetIn s) (stateIn l)) _ (sym e ∙ ap outcome f) in
+        (ready (sheetIn s) (stateIn l) a, ltb-true _ _ (needed-holds _ 14 b))
 
-    row-is : LegalRow (h .processors) (rowAt h k)
-    row-is = legal-is h (ready h t (both-checked .0) .sheet-legal) .rows k (both-checked .1)
-
-    record-is : LegalRecord (rowAt h k) (recordAt t k)
-    record-is = legal-state-is h t (ready h t (both-checked .0) .most-rows) (ready h t (both-checked .0) .state-legal) .rows k (both-checked .1)
+    row-is : LegalRow (sheetIn s .processors) (rowAt (sheetIn s) k)
+    row-is = legal-is (sheetIn s) (checked .0 .sheet-legal) .rows k (checked .1)
 
     pub row-in-array : k < mostRows
-    row-in-array = omega (arith, both-checked .1, ready h t (both-checked .0) .most-rows)
+    row-in-array = omega (arith, checked .1, checked .0 .most-rows)
 
-    pub small-deadline : (row : Row) → row ≡ rowAt h k → row .deadline ≤ mostSeparation
+    pub margin-row-there : sheetLong (k + 1) ≤ length s
+    margin-row-there = omega (arith, legal-sheet-long s (sheetIn s .count) (checked .0 .sheet-legal) refl, checked .1)
+
+    pub margin-record-there : stateLong (k + 1) ≤ length l
+    margin-record-there = omega (arith, kept-long (sheetIn s) l (checked .0 .sheet-legal) (checked .0 .state-legal) (sheetIn s .count) refl, checked .1)
+
+    pub small-deadline : (row : Row) → row ≡ rowAt (sheetIn s) k → row .deadline ≤ mostSeparation
     small-deadline row er = rw er (omega (arith, row-is .most-deadline, row-is .most-separation))
 
-    pub small-since : recordAt t k .since ≤ mostSeparation
-    small-since = omega (arith, row-is .most-separation, record-is .most-since)
+    -- the record of the row stands in the list
+    module _ (x : RowState) (ex : x ≡ recordIn l k) where
+      is-job : x .job ≡ recordAt (stateIn l) k .job
+      is-job = ap (λ (y : RowState). y .job) (ex ∙ kept-record (sheetIn s) l (checked .0 .sheet-legal) (checked .0 .state-legal) k (checked .1))
 
-    pub small-remaining : recordAt t k .remaining ≤ mostSeparation
-    small-remaining = omega (arith, row-is .most-budget, row-is .most-deadline, row-is .most-separation, record-is .most-remaining)
+      job-is : LegalJob (rowAt (sheetIn s) k) (x .job)
+      job-is = rw is-job (legal-state-is (sheetIn s) (stateIn l) (checked .0 .most-rows) (checked .0 .state-legal) .rows k (checked .1))
 
-    pub margin-is-told : (row : Row) → row ≡ rowAt h k → (a : MarginAnswer) → a ≡ marginAt row (recordAt t k) → a ≡ margin h t k
-    unfolding margin
-    margin-is-told row er a g = rw (sym e ∙ ap outcome f) (g ∙ ap (λ (r : Row). marginAt r (recordAt t k)) er)
+      pub listed-since : x .job .since ≤ mostSeparation
+      listed-since = omega (arith, row-is .most-separation, job-is .most-since)
 
--- `margin_on`: the record of the row stands in the list
-module _ (s l : List ℕ) (k : ℕ) (c : Refusal) (e : outcome c ≡ checkMargin (sheetIn s) (stateIn l) k) (f : c ≡ Accepted) where
-  sheet-fine : legal (sheetIn s) ≡ true
-  sheet-fine = ready (sheetIn s) (stateIn l) (both-checked (sheetIn s) (stateIn l) k c e f .0) .sheet-legal
+      pub listed-remaining : x .job .remaining ≤ mostSeparation
+      listed-remaining = omega (arith, row-is .most-budget, row-is .most-deadline, row-is .most-separation, job-is .most-remaining)
 
-  state-fine : legalState (sheetIn s) (stateIn l) ≡ true
-  state-fine = ready (sheetIn s) (stateIn l) (both-checked (sheetIn s) (stateIn l) k c e f .0) .state-legal
-
-  pub margin-row-there : sheetLong (k + 1) ≤ length s
-  margin-row-there = omega (arith, legal-sheet-long s (sheetIn s .count) sheet-fine refl, both-checked (sheetIn s) (stateIn l) k c e f .1)
-
-  pub margin-record-there : stateLong (k + 1) ≤ length l
-  margin-record-there = omega (arith, kept-long (sheetIn s) l sheet-fine state-fine (sheetIn s .count) refl, both-checked (sheetIn s) (stateIn l) k c e f .1)
-
-  module _ (x : RowState) (ex : x ≡ recordIn l k) where
-    is-record : x ≡ recordAt (stateIn l) k
-    is-record = ex ∙ kept-record (sheetIn s) l sheet-fine state-fine k (both-checked (sheetIn s) (stateIn l) k c e f .1)
-
-    pub listed-since : x .since ≤ mostSeparation
-    listed-since = rw is-record (small-since (sheetIn s) (stateIn l) k c e f)
-
-    pub listed-remaining : x .remaining ≤ mostSeparation
-    listed-remaining = rw is-record (small-remaining (sheetIn s) (stateIn l) k c e f)
-
-    pub listed-margin : (row : Row) → row ≡ rowAt (sheetIn s) k → (a : MarginAnswer) → a ≡ marginAt row x → a ≡ margin (sheetIn s) (stateIn l) k
-    listed-margin row er a g = margin-is-told (sheetIn s) (stateIn l) k c e f row er a (g ∙ ap (marginAt row) is-record)
+      pub listed-margin : (row : Row) → row ≡ rowAt (sheetIn s) k → (a : MarginAnswer) → a ≡ marginAt row (x .job) → a ≡ margin (sheetIn s) (stateIn l) k
+      unfolding margin
+      listed-margin row er a g = rw (sym e ∙ ap outcome f) (g ∙ ap₂ marginAt er is-job)

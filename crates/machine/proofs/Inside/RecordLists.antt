@@ -1,6 +1,6 @@
 -- Records of a state's list, as they are read and written in place.
 -- Assumes nothing.
-use Rattle.basis.specs.Prelude.{ℕ, zero, suc, _+_, _*_, _≤_, _<_, _≡_, refl, sym, ap, ap₂, _∙_, true, false, List, ⊎-elim, length, set, length-set, getD-set-same, getD-set-other, ext-getD, arith, le-refl, eq-or-lt-of-le, add-one, lt-ltb, le-ltb, eq-eqb}
+use Rattle.basis.specs.Prelude.{ℕ, zero, suc, _+_, _*_, _≤_, _<_, _≡_, refl, sym, ap, ap₂, _∙_, true, false, List, ⊎-elim, length, getD, set, length-set, getD-set-same, getD-set-other, ext-getD, arith, le-refl, eq-or-lt-of-le, add-one, lt-ltb, le-ltb, eq-eqb}
 use Rattle.basis.specs.Limits.{mostRows}
 use Rattle.basis.specs.Upto.{upto}
 use Rattle.basis.proofs.Inside.Words.{lt-or-le, all-same, all-true}
@@ -9,12 +9,12 @@ use Rattle.basis.proofs.Inside.Lists.{getD-all}
 use Rattle.sheet.specs.Lists.{numberAt}
 use Rattle.sheet.proofs.Inside.FilledLists.{filled-read}
 use Rattle.records.specs.declared.record.RowState.{RowState}
-use Rattle.records.specs.Records.{noRecord}
+use Rattle.records.specs.Records.{recordOf, noRecord}
 use Rattle.machine.specs.States.{noState, stateOf, recordAt}
 use Rattle.machine.specs.Lists.{recordWide, recordIn, stateLong, zeroAt, zeroFrom, spareIsZero, stateIn, putRecord, putTo, cleared}
 
 -- `record_in`
-pub record-read : (l : List ℕ) (k : ℕ) → _≡_ {A = RowState} (record { remaining = numberAt l (k * recordWide); since = numberAt l (k * recordWide + 1) }) (recordIn l k)
+pub record-read : (l : List ℕ) (k : ℕ) → recordOf (record { remaining = numberAt l (k * recordWide); since = numberAt l (k * recordWide + 1) }) ≡ recordIn l k
 unfolding recordIn
 record-read l k = refl
 
@@ -22,7 +22,7 @@ record-read l k = refl
 pub inside-next : (l : List ℕ) (k v : ℕ) → stateLong (k + 1) ≤ length l → k * recordWide + 1 < length (set l (k * recordWide) v)
 inside-next l k v r = simp length-set (omega arith)
 
-pub record-put : (l : List ℕ) (k : ℕ) (s : RowState) → set (set l (k * recordWide) (s .remaining)) (k * recordWide + 1) (s .since) ≡ putRecord l k s
+pub record-put : (l : List ℕ) (k : ℕ) (s : RowState) → set (set l (k * recordWide) (s .job .remaining)) (k * recordWide + 1) (s .job .since) ≡ putRecord l k s
 unfolding putRecord
 record-put l k s = refl
 
@@ -36,23 +36,22 @@ module _ (l : List ℕ) (k : ℕ) (s : RowState) where
   put-other : (i : ℕ) → (i ≡ k * recordWide → ⊥) → (i ≡ k * recordWide + 1 → ⊥) → numberAt (putRecord l k s) i ≡ numberAt l i
   unfolding putRecord
   put-other i a b =
-      getD-set-other (set l (k * recordWide) (s .remaining)) (k * recordWide + 1) i (s .since) 0 b ∙ getD-set-other l (k * recordWide) i (s .remaining) 0 a
+      getD-set-other (set l (k * recordWide) (s .job .remaining)) (k * recordWide + 1) i (s .job .since) 0 b ∙ getD-set-other l (k * recordWide) i (s .job .remaining) 0 a
 
   put-here : stateLong (k + 1) ≤ length l → recordIn (putRecord l k s) k ≡ s
   unfolding putRecord recordIn
   put-here r =
-      let a : numberAt (set (set l (k * recordWide) (s .remaining)) (k * recordWide + 1) (s .since)) (k * recordWide) ≡ s .remaining =
-      getD-set-other (set l (k * recordWide) (s .remaining)) (k * recordWide + 1) (k * recordWide) (s .since) 0 (λ e. omega arith) ∙ getD-set-same l (k * recordWide) (s .remaining) 0 (omega arith) in
-      let b : numberAt (set (set l (k * recordWide) (s .remaining)) (k * recordWide + 1) (s .since)) (k * recordWide + 1) ≡ s .since =
-      getD-set-same (set l (k * recordWide) (s .remaining)) (k * recordWide + 1) (s .since) 0 (simp length-set (omega arith)) in
-      λ i. record { remaining = a i; since = b i }
+      let first = set l (k * recordWide) (s .job .remaining) in
+      let a = getD-set-other first (k * recordWide + 1) (k * recordWide) (s .job .since) 0 (λ e. omega arith) ∙ getD-set-same l (k * recordWide) (s .job .remaining) 0 (omega arith) in
+      let b = getD-set-same first (k * recordWide + 1) (s .job .since) 0 (simp length-set (omega arith)) in
+      λ i. recordOf (record { remaining = a i; since = b i })
 
   put-elsewhere : (j : ℕ) → (j ≡ k → ⊥) → recordIn (putRecord l k s) j ≡ recordIn l j
   unfolding recordIn
   put-elsewhere j d =
       let a = put-other (j * recordWide) (λ e. d (omega arith)) (λ e. omega arith) in
       let b = put-other (j * recordWide + 1) (λ e. omega arith) (λ e. d (omega arith)) in
-      λ i. record { remaining = a i; since = b i }
+      λ i. recordOf (record { remaining = a i; since = b i })
 
 -- the first n records that are written, read
 module _ (f : ℕ → RowState) (l : List ℕ) where
@@ -75,7 +74,7 @@ module _ (f : ℕ → RowState) (l : List ℕ) where
   put-record-past n k h =
       let a = put-past n (k * recordWide) (omega arith) in
       let b = put-past n (k * recordWide + 1) (omega arith) in
-      λ i. record { remaining = a i; since = b i }
+      λ i. recordOf (record { remaining = a i; since = b i })
 
   pub put-record-below : (n k : ℕ) → k < n → stateLong n ≤ length l → recordIn (putTo n f l) k ≡ f k
   unfolding putTo
@@ -109,6 +108,12 @@ pub state-rows-long : (l : List ℕ) → spareIsZero l ≡ true → length (stat
 unfolding stateIn
 state-rows-long l e = rw e (length-upto mostRows (recordIn l) (noState .rows))
 
+-- a list of all records, made another
+pub records-all : (f : ℕ → RowState) (l m : List RowState) → length l ≡ mostRows → length m ≡ mostRows → ((k : ℕ) → k < mostRows → f k ≡ getD m k noRecord) → upto mostRows f l ≡ m
+records-all f l m a b e =
+    ext-getD noRecord (upto mostRows f l) m (length-upto mostRows f l ∙ a ∙ sym b)
+    (λ k h. let there : k < mostRows = omega (arith, length-upto mostRows f l) in upto-below mostRows f l noRecord k there (omega arith) ∙ e k there)
+
 -- the state of a list whose first n records are written
 module _ (n : ℕ) (f : ℕ → RowState) (l : List ℕ) (spare : spareIsZero l ≡ true) (few : n ≤ mostRows) (room : stateLong n ≤ length l) where
   spare-put : spareIsZero (putTo n f l) ≡ true
@@ -124,11 +129,9 @@ module _ (n : ℕ) (f : ℕ → RowState) (l : List ℕ) (spare : spareIsZero l 
   state-put =
       rw (spare-put, spare)
       (ap stateOf
-      (ext-getD noRecord (upto mostRows (recordIn (putTo n f l)) (noState .rows)) (upto n f (upto mostRows (recordIn l) (noState .rows)))
-      (length-upto mostRows (recordIn (putTo n f l)) (noState .rows) ∙ sym (length-upto n f (upto mostRows (recordIn l) (noState .rows)) ∙ length-upto mostRows (recordIn l) (noState .rows)))
-      (λ i b. let there : i < mostRows = rw (length-upto mostRows (recordIn (putTo n f l)) (noState .rows)) at b in
-      upto-below mostRows (recordIn (putTo n f l)) (noState .rows) noRecord i there (le-refl mostRows)
-      ∙ ⊎-elim
+      (records-all (recordIn (putTo n f l)) (noState .rows) (upto n f (upto mostRows (recordIn l) (noState .rows))) refl
+      (length-upto n f (upto mostRows (recordIn l) (noState .rows)) ∙ length-upto mostRows (recordIn l) (noState .rows))
+      (λ i there. ⊎-elim
       (λ a. put-record-below f l n i a room ∙ sym (upto-below n f (upto mostRows (recordIn l) (noState .rows)) noRecord i a (rw (length-upto mostRows (recordIn l) (noState .rows)) few)))
       (λ a. put-record-past f l n i a ∙ sym (upto-past n f (upto mostRows (recordIn l) (noState .rows)) noRecord i a ∙ upto-below mostRows (recordIn l) (noState .rows) noRecord i there (le-refl mostRows)))
       (lt-or-le i n))))
@@ -153,8 +156,8 @@ put-own l l₀ (suc n) i b r = ⊎-elim (λ a. below a (put-own l l₀ n i a (om
 
     here : stateLong n ≤ i → numberAt (putTo (suc n) (recordIn l) l₀) i ≡ numberAt l i
     here a = ⊎-elim
-        (λ m. let e : i ≡ n * recordWide = omega arith in rw e (ap (λ (s : RowState). s .remaining) same))
-        (λ m. let e : i ≡ n * recordWide + 1 = omega arith in rw e (ap (λ (s : RowState). s .since) same))
+        (λ m. let e : i ≡ n * recordWide = omega arith in rw e (ap (λ (s : RowState). s .job .remaining) same))
+        (λ m. let e : i ≡ n * recordWide + 1 = omega arith in rw e (ap (λ (s : RowState). s .job .since) same))
         (lt-or-le i (n * recordWide + 1))
 
 -- a list of zeros hands over the state of zeros
@@ -167,16 +170,11 @@ module _ (l : List ℕ) (none : (i : ℕ) → numberAt l i ≡ 0) where
 
   zeros-record : (k : ℕ) → recordIn l k ≡ noRecord
   unfolding recordIn
-  zeros-record k = λ i. record { remaining = none (k * recordWide) i; since = none (k * recordWide + 1) i }
+  zeros-record k = λ i. recordOf (record { remaining = none (k * recordWide) i; since = none (k * recordWide + 1) i })
 
   pub zeros-state : stateIn l ≡ noState
   unfolding stateIn
-  zeros-state =
-      rw zeros-spare
-      (ap stateOf
-      (ext-getD noRecord (upto mostRows (recordIn l) (noState .rows)) (noState .rows) (length-upto mostRows (recordIn l) (noState .rows))
-      (λ k b. let there : k < mostRows = rw (length-upto mostRows (recordIn l) (noState .rows)) at b in
-      upto-below mostRows (recordIn l) (noState .rows) noRecord k there (le-refl mostRows) ∙ zeros-record k ∙ sym (getD-all mostRows k noRecord))))
+  zeros-state = rw zeros-spare (ap stateOf (records-all (recordIn l) (noState .rows) (noState .rows) refl refl (λ k there. zeros-record k ∙ sym (getD-all mostRows k noRecord))))
 
 pub cleared-none : (l : List ℕ) (i : ℕ) → numberAt (cleared l) i ≡ 0
 cleared-none l i = filled-read (λ i. 0) l i (λ b. refl)

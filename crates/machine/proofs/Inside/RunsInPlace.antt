@@ -10,18 +10,14 @@ use Rattle.sheet.specs.declared.row.Sheet.{Sheet}
 use Rattle.machine.specs.States.{State, legalState}
 use Rattle.machine.specs.declared.places.Done.{Done}
 use Rattle.machine.specs.Checks.{checkRun}
-use Rattle.machine.specs.Answers.{RunAnswer, runAnswer, slot, slotAt, onward, course}
+use Rattle.machine.specs.Answers.{SlotAnswer, RunAnswer, runAnswer, slotAt, onward, course}
 use Rattle.machine.specs.Lists.{stateIn, putState, runListed, runIn, ranIn}
 use Rattle.machine.proofs.Inside.Answers.{run-sheet, run-state, run-is-refused, run-is-done}
 use Rattle.machine.proofs.Inside.Courses.{followed}
 use Rattle.machine.proofs.LegalLists.{list-of-kept}
+use Rattle.machine.proofs.SlotsDone.{refused-leaves}
 
--- a refused slot leaves the state as it was
-slot-kept : (h : Sheet) (t : State) (rel cs : List ℕ) (j a b : ℕ) → slotAt h t rel cs j .outcome ≡ refused a b → slotAt h t rel cs j .state ≡ t
-unfolding slotAt slot
-slot-kept h t rel cs j a b e = rw e
-
--- so a run that has done no slot has changed nothing
+-- a refused slot leaves the state as it was, so a run that has done no slot has changed nothing
 pub course-none : (h : Sheet) (rel : List ℕ) (first : RunAnswer State) (j : ℕ) → course h rel first j .done ≡ 0 → course h rel first j .state ≡ first .state
 unfolding course onward
 course-none h rel first zero e = refl
@@ -32,7 +28,7 @@ course-none h rel first (suc j) e = go (course h rel first j) (course-none h rel
       where
         at : (o : Outcome) → slotAt h (c .state) rel (c .codes) j .outcome ≡ o → pick (isAccepted o) (c .done + 1) (c .done) ≡ 0 → slotAt h (c .state) rel (c .codes) j .state ≡ first .state
         at accepted g z = absurd (omega arith)
-        at (refused a b) g z = slot-kept h (c .state) rel (c .codes) j a b g ∙ so z
+        at (refused a b) g z = ap (λ (x : SlotAnswer State). x .state) (refused-leaves h (c .state) rel (c .codes) j a b g) ∙ so z
 
         by : (b : Bool) → pick b (followed (c .done) (slotAt h (c .state) rel (c .codes) j)) c .done ≡ 0 → pick b (followed (c .done) (slotAt h (c .state) rel (c .codes) j)) c .state ≡ first .state
         by true = at (slotAt h (c .state) rel (c .codes) j .outcome) refl

@@ -3,7 +3,7 @@
 use Rattle.basis.specs.Prelude.{ℕ, _≤_, _≡_, refl, sym, _∙_, Bool, true, false, eqb, arith, lt-ltb, ne-eqb, ltb-true, eqb-true}
 use Rattle.basis.specs.Words.{pick}
 use Rattle.sheet.specs.declared.row.Row.{Row}
-use Rattle.records.specs.declared.record.RowState.{RowState}
+use Rattle.records.specs.declared.record.Job.{Job}
 use Rattle.records.specs.Records.{hasJob}
 use Rattle.records.specs.Steps.{codeOf}
 
@@ -16,7 +16,7 @@ by-tests true w d true = refl
 by-tests true w d false = refl
 by-tests false w d r = refl
 
-module _ (row : Row) (ran : Bool) (before after : RowState) where
+module _ (row : Row) (ran : Bool) (before after : Job) where
   -- a code by those tests
   pub code-is : codeOf row ran before after ≡ byTests (hasJob before) (hasJob after) (eqb (after .since) (row .deadline)) ran
   unfolding codeOf

@@ -1,10 +1,11 @@
--- What each step of a slot does to a row's record, as facts.
+-- What each step of a slot does to a row's job, as facts.
 -- Assumes nothing.
-use Rattle.basis.specs.Prelude.{ℕ, _+_, _-_, _≤_, _<_, _≡_, refl, sym, ap, _∙_, Bool, true, false, ltb, eqb, _⊎_, inl, inr, ⊎-elim, arith, lt-ltb, le-ltb, eq-eqb, ne-eqb, ltb-false, eqb-true, eqb-false}
+use Rattle.basis.specs.Prelude.{ℕ, _+_, _-_, _≤_, _<_, _≡_, refl, sym, _∙_, Bool, true, false, ltb, eqb, _⊎_, inl, inr, ⊎-elim, arith, lt-ltb, le-ltb, eq-eqb, ne-eqb, ltb-false, eqb-true, eqb-false}
 use Rattle.basis.specs.Words.{pick, both}
 use Rattle.basis.specs.Refusals.{accepted, refused}
 use Rattle.basis.proofs.Inside.Words.{lt-or-le}
 use Rattle.sheet.specs.declared.row.Row.{Row}
+use Rattle.records.specs.declared.record.Job.{Job}
 use Rattle.records.specs.declared.record.RowState.{RowState}
 use Rattle.records.specs.declared.steps.Aged.{Aged}
 use Rattle.records.specs.Records.{hasJob}
@@ -12,7 +13,7 @@ use Rattle.records.specs.Steps.{released, worked, older, aged, missed, e
 use Rattle.records.specs.Checks.{checkRow}
 use Rattle.records.specs.Methods.{agedRow}
 
-pub same-or-not : (a b : ℕ) → (a ≡ b) ⊎ (a ≡ b → ⊥)
+same-or-not : (a b : ℕ) → (a ≡ b) ⊎ (a ≡ b → ⊥)
 same-or-not a b = go (eqb a b) refl
   where
     go : (t : Bool) → eqb a b ≡ t → (a ≡ b) ⊎ (a ≡ b → ⊥)
@@ -20,23 +21,31 @@ same-or-not a b = go (eqb a b) refl
     go false e = inr (eqb-false a b e)
 
 -- 1. releases
-pub released-none : (s : RowState) → released 0 s ≡ s
+pub released-none : (s : Job) → released 0 s ≡ s
 unfolding released
 released-none s = refl
 
-pub released-some : (r : ℕ) (s : RowState) → 1 ≤ r → released r s ≡ record { remaining = r; since = 0 }
+pub released-some : (r : ℕ) (s : Job) → 1 ≤ r → released r s ≡ record { remaining = r; since = 0 }
 unfolding released
 released-some r s l = rw (ne-eqb r 0 (λ e. omega arith))
 
--- 3. running
-pub worked-most : (ran : Bool) (s : RowState) → worked ran s .remaining ≤ s .remaining
+-- 3. running: a slot takes one at most
+pub worked-near : (ran : Bool) (s : Job) → (worked ran s .remaining ≤ s .remaining) × (s .remaining ≤ worked ran s .remaining + 1)
 unfolding worked
-worked-most true s = omega arith
-worked-most false s = omega arith
+worked-near true s = (omega arith, omega arith)
+worked-near false s = (omega arith, omega arith)
 
-pub worked-since : (ran : Bool) (s : RowState) → worked ran s .since ≡ s .since
+pub worked-since : (ran : Bool) (s : Job) → worked ran s .since ≡ s .since
 unfolding worked
 worked-since ran s = refl
+
+pub worked-one : (ran : Bool) (s : Job) → ran ≡ true → worked ran s .remaining ≡ s .remaining - 1
+unfolding worked
+worked-one ran s e = rw e
+
+pub worked-none : (ran : Bool) (s : Job) → ran ≡ false → worked ran s .remaining ≡ s .remaining
+unfolding worked
+worked-none ran s e = rw e
 
 -- 4. ageing
 pub older-below : (T since : ℕ) → since < T → older T since ≡ since + 1
@@ -47,14 +56,12 @@ pub older-full : (T since : ℕ) → T ≤ since → older T since ≡ T
 unfolding older
 older-full T since l = rw (le-ltb since T l)
 
-pub older-some : (T since : ℕ) → 1 ≤ T → 1 ≤ older T since
-older-some T since p = ⊎-elim (λ l. omega (arith, older-below T since l)) (λ l. omega (arith, older-full T since l)) (lt-or-le since T)
-
-pub older-most : (T since : ℕ) → older T since ≤ T
-older-most T since = ⊎-elim (λ l. omega (arith, older-below T since l)) (λ l. omega (arith, older-full T since l)) (lt-or-le since T)
+pub older-within : (T since : ℕ) → 1 ≤ T → (1 ≤ older T since) × (older T since ≤ T)
+older-within T since p =
+    ⊎-elim (λ l. let e = older-below T since l in (omega arith, omega arith)) (λ l. let e = older-full T since l in (omega arith, omega arith)) (lt-or-le since T)
 
 -- 5. the end: at the deadline nothing is left, and elsewhere what was left is
-module _ (row : Row) (s : RowState) where
+module _ (row : Row) (s : Job) where
   pub ended-at : s .since ≡ row .deadline → ended row s .remaining ≡ 0
   unfolding ended missed
   ended-at e = rw (eq-eqb (s .since) (row .deadline) e) (go (hasJob s) refl)
@@ -71,48 +78,31 @@ module _ (row : Row) (s : RowState) where
       go true = refl
       go false = refl
 
+  pub ended-less : ended row s .remaining ≤ s .remaining
+  ended-less = ⊎-elim (λ e. omega (arith, ended-at e)) (λ d. omega (arith, ended-else d)) (same-or-not (s .since) (row .deadline))
+
   pub ended-since : ended row s .since ≡ s .since
   unfolding ended
   ended-since = refl
 
 -- what an accepted release is
-pub release-allowed : (row : Row) (s : RowState) (r k : ℕ) → 1 ≤ r → checkRow row s r k ≡ accepted → (r ≤ row .budget) × (row .separation ≤ s .since)
+pub release-allowed : (row : Row) (s : RowState) (r k : ℕ) → 1 ≤ r → checkRow row s r k ≡ accepted → (r ≤ row .budget) × (row .separation ≤ s .job .since)
 unfolding checkRow
 release-allowed row s r k l e =
-    go (ltb (row .budget) r) refl (ltb (s .since) (row .separation)) refl (rw (ne-eqb r 0 (λ z. omega arith)) at e)
+    go (ltb (row .budget) r) refl (ltb (s .job .since) (row .separation)) refl (rw (ne-eqb r 0 (λ z. omega arith)) at e)
   where
-    go : (a : Bool) → ltb (row .budget) r ≡ a → (b : Bool) → ltb (s .since) (row .separation) ≡ b
-        → pick a (refused 12 k) (pick b (refused 13 k) accepted) ≡ accepted → (r ≤ row .budget) × (row .separation ≤ s .since)
+    go : (a : Bool) → ltb (row .budget) r ≡ a → (b : Bool) → ltb (s .job .since) (row .separation) ≡ b
+        → pick a (refused 12 k) (pick b (refused 13 k) accepted) ≡ accepted → (r ≤ row .budget) × (row .separation ≤ s .job .since)
     go true ea b eb f = let z : _≡_ {A = ℕ} 0 1 = cc in absurd (omega arith)
     go false ea true eb f = let z : _≡_ {A = ℕ} 0 1 = cc in absurd (omega arith)
     go false ea false eb f = (ltb-false _ _ ea, ltb-false _ _ eb)
 
--- a slot takes one at most
-pub worked-least : (ran : Bool) (s : RowState) → s .remaining ≤ worked ran s .remaining + 1
-unfolding worked
-worked-least true s = omega arith
-worked-least false s = omega arith
-
-pub worked-one : (ran : Bool) (s : RowState) → ran ≡ true → worked ran s .remaining ≡ s .remaining - 1
-unfolding worked
-worked-one ran s e = rw e
-
-pub worked-none : (ran : Bool) (s : RowState) → ran ≡ false → worked ran s .remaining ≡ s .remaining
-unfolding worked
-worked-none ran s e = rw e
-
 -- `age_row`: at the deadline, and elsewhere
-module _ (row : Row) (s : RowState) (code since c : ℕ) (es : since ≡ older (row .separation) (s .since)) (ec : c ≡ codeAtEnd (s .remaining) since (row .deadline) code) where
+module _ (row : Row) (s : Job) (code since c : ℕ) (es : since ≡ older (row .separation) (s .since)) (ec : c ≡ codeAtEnd (s .remaining) since (row .deadline) code) where
   pub age-at : since ≡ row .deadline → _≡_ {A = Aged} (record { after = record { remaining = 0; since = since }; code = c }) (agedRow row s code)
   unfolding agedRow aged ended
-  age-at e =
-      let none : 0 ≡ ended row (aged row s) .remaining = sym (ended-at row (aged row s) (sym es ∙ e)) in
-      let code-so = ec ∙ ap (λ (x : ℕ). codeAtEnd (s .remaining) x (row .deadline) code) es in
-      λ i. record { after = record { remaining = none i; since = es i }; code = code-so i }
+  age-at e = rw (ec, es, ended-at row (aged row s) (sym es ∙ e))
 
   pub age-else : (since ≡ row .deadline → ⊥) → _≡_ {A = Aged} (record { after = record { remaining = s .remaining; since = since }; code = c }) (agedRow row s code)
   unfolding agedRow aged ended
-  age-else d =
-      let all : s .remaining ≡ ended row (aged row s) .remaining = sym (ended-else row (aged row s) (λ e. d (es ∙ e))) in
-      let code-so = ec ∙ ap (λ (x : ℕ). codeAtEnd (s .remaining) x (row .deadline) code) es in
-      λ i. record { after = record { remaining = all i; since = es i }; code = code-so i }
+  age-else d = rw (ec, es, ended-else row (aged row s) (λ e. d (es ∙ e)))

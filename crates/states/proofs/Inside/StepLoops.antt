@@ -1,75 +1,60 @@
 -- What each loop's turn and end shows, in the words of its invariant and of what it calls.
 -- Assumes nothing.
-use Rattle.basis.specs.Prelude.{ℕ, _+_, _≤_, _≡_, ap, _∙_, List, getD, set, arith, add-one}
+use Rattle.basis.specs.Prelude.{ℕ, _+_, _≤_, _≡_, ap, _∙_, List, getD, set, add-one}
 use Rattle.basis.specs.Upto.{upto}
-use Rattle.basis.proofs.Inside.Upto.{upto-read, upto-set}
+use Rattle.basis.proofs.Inside.Upto.{upto-read, upto-set, upto-whole}
 use Rattle.sheet.specs.Legal.{rowAt}
 use Rattle.sheet.specs.declared.row.Sheet.{Sheet}
+use Rattle.records.specs.declared.record.Job.{Job}
 use Rattle.records.specs.declared.record.RowState.{RowState}
 use Rattle.records.specs.declared.steps.Placed.{Placed}
 use Rattle.records.specs.declared.steps.Aged.{Aged}
-use Rattle.records.specs.Records.{noRecord}
+use Rattle.records.specs.Records.{recordOf, noRecord}
 use Rattle.records.specs.Steps.{released}
 use Rattle.records.specs.Methods.{placedRow, agedRow}
-use Rattle.machine.specs.States.{stateOf, recordAt}
+use Rattle.machine.specs.States.{stateOf}
 use Rattle.machine.specs.Slot.{freeAt}
 use Rattle.states.specs.declared.state.State.{State as Value}
 use Rattle.states.specs.Values.{held}
-use Rattle.states.specs.Inside.Methods.{releasedAt, releasedState, placedAt, placedRecord, placedCode, placedState, placedCodes, agedAt, agedRecord, agedCode, agedState, agedCodes}
+use Rattle.states.specs.Inside.Methods.{jobAt, releasedAt, placedAt, placedRecord, placedCode, agedAt, agedRecord, agedCode}
 
 -- `released`
 module _ (rel : List ℕ) (t₀ t : Value) (i : ℕ) (so-far : t .rows ≡ upto i (releasedAt (held t₀) rel) (t₀ .rows)) where
-  pub released-more : (q : RowState) → q ≡ released (getD rel i 0) (recordAt (held t) i) → set (t .rows) i q ≡ upto (i + 1) (releasedAt (held t₀) rel) (t₀ .rows)
+  pub released-more : (q : Job) → q ≡ released (getD rel i 0) (jobAt (held t) i) → set (t .rows) i (recordOf q) ≡ upto (i + 1) (releasedAt (held t₀) rel) (t₀ .rows)
   released-more q e =
-      upto-set i (releasedAt (held t₀) rel) (t .rows) (t₀ .rows) q so-far
-      (e ∙ ap (released (getD rel i 0)) (upto-read i (releasedAt (held t₀) rel) (t .rows) (t₀ .rows) noRecord so-far))
-
-  pub released-done : (h : Sheet) → i ≤ h .count → h .count ≤ i → held t ≡ releasedState h (held t₀) rel
-  unfolding releasedState
-  released-done h a b = let e : i ≡ h .count = omega arith in ap stateOf (rw e at so-far)
+      upto-set i (releasedAt (held t₀) rel) (t .rows) (t₀ .rows) (recordOf q) so-far
+      (ap recordOf e ∙ ap (λ (s : RowState). recordOf (released (getD rel i 0) (s .job))) (upto-read i (releasedAt (held t₀) rel) (t .rows) (t₀ .rows) noRecord so-far))
 
 -- `placed`
-module _ (h : Sheet) (t₀ t : Value) (free i : ℕ) (ef : free ≡ freeAt (h .processors) (rowAt h) (recordAt (held t₀)) i)
-    (so-far : t .rows ≡ upto i (placedRecord h (held t₀)) (t₀ .rows)) (r : Placed) (er : r ≡ placedRow (rowAt h i) (recordAt (held t) i) free) where
+module _ (h : Sheet) (t₀ t : Value) (free i : ℕ) (ef : free ≡ freeAt (h .processors) (rowAt h) (jobAt (held t₀)) i)
+    (so-far : t .rows ≡ upto i (placedRecord h (held t₀)) (t₀ .rows)) (r : Placed) (er : r ≡ placedRow (rowAt h i) (jobAt (held t) i) free) where
   is-placed : r ≡ placedAt h (held t₀) i
   is-placed = let e = upto-read i (placedRecord h (held t₀)) (t .rows) (t₀ .rows) noRecord so-far in cc
 
-  pub placed-free : r .free ≡ freeAt (h .processors) (rowAt h) (recordAt (held t₀)) (i + 1)
+  pub placed-free : r .free ≡ freeAt (h .processors) (rowAt h) (jobAt (held t₀)) (i + 1)
   unfolding freeAt placedRow
   placed-free = rw add-one (ap (λ (x : Placed). x .free) is-placed)
 
-  pub placed-rows : set (t .rows) i (r .after) ≡ upto (i + 1) (placedRecord h (held t₀)) (t₀ .rows)
-  placed-rows = upto-set i (placedRecord h (held t₀)) (t .rows) (t₀ .rows) (r .after) so-far (ap (λ (x : Placed). x .after) is-placed)
+  pub placed-rows : set (t .rows) i (recordOf (r .after)) ≡ upto (i + 1) (placedRecord h (held t₀)) (t₀ .rows)
+  placed-rows = upto-set i (placedRecord h (held t₀)) (t .rows) (t₀ .rows) (recordOf (r .after)) so-far (ap (λ (x : Placed). recordOf (x .after)) is-placed)
 
   pub placed-codes : (cs cs₀ : List ℕ) → cs ≡ upto i (placedCode h (held t₀)) cs₀ → set cs i (r .code) ≡ upto (i + 1) (placedCode h (held t₀)) cs₀
   placed-codes cs cs₀ e = upto-set i (placedCode h (held t₀)) cs cs₀ (r .code) e (ap (λ (x : Placed). x .code) is-placed)
 
-pub placed-done : (h : Sheet) (t₀ t : Value) (i : ℕ) → t .rows ≡ upto i (placedRecord h (held t₀)) (t₀ .rows) → i ≤ h .count → h .count ≤ i → held t ≡ placedState h (held t₀)
-unfolding placedState
-placed-done h t₀ t i so-far a b = let e : i ≡ h .count = omega arith in ap stateOf (rw e at so-far)
-
-pub placed-codes-done : (h : Sheet) (t₀ : Value) (i : ℕ) (cs cs₀ : List ℕ) → cs ≡ upto i (placedCode h (held t₀)) cs₀ → i ≤ h .count → h .count ≤ i → cs ≡ placedCodes h (held t₀) cs₀
-unfolding placedCodes
-placed-codes-done h t₀ i cs cs₀ so-far a b = let e : i ≡ h .count = omega arith in rw e at so-far
-
 -- `aged`
 module _ (h : Sheet) (t₀ t : Value) (cs₀ cs : List ℕ) (i : ℕ) (so-far : t .rows ≡ upto i (agedRecord h (held t₀) cs₀) (t₀ .rows))
-    (codes-so-far : cs ≡ upto i (agedCode h (held t₀) cs₀) cs₀) (r : Aged) (er : r ≡ agedRow (rowAt h i) (recordAt (held t) i) (getD cs i 0)) where
+    (codes-so-far : cs ≡ upto i (agedCode h (held t₀) cs₀) cs₀) (r : Aged) (er : r ≡ agedRow (rowAt h i) (jobAt (held t) i) (getD cs i 0)) where
   is-aged : r ≡ agedAt h (held t₀) cs₀ i
   is-aged =
       let e = upto-read i (agedRecord h (held t₀) cs₀) (t .rows) (t₀ .rows) noRecord so-far in
       let f = upto-read i (agedCode h (held t₀) cs₀) cs cs₀ 0 codes-so-far in cc
 
-  pub aged-rows : set (t .rows) i (r .after) ≡ upto (i + 1) (agedRecord h (held t₀) cs₀) (t₀ .rows)
-  aged-rows = upto-set i (agedRecord h (held t₀) cs₀) (t .rows) (t₀ .rows) (r .after) so-far (ap (λ (x : Aged). x .after) is-aged)
+  pub aged-rows : set (t .rows) i (recordOf (r .after)) ≡ upto (i + 1) (agedRecord h (held t₀) cs₀) (t₀ .rows)
+  aged-rows = upto-set i (agedRecord h (held t₀) cs₀) (t .rows) (t₀ .rows) (recordOf (r .after)) so-far (ap (λ (x : Aged). recordOf (x .after)) is-aged)
 
   pub aged-codes : set cs i (r .code) ≡ upto (i + 1) (agedCode h (held t₀) cs₀) cs₀
   aged-codes = upto-set i (agedCode h (held t₀) cs₀) cs cs₀ (r .code) codes-so-far (ap (λ (x : Aged). x .code) is-aged)
 
-pub aged-done : (h : Sheet) (t₀ t : Value) (cs₀ : List ℕ) (i : ℕ) → t .rows ≡ upto i (agedRecord h (held t₀) cs₀) (t₀ .rows) → i ≤ h .count → h .count ≤ i → held t ≡ agedState h (held t₀) cs₀
-unfolding agedState
-aged-done h t₀ t cs₀ i so-far a b = let e : i ≡ h .count = omega arith in ap stateOf (rw e at so-far)
-
-pub aged-codes-done : (h : Sheet) (t₀ : Value) (i : ℕ) (cs cs₀ : List ℕ) → cs ≡ upto i (agedCode h (held t₀) cs₀) cs₀ → i ≤ h .count → h .count ≤ i → cs ≡ agedCodes h (held t₀) cs₀
-unfolding agedCodes
-aged-codes-done h t₀ i cs cs₀ so-far a b = let e : i ≡ h .count = omega arith in rw e at so-far
+-- the end of each loop
+pub rows-done : (f : ℕ → RowState) (t₀ t : Value) (i n : ℕ) → t .rows ≡ upto i f (t₀ .rows) → i ≤ n → n ≤ i → held t ≡ stateOf (upto n f (t₀ .rows))
+rows-done f t₀ t i n so-far a b = ap stateOf (upto-whole n i f (t .rows) (t₀ .rows) so-far a b)

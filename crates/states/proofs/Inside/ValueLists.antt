@@ -1,11 +1,11 @@
 -- A sheet that is put into a list, and what is answered of the sheet in a list.
 -- Assumes nothing.
-use Rattle.basis.specs.Prelude.{ℕ, _+_, _*_, _≤_, _≡_, refl, sym, ap, ap₂, _∙_, List, length, set, replicate, length-set, ext-getD, arith, le-refl}
+use Rattle.basis.specs.Prelude.{ℕ, _+_, _*_, _≤_, _≡_, refl, ap, ap₂, _∙_, List, length, set, replicate, length-set, arith, le-refl}
 use Rattle.basis.specs.Limits.{mostRows}
 use Rattle.basis.specs.Refusals.{Outcome, outcome}
 use Rattle.basis.specs.declared.refusal.Refusal.{Refusal}
 use Rattle.basis.specs.Upto.{upto}
-use Rattle.basis.proofs.Inside.Upto.{upto-set, upto-below, length-upto}
+use Rattle.basis.proofs.Inside.Upto.{upto-set}
 use Rattle.sheet.specs.declared.row.Sheet.{Sheet}
 use Rattle.sheet.specs.Lists.{filled, sheetIn, sheetCell, sheetLong}
 use Rattle.sheet.proofs.RoundTrip.{whole-sheet-comes-back}
@@ -14,9 +14,8 @@ use Rattle.machine.specs.States.{State, noState, stateOf, recordAt}
 use Rattle.states.specs.declared.state.State.{State as Value}
 use Rattle.states.specs.Values.{held}
 use Rattle.machine.specs.declared.places.Done.{Done}
-use Rattle.records.specs.Records.{noRecord}
 use Rattle.machine.specs.Lists.{recordWide, recordIn, stateLong, stateIn, putRecord, putTo, freshOn, runIn, ranIn}
-use Rattle.machine.proofs.Inside.RecordLists.{put-more, state-put, spare-of-full, state-rows-long}
+use Rattle.machine.proofs.Inside.RecordLists.{put-more, records-all, state-put, spare-of-full, state-rows-long}
 use Rattle.machine.specs.Checks.{checkSlot, checkRun}
 use Rattle.machine.specs.Answers.{FreshAnswer, freshAnswer, runAnswer, fresh, run, MarginAnswer, margin}
 use Rattle.machine.proofs.StatesAfter.{fresh-of-zeros, run-listed-back}
@@ -54,17 +53,13 @@ module _ (h : Sheet) (s : List ℕ) (eh : sheetIn s ≡ h) where
 pub state-in-list : (t : Value) (l l₀ : List ℕ) (i : ℕ) → i ≤ mostRows → mostRows ≤ i → l ≡ putTo i (recordAt (held t)) l₀ → l₀ ≡ replicate (stateLong mostRows) 0 → length (t .rows) ≡ mostRows → stateIn l ≡ held t
 state-in-list t l l₀ i a b e z long =
     let q : i ≡ mostRows = omega arith in
-    let whole : stateIn l ≡ stateOf (upto mostRows (recordAt (held t)) (stateIn (replicate (stateLong mostRows) 0) .rows)) =
-    ap stateIn (e ∙ ap₂ (λ (k : ℕ) (x : List ℕ). putTo k (recordAt (held t)) x) q z)
-    ∙ state-put mostRows (recordAt (held t)) (replicate (stateLong mostRows) 0) (spare-of-full (replicate (stateLong mostRows) 0) refl) (le-refl mostRows) (le-refl (stateLong mostRows)) in
-    let rows : length (stateIn (replicate (stateLong mostRows) 0) .rows) ≡ mostRows = state-rows-long (replicate (stateLong mostRows) 0) (spare-of-full (replicate (stateLong mostRows) 0) refl) in
-    whole ∙ ap stateOf (ext-getD noRecord (upto mostRows (recordAt (held t)) (stateIn (replicate (stateLong mostRows) 0) .rows)) (t .rows)
-    (length-upto mostRows (recordAt (held t)) (stateIn (replicate (stateLong mostRows) 0) .rows) ∙ rows ∙ sym long)
-    (λ k m. upto-below mostRows (recordAt (held t)) (stateIn (replicate (stateLong mostRows) 0) .rows) noRecord k
-    (omega (arith, m, length-upto mostRows (recordAt (held t)) (stateIn (replicate (stateLong mostRows) 0) .rows), rows)) (omega (arith, rows))))
+    let room : length l₀ ≡ stateLong mostRows = ap length z in
+    ap stateIn (e ∙ ap (λ (k : ℕ). putTo k (recordAt (held t)) l₀) q)
+    ∙ state-put mostRows (recordAt (held t)) l₀ (spare-of-full l₀ room) (le-refl mostRows) (omega arith)
+    ∙ ap stateOf (records-all (recordAt (held t)) (stateIn l₀ .rows) (t .rows) (state-rows-long l₀ (spare-of-full l₀ room)) long (λ k there. refl))
 
 pub list-more : (t : Value) (l l₀ : List ℕ) (i : ℕ) → l ≡ putTo i (recordAt (held t)) l₀
-    → set (set l (i * recordWide) (recordAt (held t) i .remaining)) (i * recordWide + 1) (recordAt (held t) i .since) ≡ putTo (i + 1) (recordAt (held t)) l₀
+    → set (set l (i * recordWide) (recordAt (held t) i .job .remaining)) (i * recordWide + 1) (recordAt (held t) i .job .since) ≡ putTo (i + 1) (recordAt (held t)) l₀
 unfolding putRecord
 list-more t l l₀ i e = put-more i (recordAt (held t)) l l₀ (recordAt (held t) i) e refl
 

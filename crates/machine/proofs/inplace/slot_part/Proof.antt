@@ -1,7 +1,7 @@
 -- `slot_part` meets its promise. Assumes nothing.
 use Rattle.basis.specs.Prelude.{needs}
-use Rattle.machine.proofs.Inside.Courses.{slot-at-refused}
-use Rattle.machine.proofs.SlotsInPlace.{entries-hold, codes-hold, part-accepted, part-legal}
+use Rattle.machine.proofs.Inside.Courses.{part-holds, rest-holds, slot-at-refused}
+use Rattle.machine.proofs.SlotsInPlace.{part-accepted, part-legal}
 use Rattle.machine.proofs.inplace.slot_part.Statement.{statement}
 use Rattle.machine.proofs.inplace.slot_part.Tie as tie
 
@@ -10,5 +10,5 @@ slot-part-spec =
     tie.close (tie.spec (λ c. search needs) (λ c. search needs) (λ c. search needs) (λ c. search needs) (λ c. search needs) (λ c. search needs)
     (λ c κs. search needs) (λ c. search needs) (λ c. search needs) (λ c. search needs) (λ c. search needs) (λ c. search needs) (λ c. search needs)
     (λ c. search needs) (λ c. search needs) (λ c. search needs)
-    (λ c κs. (search needs, search needs, search needs, search entries-hold, search codes-hold)) (λ c. search needs)
+    (λ c κs. (search needs, search needs, search needs, search part-holds, search rest-holds)) (λ c. search needs)
     (λ c. (search slot-at-refused, search needs)) (λ c. search needs) (λ c. search needs) (λ c. (search part-accepted, search part-legal)))

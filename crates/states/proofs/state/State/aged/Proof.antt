@@ -2,9 +2,10 @@
 use Rattle.basis.specs.Prelude.{needs, _≤_, _-_, _≡_, refl, length}
 use Rattle.basis.specs.Limits.{mostRows}
 use Rattle.basis.specs.Upto.{upto}
+use Rattle.basis.proofs.Inside.Upto.{upto-whole}
 use Rattle.states.specs.Values.{held}
 use Rattle.states.specs.Inside.Methods.{agedRecord, agedCode}
-use Rattle.states.proofs.Inside.StepLoops.{aged-rows, aged-codes, aged-done, aged-codes-done}
+use Rattle.states.proofs.Inside.StepLoops.{aged-rows, aged-codes, rows-done}
 use Rattle.states.proofs.state.State.aged.Statement.{statement}
 use Rattle.states.proofs.state.State.aged.Tie as tie
 
@@ -31,4 +32,4 @@ pub aged-spec : {M : Type 1} → statement M
 aged-spec =
     tie.close (tie.spec Inv-loop μ-loop loop-holds (λ c. search needs) (λ c. search needs) (λ c. search needs) (λ c. search needs)
     (λ c. search needs) (λ c κs. search needs) (λ c. search needs) (λ c. search needs) (λ c. search needs) (λ c. search needs) (λ c. search needs)
-    loop-again (λ c. search needs) (λ c. (search aged-done, search aged-codes-done)))
+    loop-again (λ c. search needs) (λ c. (search rows-done, search upto-whole)))

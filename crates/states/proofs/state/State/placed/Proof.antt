@@ -2,12 +2,12 @@
 use Rattle.basis.specs.Prelude.{needs, _≤_, _-_, _≡_, refl, length}
 use Rattle.basis.specs.Limits.{mostRows}
 use Rattle.basis.specs.Upto.{upto}
+use Rattle.basis.proofs.Inside.Upto.{upto-whole}
 use Rattle.sheet.specs.Legal.{rowAt}
-use Rattle.machine.specs.States.{recordAt}
 use Rattle.machine.specs.Slot.{freeAt}
 use Rattle.states.specs.Values.{held}
-use Rattle.states.specs.Inside.Methods.{placedRecord, placedCode}
-use Rattle.states.proofs.Inside.StepLoops.{placed-free, placed-rows, placed-codes, placed-done, placed-codes-done}
+use Rattle.states.specs.Inside.Methods.{jobAt, placedRecord, placedCode}
+use Rattle.states.proofs.Inside.StepLoops.{placed-free, placed-rows, placed-codes, rows-done}
 use Rattle.states.proofs.state.State.placed.Statement.{statement}
 use Rattle.states.proofs.state.State.placed.Tie as tie
 
@@ -17,7 +17,7 @@ Inv-loop codes₀ sheet state₀ free₀ n i₀ codes state free i =
     × (n ≤ mostRows)
     × (n ≤ length codes₀)
     × (length codes ≡ length codes₀)
-    × (free ≡ freeAt (sheet .processors) (rowAt sheet) (recordAt (held state₀)) i)
+    × (free ≡ freeAt (sheet .processors) (rowAt sheet) (jobAt (held state₀)) i)
     × (state .rows ≡ upto i (placedRecord sheet (held state₀)) (state₀ .rows))
     × (codes ≡ upto i (placedCode sheet (held state₀)) codes₀)
 
@@ -35,4 +35,4 @@ pub placed-spec : {M : Type 1} → statement M
 placed-spec =
     tie.close (tie.spec Inv-loop μ-loop loop-holds (λ c. search needs) (λ c. search needs) (λ c. search needs) (λ c. search needs)
     (λ c κs. search needs) (λ c. search needs) (λ c. search needs) (λ c. search needs) (λ c. search needs) (λ c. search needs) loop-again
-    (λ c. search needs) (λ c. (search placed-done, search placed-codes-done)))
+    (λ c. search needs) (λ c. (search rows-done, search upto-whole)))

@@ -4,7 +4,7 @@ use Rattle.basis.specs.Limits.{mostRows}
 use Rattle.basis.specs.Upto.{upto}
 use Rattle.states.specs.Values.{held}
 use Rattle.states.specs.Inside.Methods.{releasedAt}
-use Rattle.states.proofs.Inside.StepLoops.{released-more, released-done}
+use Rattle.states.proofs.Inside.StepLoops.{released-more, rows-done}
 use Rattle.states.proofs.state.State.released.Statement.{statement}
 use Rattle.states.proofs.state.State.released.Tie as tie
 
@@ -22,4 +22,4 @@ pub released-spec : {M : Type 1} → statement M
 released-spec =
     tie.close (tie.spec Inv-loop μ-loop loop-holds (λ c. search needs) (λ c. search needs) (λ c. search needs) (λ c. search needs)
     (λ c κs. search needs) (λ c. search needs) (λ c. search needs) (λ c. search needs) (λ c. search needs)
-    (λ c. (search needs, search needs, search needs, search released-more)) (λ c. search released-done))
+    (λ c. (search needs, search needs, search needs, search released-more)) (λ c. search rows-done))

@@ -3,8 +3,8 @@ use Rattle.basis.specs.Prelude.{needs}
 use Rattle.basis.proofs.Inside.Tests.{tests}
 use Rattle.records.specs.Steps.{fits, freeBelow, worked}
 use Rattle.records.specs.Methods.{placedRow}
-use Rattle.records.proofs.record.RowState.placed.Statement.{statement}
-use Rattle.records.proofs.record.RowState.placed.Tie as tie
+use Rattle.records.proofs.record.Job.placed.Statement.{statement}
+use Rattle.records.proofs.record.Job.placed.Tie as tie
 
 returns : tie.Need-returns
 unfolding placedRow fits freeBelow worked

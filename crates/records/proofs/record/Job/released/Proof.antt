@@ -1,8 +1,8 @@
 -- `released` meets its promise. Assumes nothing.
 use Rattle.basis.proofs.Inside.Tests.{tests}
 use Rattle.records.specs.Steps.{released}
-use Rattle.records.proofs.record.RowState.released.Statement.{statement}
-use Rattle.records.proofs.record.RowState.released.Tie as tie
+use Rattle.records.proofs.record.Job.released.Statement.{statement}
+use Rattle.records.proofs.record.Job.released.Tie as tie
 
 returns : tie.Need-returns
 unfolding released
