@@ -1,10 +1,10 @@
 -- Tame readers: how far a reader goes and how far it looks, that its refusals are the table's, and that what it does not look at does not count.
 -- Assumes nothing.
-use Rattle.basis.specs.Prelude.{ℕ, zero, suc, _+_, _≤_, _<_, _≡_, refl, sym, ap, ap₂, _∙_, Bool, true, false, List, [], _∷_, arith, length, getD, ltb, leb, eqb, lt-ltb, le-leb}
+use Rattle.basis.specs.Prelude.{ℕ, suc, _+_, _≤_, _<_, _≡_, refl, sym, ap, ap₂, _∙_, Bool, true, false, List, [], _∷_, arith, length, getD, ltb, leb, eqb, lt-ltb, le-leb}
 use Rattle.basis.specs.Words.{pick, both}
 use Rattle.basis.specs.Readers.{Step, ok, refuse, Reader, after, _>>=_, give, refuse-at, here, byte, enough, end, begins, marked}
 use Rattle.basis.proofs.Inside.Steps.{never-ok, ok-same, refuse-same, after-ok, passed, byte-ok, enough-ok, end-stays, marked-ok}
-use Rattle.basis.proofs.Inside.Words.{both-left, both-right}
+use Rattle.basis.proofs.Inside.Words.{both-right}
 
 -- a refusal of the bytes s: a number from 1 to 9 and a place in them, which is 0 for 1 and the length for 2
 pub record BytesRefusal (s : List ℕ) (number place : ℕ) : Type 0 where

@@ -1,7 +1,6 @@
 -- Wrong answers of this crate's promises are shut out.
 -- Assumes nothing.
-use Rattle.basis.specs.Prelude.{ℕ, _≡_, refl, sym, ap, _∙_, Bool, true, false, eqb, arith, eq-eqb}
-use Rattle.basis.specs.Words.{pick}
+use Rattle.basis.specs.Prelude.{refl}
 use Rattle.basis.specs.Refusals.{accepted, isAccepted}
 use Rattle.basis.specs.Readers.{begins}
 use Rattle.basis.specs.Faults.{NoneMeets}

@@ -1,6 +1,6 @@
 -- A bound carried over from a row above that is no wider: lengths that fail for that row, weighed for row k, fail for it too.
 -- Assumes nothing.
-use Rattle.basis.specs.Prelude.{ℕ, _+_, _*_, _-_, _≤_, _<_, min, max, _≡_, refl, ap, Bool, true, false, ⊎-elim, mul-le-mul, mul-le-mul-left, mul-le-mul-right, le-of-mul-le-mul-right, arith, ltb-true, ltb-false, le-ltb, leb-true, leb-false, le-leb, ltb, leb}
+use Rattle.basis.specs.Prelude.{ℕ, _+_, _*_, _-_, _≤_, _<_, min, max, _≡_, refl, ap, Bool, true, false, ⊎-elim, mul-le-mul, mul-le-mul-left, mul-le-mul-right, le-of-mul-le-mul-right, arith, ltb-true, ltb-false, leb-true, leb-false, ltb, leb}
 use Rattle.basis.specs.Limits.{mostProcessors}
 use Rattle.basis.specs.Words.{pick, sum}
 use Rattle.basis.proofs.Inside.Words.{lt-or-le}

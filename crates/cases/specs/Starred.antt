@@ -1,5 +1,5 @@
 -- The starred cases A to I, in one list.
-use Rattle.basis.specs.Prelude.{ℕ, List, [], _∷_, _++_, map}
+use Rattle.basis.specs.Prelude.{List, _∷_, _++_, map}
 use Rattle.numbers.specs.Cases.{NumberCase, caseI, RightNumber}
 use Rattle.bound.specs.Cases.{Case, cases, Right}
 use Rattle.machine.specs.Cases.{RunCase, caseG, caseH, RightRun}

@@ -1,21 +1,20 @@
 -- A text as long as the longest: that of thirty-two rows with the longest labels, each of which is bounded by the largest separation.
 -- Assumes nothing.
-use Rattle.basis.specs.Prelude.{ℕ, zero, suc, _+_, _*_, _-_, _≤_, _<_, min, _≡_, refl, ap, ap₂, _∙_, Bool, true, List, _++_, arith, mul-le-mul, length, getD, replicate, length-append, length-replicate, lt-ltb}
+use Rattle.basis.specs.Prelude.{ℕ, zero, suc, _+_, _*_, _-_, _≤_, _<_, min, _≡_, refl, ap, ap₂, _∙_, true, List, _++_, arith, mul-le-mul, length, getD, replicate, length-append, length-replicate, lt-ltb}
 use Rattle.basis.specs.Limits.{mostProcessors, mostRows, longestLabel, mostSeparation}
-use Rattle.basis.specs.Words.{sum, allOf, both}
+use Rattle.basis.specs.Words.{sum, allOf}
 use Rattle.basis.proofs.Inside.Sums.{sum-le, sum-most}
 use Rattle.sheet.specs.Legal.{noRow, rowAt}
 use Rattle.sheet.specs.Values.{noRows}
 use Rattle.sheet.specs.declared.row.Row.{Row}
 use Rattle.sheet.specs.declared.row.Sheet.{Sheet}
 use Rattle.bound.specs.Quantities.{slots}
-use Rattle.bound.specs.Test.{q, X, x, W, durationOf, amountOf, amounts, room, passes}
-use Rattle.bound.specs.Bound.{Word, bound, isBound, bounds, bounded, resultOf, holds}
+use Rattle.bound.specs.Test.{q, X, x, W, durationOf, amountOf, amounts, passes}
+use Rattle.bound.specs.Bound.{bound, bounds, resultOf, holds}
 use Rattle.bound.proofs.Meaning.{Reached, smallest-is-bound, passing-is-less}
 use Rattle.bound.proofs.Inside.Judging.{passes-local}
-use Rattle.page.specs.Decimals.{decimal}
 use Rattle.tables.specs.Tables.{row, sheetOf}
-use Rattle.dashboard.specs.Words.{resultWords, lineStart, line, ending}
+use Rattle.dashboard.specs.Words.{resultWords, lineStart, line}
 use Rattle.dashboard.specs.Texts.{lines, board}
 use Rattle.dashboard.specs.Longest.{longestLine, longestText}
 

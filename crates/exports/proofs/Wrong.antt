@@ -96,7 +96,7 @@ slot-told-zero-is-shut-out = apart toldNumber _ _ 0 10 refl refl (λ e. omega ar
 
 -- row 1 is released for 3
 pub slot-state-kept-is-shut-out : NoneMeets (slotStateKept listC freshListC (1 ∷ 3 ∷ []) (9 ∷ 9 ∷ [])) (slotOn listC freshListC (1 ∷ 3 ∷ []) (9 ∷ 9 ∷ []))
-unfolding slotStateKept slotOn slotIn stateIn zeroFrom zeroAt recordIn putState putTo putRecord sheetIn rowIn allOf firstOf upto legalRow legalAt legal legalJob isZeroJob states.legalAt states.legalState released fits freeBelow freeAt worked older aged missed ended codeOf checkRow checkReleases checkState checkRoom checkSlot given nextState nextCodes slot
+unfolding slotStateKept slotOn slotIn stateIn zeroFrom zeroAt recordIn putState putTo putRecord sheetIn rowIn allOf firstOf upto legalRow legalAt legal legalJob isZeroJob states.legalRecordAt states.legalState released fits freeBelow freeAt worked older aged missed ended codeOf checkRow checkReleases checkState checkRoom checkSlot given nextState nextCodes slot
 slot-state-kept-is-shut-out = apart (λ (r : (ℕ × ℕ) × (List ℕ × List ℕ)). getD (r .1 .0) 2 0) _ _ 0 3 refl refl (λ e. omega arith)
 
 -- ---- `giachimu_run`
@@ -116,9 +116,9 @@ whole (pos n) = n
 whole (negsuc n) = 99
 
 pub margin-with-job-is-shut-out : NoneMeets (marginWithJob listC freshListC 0 (7, pos 5)) (marginIn listC freshListC 0 (7, pos 5))
-unfolding marginWithJob marginIn marginGiven margin marginAt checkMargin stateIn zeroFrom zeroAt recordIn legalJob isZeroJob states.legalAt states.legalState checkState sheetIn rowIn allOf upto legalRow legalAt legal
+unfolding marginWithJob marginIn marginGiven margin marginAt checkMargin stateIn zeroFrom zeroAt recordIn legalJob isZeroJob states.legalRecordAt states.legalState checkState sheetIn rowIn allOf upto legalRow legalAt legal
 margin-with-job-is-shut-out = apart (λ (r : (ℕ × ℕ) × (ℕ × ℤ)). r .1 .0) _ _ 1 0 refl refl (λ e. omega arith)
 
 pub margin-of-zero-is-shut-out : NoneMeets (marginOfZero listC freshListC 0 (7, pos 5)) (marginIn listC freshListC 0 (7, pos 5))
-unfolding marginOfZero marginIn marginGiven margin marginAt checkMargin stateIn zeroFrom zeroAt recordIn legalJob isZeroJob states.legalAt states.legalState checkState sheetIn rowIn allOf upto legalRow legalAt legal
+unfolding marginOfZero marginIn marginGiven margin marginAt checkMargin stateIn zeroFrom zeroAt recordIn legalJob isZeroJob states.legalRecordAt states.legalState checkState sheetIn rowIn allOf upto legalRow legalAt legal
 margin-of-zero-is-shut-out = apart (λ (r : (ℕ × ℕ) × (ℕ × ℤ)). whole (r .1 .1)) _ _ 0 5 refl refl (λ e. omega arith)

@@ -75,10 +75,10 @@ remaining (refusal, (n, (state, codes))) = getD state 2 0
 
 -- every slot counted: the second slot of sheet C is refused, so that one is done
 pub all-counted-is-shut-out : NoneMeets (allCounted listC tooSoon (boxOn listC fourPlaces tooSoon fourPlaces)) (boxOn listC fourPlaces tooSoon fourPlaces)
-unfolding allCounted done boxOn boxOf sheetIn rowIn fresh given nextState nextCodes slot slotAt onward course run checkRow checkReleases checkState checkRoom checkSlot checkRun released fits freeBelow freeAt worked older aged missed ended codeOf freshState legalState legalJob isZeroJob states.legalAt legal legalAt legalRow firstOf upto allOf
+unfolding allCounted done boxOn boxOf sheetIn rowIn fresh given nextState nextCodes slot slotAt onward course run checkRow checkReleases checkState checkRoom checkSlot checkRun released fits freeBelow freeAt worked older aged missed ended codeOf freshState legalState legalJob isZeroJob states.legalRecordAt legal legalAt legalRow firstOf upto allOf
 all-counted-is-shut-out = values-apart _ _ done refl
 
 -- the state kept: three slots remain of the second row's job
 pub state-kept-is-shut-out : NoneMeets (stateKept fourPlaces (boxOn listC fourPlaces tooSoon fourPlaces)) (boxOn listC fourPlaces tooSoon fourPlaces)
-unfolding stateKept remaining filled pairCell boxOn boxOf sheetIn rowIn fresh given nextState nextCodes slot slotAt onward course run checkRow checkReleases checkState checkRoom checkSlot checkRun released fits freeBelow freeAt worked older aged missed ended codeOf freshState legalState legalJob isZeroJob states.legalAt legal legalAt legalRow firstOf upto allOf
+unfolding stateKept remaining filled pairCell boxOn boxOf sheetIn rowIn fresh given nextState nextCodes slot slotAt onward course run checkRow checkReleases checkState checkRoom checkSlot checkRun released fits freeBelow freeAt worked older aged missed ended codeOf freshState legalState legalJob isZeroJob states.legalRecordAt legal legalAt legalRow firstOf upto allOf
 state-kept-is-shut-out = values-apart _ _ remaining refl

@@ -40,5 +40,5 @@ pub finishes-in-exactly-its-bound : (releaseIn (history sheetD (freshOf sheetD) 
     × (codeIn (history sheetD (freshOf sheetD) tight) 1 1 ≡ 2)
     × (codeIn (history sheetD (freshOf sheetD) tight) 2 1 ≡ 1)
     × (codeIn (history sheetD (freshOf sheetD) tight) 3 1 ≡ 3)
-unfolding history runDone fresh given nextState nextCodes slot slotAt onward course run checkRow checkReleases checkState checkRoom checkSlot checkRun released fits freeBelow freeAt worked older aged missed ended codeOf freshState legalState legalJob isZeroJob states.legalAt legal legalAt legalRow firstOf upto allOf
+unfolding history runDone fresh given nextState nextCodes slot slotAt onward course run checkRow checkReleases checkState checkRoom checkSlot checkRun released fits freeBelow freeAt worked older aged missed ended codeOf freshState legalState legalJob isZeroJob states.legalRecordAt legal legalAt legalRow firstOf upto allOf
 finishes-in-exactly-its-bound = (refl, refl, refl, refl, refl)

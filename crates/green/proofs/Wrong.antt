@@ -26,5 +26,5 @@ wrong-tests-pass = (refl, refl, refl, refl, refl)
 
 -- and row 1 has a code 4 in the first slot
 pub second-row-misses : codeIn (history twoOnes (freshOf twoOnes) bothReleased) 0 1 ≡ 4
-unfolding history runDone fresh given nextState nextCodes slot slotAt onward course run checkRow checkReleases checkState checkRoom checkSlot checkRun released fits freeBelow freeAt worked older aged missed ended codeOf freshState legalState legalJob isZeroJob states.legalAt legal legalAt legalRow firstOf upto allOf
+unfolding history runDone fresh given nextState nextCodes slot slotAt onward course run checkRow checkReleases checkState checkRoom checkSlot checkRun released fits freeBelow freeAt worked older aged missed ended codeOf freshState legalState legalJob isZeroJob states.legalRecordAt legal legalAt legalRow firstOf upto allOf
 second-row-misses = refl

@@ -48,12 +48,12 @@ green-if-read-is-shut-out = apart bit _ _ 1 0 refl refl (λ e. omega arith)
 
 -- the run has four slots
 pub once-is-shut-out : NoneMeets (historyBy slotsOnce sheetD (freshOf sheetD) tight) (history sheetD (freshOf sheetD) tight)
-unfolding historyBy history runDone fresh given nextState nextCodes slot slotAt onward course run checkRow checkReleases checkState checkRoom checkSlot checkRun released fits freeBelow freeAt worked older aged missed ended codeOf freshState legalState legalJob isZeroJob states.legalAt legal legalAt legalRow firstOf upto allOf
+unfolding historyBy history runDone fresh given nextState nextCodes slot slotAt onward course run checkRow checkReleases checkState checkRoom checkSlot checkRun released fits freeBelow freeAt worked older aged missed ended codeOf freshState legalState legalJob isZeroJob states.legalRecordAt legal legalAt legalRow firstOf upto allOf
 once-is-shut-out = apart (λ (ds : List Done). length ds) _ _ 1 4 refl refl (λ e. omega arith)
 
 -- its second slot is refused
 pub all-is-shut-out : NoneMeets (historyBy slotsAll sheetD (freshOf sheetD) tooSoon) (history sheetD (freshOf sheetD) tooSoon)
-unfolding historyBy history runDone fresh given nextState nextCodes slot slotAt onward course run checkRow checkReleases checkState checkRoom checkSlot checkRun released fits freeBelow freeAt worked older aged missed ended codeOf freshState legalState legalJob isZeroJob states.legalAt legal legalAt legalRow firstOf upto allOf
+unfolding historyBy history runDone fresh given nextState nextCodes slot slotAt onward course run checkRow checkReleases checkState checkRoom checkSlot checkRun released fits freeBelow freeAt worked older aged missed ended codeOf freshState legalState legalJob isZeroJob states.legalRecordAt legal legalAt legalRow firstOf upto allOf
 all-is-shut-out = apart (λ (ds : List Done). length ds) _ _ 2 1 refl refl (λ e. omega arith)
 
 -- the codes 3 1 are no releases
@@ -65,7 +65,7 @@ box-swapped-is-shut-out = apart (λ (ds : List Done). codeIn ds 0 0) _ _ 1 3 ref
 
 -- a bound of one slot less is not kept: row 1 of sheet D, whose bound is 4, is not finished in 3 slots
 pub one-slot-less-is-too-few : FinishedWithin (history sheetD (freshOf sheetD) tight) 0 1 3 → ⊥
-unfolding history runDone fresh given nextState nextCodes slot slotAt onward course run checkRow checkReleases checkState checkRoom checkSlot checkRun released fits freeBelow freeAt worked older aged missed ended codeOf freshState legalState legalJob isZeroJob states.legalAt legal legalAt legalRow firstOf upto allOf
+unfolding history runDone fresh given nextState nextCodes slot slotAt onward course run checkRow checkReleases checkState checkRoom checkSlot checkRun released fits freeBelow freeAt worked older aged missed ended codeOf freshState legalState legalJob isZeroJob states.legalRecordAt legal legalAt legalRow firstOf upto allOf
 one-slot-less-is-too-few f = go (f .later) (f .within) (f .finished)
   where
     go : (n : ℕ) → n < 3 → codeIn (history sheetD (freshOf sheetD) tight) (0 + n) 1 ≡ 3 → ⊥
@@ -76,7 +76,7 @@ one-slot-less-is-too-few f = go (f .later) (f .within) (f .finished)
 
 -- a claim that no slot has a code 3 is not kept: row 0 of sheet D has one in the first slot
 pub finished-is-no-miss : ((j k : ℕ) → j < 4 → k < 2 → codeIn (history sheetD (freshOf sheetD) tight) j k ≡ 3 → ⊥) → ⊥
-unfolding history runDone fresh given nextState nextCodes slot slotAt onward course run checkRow checkReleases checkState checkRoom checkSlot checkRun released fits freeBelow freeAt worked older aged missed ended codeOf freshState legalState legalJob isZeroJob states.legalAt legal legalAt legalRow firstOf upto allOf
+unfolding history runDone fresh given nextState nextCodes slot slotAt onward course run checkRow checkReleases checkState checkRoom checkSlot checkRun released fits freeBelow freeAt worked older aged missed ended codeOf freshState legalState legalJob isZeroJob states.legalRecordAt legal legalAt legalRow firstOf upto allOf
 finished-is-no-miss none = none 0 0 (omega arith) (omega arith) refl
 
 -- the value of the state after a slot of sheet D from fresh
@@ -85,7 +85,7 @@ after releases = record { rows = nextState sheetD (freshOf sheetD) releases .row
 
 -- slots that each begin with the state that the first one found are not in time
 pub stuck-slots : StuckSlots sheetD (freshOf sheetD) stuck
-unfolding fresh given nextState nextCodes slot slotAt onward course run checkRow checkReleases checkState checkRoom checkSlot checkRun released fits freeBelow freeAt worked older aged missed ended codeOf freshState legalState legalJob isZeroJob states.legalAt legal legalAt legalRow firstOf upto allOf
+unfolding fresh given nextState nextCodes slot slotAt onward course run checkRow checkReleases checkState checkRoom checkSlot checkRun released fits freeBelow freeAt worked older aged missed ended codeOf freshState legalState legalJob isZeroJob states.legalRecordAt legal legalAt legalRow firstOf upto allOf
 stuck-slots =
     once-more {after = after (0 ∷ 2 ∷ [])} (0 ∷ 2 ∷ []) (9 ∷ 9 ∷ []) _ Accepted refl
     (once-more {after = after (0 ∷ 0 ∷ [])} (0 ∷ 0 ∷ []) (9 ∷ 9 ∷ []) _ Accepted refl

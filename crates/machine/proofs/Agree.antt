@@ -1,7 +1,7 @@
 -- Two sheets: rows 0 to k decide for rows 0 to k, and rows past n decide nothing.
 -- Assumes nothing.
 use Rattle.basis.specs.Prelude.{ℕ, _≤_, _<_, _≡_, refl, sym, ap, _∙_, List, length, getD, arith}
-use Rattle.basis.specs.Refusals.{Outcome, accepted}
+use Rattle.basis.specs.Refusals.{accepted}
 use Rattle.basis.proofs.Inside.Upto.{upto-below}
 use Rattle.sheet.specs.declared.row.Sheet.{Sheet}
 use Rattle.machine.specs.States.{State, recordAt}

@@ -16,9 +16,9 @@ use Rattle.machine.specs.Checks.{checkReleases, checkState, checkRoom, c
 use Rattle.machine.specs.Answers.{fresh, given, nextState, nextCodes, slot, slotAt, onward, course, run}
 
 pub case-G : RightRun caseG
-unfolding fixedSheet allOf firstOf upto legalRow legalAt legal states.freshState legalJob isZeroJob states.legalAt states.legalState released fits freeBelow freeAt worked older aged missed ended codeOf checkRow checkReleases checkState checkRoom checkSlot checkRun fresh given nextState nextCodes slot slotAt onward course run
+unfolding fixedSheet allOf firstOf upto legalRow legalAt legal states.freshState legalJob isZeroJob states.legalRecordAt states.legalState released fits freeBelow freeAt worked older aged missed ended codeOf checkRow checkReleases checkState checkRoom checkSlot checkRun fresh given nextState nextCodes slot slotAt onward course run
 case-G = (refl, refl, refl)
 
 pub case-H : RightRun caseH
-unfolding fixedSheet allOf firstOf upto legalRow legalAt legal states.freshState legalJob isZeroJob states.legalAt states.legalState released fits freeBelow freeAt worked older aged missed ended codeOf checkRow checkReleases checkState checkRoom checkSlot checkRun fresh given nextState nextCodes slot slotAt onward course run
+unfolding fixedSheet allOf firstOf upto legalRow legalAt legal states.freshState legalJob isZeroJob states.legalRecordAt states.legalState released fits freeBelow freeAt worked older aged missed ended codeOf checkRow checkReleases checkState checkRoom checkSlot checkRun fresh given nextState nextCodes slot slotAt onward course run
 case-H = (refl, refl, refl)

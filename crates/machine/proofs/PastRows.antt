@@ -6,12 +6,11 @@ use Rattle.basis.specs.Words.{pick, both, within}
 use Rattle.basis.specs.Refusals.{Outcome, accepted, refused, isAccepted, orElse, needed}
 use Rattle.basis.proofs.Inside.Words.{all-same, lt-or-le}
 use Rattle.basis.proofs.Inside.FirstRefusal.{first-same}
-use Rattle.sheet.specs.Legal.{noRow, rowAt, legalRow, legal}
-use Rattle.sheet.specs.Legal as sheets
+use Rattle.sheet.specs.Legal.{noRow, rowAt, legalRow, legal, legalAt}
 use Rattle.sheet.specs.declared.row.Row.{Row}
 use Rattle.sheet.specs.declared.row.Sheet.{Sheet}
 use Rattle.records.specs.declared.record.RowState.{RowState}
-use Rattle.machine.specs.States.{State, noState, recordAt, stateOf, freshAt, freshState, legalAt, legalState}
+use Rattle.machine.specs.States.{State, noState, recordAt, stateOf, freshAt, freshState, legalRecordAt, legalState}
 use Rattle.records.specs.Records.{recordOf, noRecord, legalRecord}
 use Rattle.machine.specs.Slot.{next, code}
 use Rattle.records.specs.Checks.{checkRow}
@@ -38,10 +37,10 @@ withRows h rows = record { processors = h .processors; count = h .count; rows = 
 
 module _ (h : Sheet) (rows : List Row) (same : (i : ℕ) → i < h .count → rowAt h i ≡ getD rows i noRow) where
   legal-alike : legal h ≡ legal (withRows h rows)
-  unfolding legal sheets.legalAt
+  unfolding legal legalAt
   legal-alike =
       ap (λ (b : Bool). both (within 1 mostProcessors (h .processors)) (both (within 1 mostRows (h .count)) b))
-      (all-same (h .count) (sheets.legalAt h) (sheets.legalAt (withRows h rows)) (λ i l. ap (legalRow (h .processors)) (same i l)))
+      (all-same (h .count) (legalAt h) (legalAt (withRows h rows)) (λ i l. ap (legalRow (h .processors)) (same i l)))
 
   fresh-alike : fresh h ≡ fresh (withRows h rows)
   unfolding fresh freshState
@@ -50,9 +49,9 @@ module _ (h : Sheet) (rows : List Row) (same : (i : ℕ) → i < h .count → ro
       (upto-agree (h .count) (freshAt h) (freshAt (withRows h rows)) (replicate mostRows noRecord) (λ i l. ap (λ (row : Row). recordOf (record { remaining = 0; since = row .separation })) (same i l)))
 
   state-alike : (t : State) → legalState h t ≡ legalState (withRows h rows) t
-  unfolding legalState legalAt
+  unfolding legalState legalRecordAt
   state-alike t =
-      all-same mostRows (legalAt h t) (legalAt (withRows h rows) t)
+      all-same mostRows (legalRecordAt h t) (legalRecordAt (withRows h rows) t)
       (λ i b. ⊎-elim (λ l. rw (lt-ltb i (h .count) l) (ap (λ (row : Row). legalRecord row (recordAt t i)) (same i l))) (λ l. rw (le-ltb i (h .count) l)) (lt-or-le i (h .count)))
 
   check-alike : (t : State) → checkState h t ≡ checkState (withRows h rows) t

@@ -4,7 +4,6 @@ use Rattle.basis.specs.Prelude.{ℕ, _≡_, refl, sym, ap, _∙_, List, arith}
 use Rattle.basis.specs.Refusals.{outcome}
 use Rattle.basis.specs.declared.refusal.Refusal.{Refusal}
 use Rattle.basis.proofs.Refusals.{outcome-one-to-one}
-use Rattle.sheet.specs.declared.row.Sheet.{Sheet}
 use Rattle.sheet.specs.Lists.{sheetIn}
 use Rattle.machine.specs.declared.places.Done.{Done}
 use Rattle.machine.specs.declared.margins.Margin.{Margin}

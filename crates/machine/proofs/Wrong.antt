@@ -3,13 +3,12 @@
 use Rattle.basis.specs.Prelude.{ℕ, _+_, refl, List, [], _∷_, arith, getD}
 use lib.IntN.{pos, negsuc}
 use Rattle.basis.specs.Words.{allOf}
-use Rattle.basis.specs.Refusals.{Outcome, firstOf}
+use Rattle.basis.specs.Refusals.{firstOf}
 use Rattle.basis.specs.Upto.{upto}
 use Rattle.basis.specs.Faults.{NoneMeets}
 use Rattle.basis.proofs.Faults.{apart, numberOf}
 use Rattle.sheet.specs.Legal.{legalRow, legalAt, legal}
 use Rattle.sheet.specs.Lists.{filled, rowIn, sheetIn}
-use Rattle.sheet.specs.declared.row.Sheet.{Sheet}
 use Rattle.tables.specs.Tables.{sheetB, sheetC, sheetF}
 use Rattle.records.specs.Records.{legalJob, isZeroJob}
 use Rattle.records.specs.Steps.{released, fits, freeBelow, worked, older, aged, missed, ended, codeOf}
@@ -54,74 +53,74 @@ fresh-too-young-is-shut-out = apart (sinceOf 1) _ _ 1 4 refl refl (λ e. omega a
 
 -- case H, the first slot: row 1 does not fit, and row 2 does
 pub slot-to-unfit-is-shut-out : NoneMeets (slotToUnfit sheetB (fresh sheetB .state) (2 ∷ 2 ∷ 3 ∷ []) (9 ∷ 9 ∷ 9 ∷ [])) (slot sheetB (fresh sheetB .state) (2 ∷ 2 ∷ 3 ∷ []) (9 ∷ 9 ∷ 9 ∷ []))
-unfolding slotToUnfit freeToUnfit stopsAtUnfit allOf firstOf upto legalRow legalAt legal states.freshState legalJob isZeroJob states.legalAt states.legalState released fits freeBelow freeAt worked older aged missed ended codeOf checkRow checkReleases checkState checkRoom checkSlot fresh given nextState nextCodes slot
+unfolding slotToUnfit freeToUnfit stopsAtUnfit allOf firstOf upto legalRow legalAt legal states.freshState legalJob isZeroJob states.legalRecordAt states.legalState released fits freeBelow freeAt worked older aged missed ended codeOf checkRow checkReleases checkState checkRoom checkSlot fresh given nextState nextCodes slot
 slot-to-unfit-is-shut-out = apart (codeAfter 2) _ _ 1 2 refl refl (λ e. omega arith)
 
 -- the same slot: row 1 waits
 pub slot-of-all-is-shut-out : NoneMeets (slotOfAll sheetB (fresh sheetB .state) (2 ∷ 2 ∷ 3 ∷ []) (9 ∷ 9 ∷ 9 ∷ [])) (slot sheetB (fresh sheetB .state) (2 ∷ 2 ∷ 3 ∷ []) (9 ∷ 9 ∷ 9 ∷ []))
-unfolding slotOfAll allOf firstOf upto legalRow legalAt legal states.freshState legalJob isZeroJob states.legalAt states.legalState released fits freeBelow freeAt worked older aged missed ended codeOf checkRow checkReleases checkState checkRoom checkSlot fresh given nextState nextCodes slot
+unfolding slotOfAll allOf firstOf upto legalRow legalAt legal states.freshState legalJob isZeroJob states.legalRecordAt states.legalState released fits freeBelow freeAt worked older aged missed ended codeOf checkRow checkReleases checkState checkRoom checkSlot fresh given nextState nextCodes slot
 slot-of-all-is-shut-out = apart (codeAfter 1) _ _ 2 1 refl refl (λ e. omega arith)
 
 -- sheet F: a job finishes in the slot in which since reaches its deadline
 pub slot-missed-first-is-shut-out : NoneMeets (slotMissedFirst sheetF (fresh sheetF .state) (1 ∷ []) (9 ∷ [])) (slot sheetF (fresh sheetF .state) (1 ∷ []) (9 ∷ []))
-unfolding slotMissedFirst missedFirst allOf firstOf upto legalRow legalAt legal states.freshState legalJob isZeroJob states.legalAt states.legalState released fits freeBelow freeAt worked older aged missed ended codeOf checkRow checkReleases checkState checkRoom checkSlot fresh given nextState nextCodes slot
+unfolding slotMissedFirst missedFirst allOf firstOf upto legalRow legalAt legal states.freshState legalJob isZeroJob states.legalRecordAt states.legalState released fits freeBelow freeAt worked older aged missed ended codeOf checkRow checkReleases checkState checkRoom checkSlot fresh given nextState nextCodes slot
 slot-missed-first-is-shut-out = apart (codeAfter 0) _ _ 4 3 refl refl (λ e. omega arith)
 
 -- case G, the first slot: row 1 is released for 3
 pub slot-untouched-is-shut-out : NoneMeets (slotUntouched sheetC (fresh sheetC .state) (1 ∷ 3 ∷ []) (9 ∷ 9 ∷ [])) (slot sheetC (fresh sheetC .state) (1 ∷ 3 ∷ []) (9 ∷ 9 ∷ []))
-unfolding slotUntouched allOf firstOf upto legalRow legalAt legal states.freshState legalJob isZeroJob states.legalAt states.legalState released fits freeBelow freeAt worked older aged missed ended codeOf checkRow checkReleases checkState checkRoom checkSlot fresh given nextState nextCodes slot
+unfolding slotUntouched allOf firstOf upto legalRow legalAt legal states.freshState legalJob isZeroJob states.legalRecordAt states.legalState released fits freeBelow freeAt worked older aged missed ended codeOf checkRow checkReleases checkState checkRoom checkSlot fresh given nextState nextCodes slot
 slot-untouched-is-shut-out = apart (leftAfter 1) _ _ 0 3 refl refl (λ e. omega arith)
 
 pub slot-unreleased-is-shut-out : NoneMeets (slotUnreleased sheetC (fresh sheetC .state) (1 ∷ 3 ∷ []) (9 ∷ 9 ∷ [])) (slot sheetC (fresh sheetC .state) (1 ∷ 3 ∷ []) (9 ∷ 9 ∷ []))
-unfolding slotUnreleased allOf firstOf upto legalRow legalAt legal states.freshState legalJob isZeroJob states.legalAt states.legalState released fits freeBelow freeAt worked older aged missed ended codeOf checkRow checkReleases checkState checkRoom checkSlot fresh given nextState nextCodes slot
+unfolding slotUnreleased allOf firstOf upto legalRow legalAt legal states.freshState legalJob isZeroJob states.legalRecordAt states.legalState released fits freeBelow freeAt worked older aged missed ended codeOf checkRow checkReleases checkState checkRoom checkSlot fresh given nextState nextCodes slot
 slot-unreleased-is-shut-out = apart (codeAfter 0) _ _ 0 3 refl refl (λ e. omega arith)
 
 -- a release of 2 in row 0 is over its budget
 pub slot-codes-always-is-shut-out : NoneMeets (slotCodesAlways sheetC (fresh sheetC .state) (2 ∷ 0 ∷ []) (9 ∷ 9 ∷ [])) (slot sheetC (fresh sheetC .state) (2 ∷ 0 ∷ []) (9 ∷ 9 ∷ []))
-unfolding slotCodesAlways allOf firstOf upto legalRow legalAt legal states.freshState legalJob isZeroJob states.legalAt states.legalState released fits freeBelow freeAt worked older aged missed ended codeOf checkRow checkReleases checkState checkRoom checkSlot fresh given nextState nextCodes slot
+unfolding slotCodesAlways allOf firstOf upto legalRow legalAt legal states.freshState legalJob isZeroJob states.legalRecordAt states.legalState released fits freeBelow freeAt worked older aged missed ended codeOf checkRow checkReleases checkState checkRoom checkSlot fresh given nextState nextCodes slot
 slot-codes-always-is-shut-out = apart (codeAfter 1) _ _ 0 9 refl refl (λ e. omega arith)
 
 -- and one slot after the last it is too soon as well
 pub slot-thirteen-first-is-shut-out : NoneMeets (slotThirteenFirst sheetC busyC (2 ∷ 0 ∷ []) (9 ∷ 9 ∷ [])) (slot sheetC busyC (2 ∷ 0 ∷ []) (9 ∷ 9 ∷ []))
-unfolding slotThirteenFirst checkThirteenFirst thirteenFirst allOf firstOf upto legalRow legalAt legal legalJob isZeroJob states.legalAt states.legalState checkRow checkReleases checkState checkRoom checkSlot slot
+unfolding slotThirteenFirst checkThirteenFirst thirteenFirst allOf firstOf upto legalRow legalAt legal legalJob isZeroJob states.legalRecordAt states.legalState checkRow checkReleases checkState checkRoom checkSlot slot
 slot-thirteen-first-is-shut-out = apart refusedAfter _ _ 13 12 refl refl (λ e. omega arith)
 
 -- ---- `run`
 
 -- the first two slots of case G: row 1 runs in the second
 pub run-of-first-is-shut-out : NoneMeets (runOfFirst sheetC (fresh sheetC .state) (1 ∷ 3 ∷ 0 ∷ 0 ∷ []) (9 ∷ 9 ∷ 9 ∷ 9 ∷ [])) (run sheetC (fresh sheetC .state) (1 ∷ 3 ∷ 0 ∷ 0 ∷ []) (9 ∷ 9 ∷ 9 ∷ 9 ∷ []))
-unfolding runOfFirst allOf firstOf upto legalRow legalAt legal states.freshState legalJob isZeroJob states.legalAt states.legalState released fits freeBelow freeAt worked older aged missed ended codeOf checkRow checkReleases checkState checkRoom checkSlot checkRun fresh given nextState nextCodes slot slotAt onward course run
+unfolding runOfFirst allOf firstOf upto legalRow legalAt legal states.freshState legalJob isZeroJob states.legalRecordAt states.legalState released fits freeBelow freeAt worked older aged missed ended codeOf checkRow checkReleases checkState checkRoom checkSlot checkRun fresh given nextState nextCodes slot slotAt onward course run
 run-of-first-is-shut-out = apart (λ (c : RunAnswer State). getD (c .codes) 3 0) _ _ 9 2 refl refl (λ e. omega arith)
 
 -- a second release of row 0, one slot after the first, is refused
 pub run-made-up-is-shut-out : NoneMeets (runMadeUp sheetC (fresh sheetC .state) (1 ∷ 0 ∷ 1 ∷ 0 ∷ []) (9 ∷ 9 ∷ 9 ∷ 9 ∷ [])) (run sheetC (fresh sheetC .state) (1 ∷ 0 ∷ 1 ∷ 0 ∷ []) (9 ∷ 9 ∷ 9 ∷ 9 ∷ []))
-unfolding runMadeUp allOf firstOf upto legalRow legalAt legal states.freshState legalJob isZeroJob states.legalAt states.legalState released fits freeBelow freeAt worked older aged missed ended codeOf checkRow checkReleases checkState checkRoom checkSlot checkRun fresh given nextState nextCodes slot slotAt onward course run
+unfolding runMadeUp allOf firstOf upto legalRow legalAt legal states.freshState legalJob isZeroJob states.legalRecordAt states.legalState released fits freeBelow freeAt worked older aged missed ended codeOf checkRow checkReleases checkState checkRoom checkSlot checkRun fresh given nextState nextCodes slot slotAt onward course run
 run-made-up-is-shut-out = apart (λ (c : RunAnswer State). c .done) _ _ 2 1 refl refl (λ e. omega arith)
 
 pub run-untouched-is-shut-out : NoneMeets (runUntouched sheetC (fresh sheetC .state) (1 ∷ 3 ∷ 0 ∷ 0 ∷ []) (9 ∷ 9 ∷ 9 ∷ 9 ∷ [])) (run sheetC (fresh sheetC .state) (1 ∷ 3 ∷ 0 ∷ 0 ∷ []) (9 ∷ 9 ∷ 9 ∷ 9 ∷ []))
-unfolding runUntouched allOf firstOf upto legalRow legalAt legal states.freshState legalJob isZeroJob states.legalAt states.legalState released fits freeBelow freeAt worked older aged missed ended codeOf checkRow checkReleases checkState checkRoom checkSlot checkRun fresh given nextState nextCodes slot slotAt onward course run
+unfolding runUntouched allOf firstOf upto legalRow legalAt legal states.freshState legalJob isZeroJob states.legalRecordAt states.legalState released fits freeBelow freeAt worked older aged missed ended codeOf checkRow checkReleases checkState checkRoom checkSlot checkRun fresh given nextState nextCodes slot slotAt onward course run
 run-untouched-is-shut-out = apart (λ (c : RunAnswer State). recordAt (c .state) 1 .job .remaining) _ _ 0 2 refl refl (λ e. omega arith)
 
 -- ---- the checks of a slot
 
 pub check-thirteen-first-is-shut-out : NoneMeets (checkThirteenFirst sheetC busyC (2 ∷ 0 ∷ []) 2) (checkSlot sheetC busyC (2 ∷ 0 ∷ []) 2)
-unfolding checkThirteenFirst thirteenFirst allOf firstOf upto legalRow legalAt legal legalJob isZeroJob states.legalAt states.legalState checkRow checkReleases checkState checkRoom checkSlot
+unfolding checkThirteenFirst thirteenFirst allOf firstOf upto legalRow legalAt legal legalJob isZeroJob states.legalRecordAt states.legalState checkRow checkReleases checkState checkRoom checkSlot
 check-thirteen-first-is-shut-out = apart numberOf _ _ 13 12 refl refl (λ e. omega arith)
 
 pub any-releases-is-shut-out : NoneMeets (anyReleases sheetC busyC (2 ∷ 0 ∷ []) 2) (checkSlot sheetC busyC (2 ∷ 0 ∷ []) 2)
-unfolding anyReleases allOf firstOf upto legalRow legalAt legal legalJob isZeroJob states.legalAt states.legalState checkRow checkReleases checkState checkRoom checkSlot
+unfolding anyReleases allOf firstOf upto legalRow legalAt legal legalJob isZeroJob states.legalRecordAt states.legalState checkRow checkReleases checkState checkRoom checkSlot
 any-releases-is-shut-out = apart numberOf _ _ 0 12 refl refl (λ e. omega arith)
 
 -- ---- the checks of a run
 
 -- a list of three entries for two rows, and room for none
 pub room-first-is-shut-out : NoneMeets (roomFirst sheetC (fresh sheetC .state) (0 ∷ 0 ∷ 0 ∷ []) 0) (checkRun sheetC (fresh sheetC .state) (0 ∷ 0 ∷ 0 ∷ []) 0)
-unfolding roomFirst allOf upto legalRow legalAt legal states.freshState legalJob isZeroJob states.legalAt states.legalState checkState checkRoom checkRun fresh
+unfolding roomFirst allOf upto legalRow legalAt legal states.freshState legalJob isZeroJob states.legalRecordAt states.legalState checkState checkRoom checkRun fresh
 room-first-is-shut-out = apart numberOf _ _ 15 11 refl refl (λ e. omega arith)
 
 -- the state of zeros is legal for no sheet
 pub any-state-is-shut-out : NoneMeets (anyState sheetC states.noState [] 0) (checkRun sheetC states.noState [] 0)
-unfolding anyState allOf upto legalRow legalAt legal legalJob isZeroJob states.legalAt states.legalState checkState checkRoom checkRun
+unfolding anyState allOf upto legalRow legalAt legal legalJob isZeroJob states.legalRecordAt states.legalState checkState checkRoom checkRun
 any-state-is-shut-out = apart numberOf _ _ 0 16 refl refl (λ e. omega arith)
 
 -- ---- the margin
@@ -134,16 +133,16 @@ marginRead (margin-is (negsuc n)) = 99
 marginRead (refused-by number place) = 99
 
 pub zero-for-none-is-shut-out : NoneMeets (zeroForNone sheetC (fresh sheetC .state) 0) (margin sheetC (fresh sheetC .state) 0)
-unfolding zeroForNone allOf upto legalRow legalAt legal states.freshState legalJob isZeroJob states.legalAt states.legalState checkState checkMargin fresh marginAt marginOf margin
+unfolding zeroForNone allOf upto legalRow legalAt legal states.freshState legalJob isZeroJob states.legalRecordAt states.legalState checkState checkMargin fresh marginAt marginOf margin
 zero-for-none-is-shut-out = apart marginRead _ _ 1 0 refl refl (λ e. omega arith)
 
 -- row 1 has a margin of 4 - 1 - 2
 pub since-left-out-is-shut-out : NoneMeets (sinceLeftOut sheetC busyC 1) (margin sheetC busyC 1)
-unfolding sinceLeftOut allOf upto legalRow legalAt legal legalJob isZeroJob states.legalAt states.legalState checkState checkMargin marginAt marginOf margin
+unfolding sinceLeftOut allOf upto legalRow legalAt legal legalJob isZeroJob states.legalRecordAt states.legalState checkState checkMargin marginAt marginOf margin
 since-left-out-is-shut-out = apart marginRead _ _ 3 2 refl refl (λ e. omega arith)
 
 pub margin-of-first-is-shut-out : NoneMeets (marginOfFirst sheetC busyC 1) (margin sheetC busyC 1)
-unfolding marginOfFirst allOf upto legalRow legalAt legal legalJob isZeroJob states.legalAt states.legalState checkState checkMargin marginAt marginOf margin
+unfolding marginOfFirst allOf upto legalRow legalAt legal legalJob isZeroJob states.legalRecordAt states.legalState checkState checkMargin marginAt marginOf margin
 margin-of-first-is-shut-out = apart marginRead _ _ 0 2 refl refl (λ e. omega arith)
 
 -- ---- `fresh_on`
@@ -163,19 +162,19 @@ fresh-roomless-is-shut-out = apart (λ (x : FreshAnswer (List ℕ)). numberOf (x
 -- ---- `slot_on`
 
 pub slot-list-kept-is-shut-out : NoneMeets (slotListKept (sheetIn listC) freshListC (1 ∷ 3 ∷ []) (9 ∷ 9 ∷ [])) (slotIn (sheetIn listC) freshListC (1 ∷ 3 ∷ []) (9 ∷ 9 ∷ []))
-unfolding slotListKept slotIn stateIn zeroFrom zeroAt recordIn putState putTo putRecord sheetIn rowIn allOf firstOf upto legalRow legalAt legal legalJob isZeroJob states.legalAt states.legalState released fits freeBelow freeAt worked older aged missed ended codeOf checkRow checkReleases checkState checkRoom checkSlot given nextState nextCodes slot
+unfolding slotListKept slotIn stateIn zeroFrom zeroAt recordIn putState putTo putRecord sheetIn rowIn allOf firstOf upto legalRow legalAt legal legalJob isZeroJob states.legalRecordAt states.legalState released fits freeBelow freeAt worked older aged missed ended codeOf checkRow checkReleases checkState checkRoom checkSlot given nextState nextCodes slot
 slot-list-kept-is-shut-out = apart (λ (x : SlotAnswer (List ℕ)). getD (x .state) 2 0) _ _ 0 3 refl refl (λ e. omega arith)
 
 pub slot-codes-kept-is-shut-out : NoneMeets (slotCodesKept (sheetIn listC) freshListC (1 ∷ 3 ∷ []) (9 ∷ 9 ∷ [])) (slotIn (sheetIn listC) freshListC (1 ∷ 3 ∷ []) (9 ∷ 9 ∷ []))
-unfolding slotCodesKept slotIn stateIn zeroFrom zeroAt recordIn putState putTo putRecord sheetIn rowIn allOf firstOf upto legalRow legalAt legal legalJob isZeroJob states.legalAt states.legalState released fits freeBelow freeAt worked older aged missed ended codeOf checkRow checkReleases checkState checkRoom checkSlot given nextState nextCodes slot
+unfolding slotCodesKept slotIn stateIn zeroFrom zeroAt recordIn putState putTo putRecord sheetIn rowIn allOf firstOf upto legalRow legalAt legal legalJob isZeroJob states.legalRecordAt states.legalState released fits freeBelow freeAt worked older aged missed ended codeOf checkRow checkReleases checkState checkRoom checkSlot given nextState nextCodes slot
 slot-codes-kept-is-shut-out = apart (λ (x : SlotAnswer (List ℕ)). getD (x .codes) 0 0) _ _ 9 3 refl refl (λ e. omega arith)
 
 -- ---- `run_on`
 
 pub run-list-kept-is-shut-out : NoneMeets (runListKept (sheetIn listC) freshListC (1 ∷ 3 ∷ []) (9 ∷ 9 ∷ [])) (runIn (sheetIn listC) freshListC (1 ∷ 3 ∷ []) (9 ∷ 9 ∷ []))
-unfolding runListKept runIn stateIn zeroFrom zeroAt recordIn putState putTo putRecord sheetIn rowIn allOf firstOf upto legalRow legalAt legal legalJob isZeroJob states.legalAt states.legalState released fits freeBelow freeAt worked older aged missed ended codeOf checkRow checkReleases checkState checkRoom checkSlot checkRun given nextState nextCodes slot slotAt onward course run
+unfolding runListKept runIn stateIn zeroFrom zeroAt recordIn putState putTo putRecord sheetIn rowIn allOf firstOf upto legalRow legalAt legal legalJob isZeroJob states.legalRecordAt states.legalState released fits freeBelow freeAt worked older aged missed ended codeOf checkRow checkReleases checkState checkRoom checkSlot checkRun given nextState nextCodes slot slotAt onward course run
 run-list-kept-is-shut-out = apart (λ (x : RunAnswer (List ℕ)). getD (x .state) 2 0) _ _ 0 3 refl refl (λ e. omega arith)
 
 pub run-list-made-up-is-shut-out : NoneMeets (runListMadeUp (sheetIn listC) freshListC (1 ∷ 0 ∷ 1 ∷ 0 ∷ []) (9 ∷ 9 ∷ 9 ∷ 9 ∷ [])) (runIn (sheetIn listC) freshListC (1 ∷ 0 ∷ 1 ∷ 0 ∷ []) (9 ∷ 9 ∷ 9 ∷ 9 ∷ []))
-unfolding runListMadeUp runIn stateIn zeroFrom zeroAt recordIn putState putTo putRecord sheetIn rowIn allOf firstOf upto legalRow legalAt legal legalJob isZeroJob states.legalAt states.legalState released fits freeBelow freeAt worked older aged missed ended codeOf checkRow checkReleases checkState checkRoom checkSlot checkRun given nextState nextCodes slot slotAt onward course run
+unfolding runListMadeUp runIn stateIn zeroFrom zeroAt recordIn putState putTo putRecord sheetIn rowIn allOf firstOf upto legalRow legalAt legal legalJob isZeroJob states.legalRecordAt states.legalState released fits freeBelow freeAt worked older aged missed ended codeOf checkRow checkReleases checkState checkRoom checkSlot checkRun given nextState nextCodes slot slotAt onward course run
 run-list-made-up-is-shut-out = apart (λ (x : RunAnswer (List ℕ)). x .done) _ _ 2 1 refl refl (λ e. omega arith)

@@ -33,9 +33,9 @@ unfoldable pub freshState : Sheet → State
 freshState h = stateOf (upto (h .count) (freshAt h) (replicate mostRows noRecord))
 
 -- Record k is legal for a sheet: for its row, and past row n it is zero.
-unfoldable pub legalAt : Sheet → State → ℕ → Bool
-legalAt h t k = pick (ltb k (h .count)) (legalRecord (rowAt h k) (recordAt t k)) (isZero (recordAt t k))
+unfoldable pub legalRecordAt : Sheet → State → ℕ → Bool
+legalRecordAt h t k = pick (ltb k (h .count)) (legalRecord (rowAt h k) (recordAt t k)) (isZero (recordAt t k))
 
 -- A state is legal for a sheet: each of its records is.
 unfoldable pub legalState : Sheet → State → Bool
-legalState h t = allOf mostRows (legalAt h t)
+legalState h t = allOf mostRows (legalRecordAt h t)

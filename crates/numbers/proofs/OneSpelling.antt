@@ -1,5 +1,5 @@
 -- A value has one spelling: what `groups` accepts is what `spelt` writes, and `groups` accepts that.
-use Rattle.basis.specs.Prelude.{ℕ, zero, suc, _+_, _-_, _*_, _/_, _%_, _^_, _≤_, _<_, _≡_, refl, sym, ap, ap₂, _∙_, subst, _⊎_, ⊎-elim, inl, inr, Bool, true, false, List, [], _∷_, _++_, append-assoc, arith, add-one, pow-succ', zero-lt-suc, one-le-pow, length, getD, length-append, slice, slice-cons, slice-empty, getD-append-seam, append-snoc, ltb, lt-ltb, le-ltb, ltb-true, ltb-false}
+use Rattle.basis.specs.Prelude.{ℕ, zero, suc, _+_, _-_, _*_, _/_, _%_, _^_, _≤_, _<_, _≡_, refl, sym, ap, ap₂, _∙_, _⊎_, ⊎-elim, List, [], _∷_, _++_, append-assoc, arith, add-one, pow-succ', zero-lt-suc, one-le-pow, length, getD, length-append, slice, slice-cons, slice-empty, getD-append-seam, lt-ltb, le-ltb}
 use Rattle.basis.specs.Readers.{Bytes, Step, ok, refuse, after}
 use Rattle.basis.specs.Limits.{mostGroups}
 use Rattle.numbers.specs.Numbers.{groups, spelt, number, spell}

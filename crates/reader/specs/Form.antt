@@ -2,7 +2,7 @@
 use Rattle.basis.specs.Prelude.{ℕ, zero, suc, List, [], _∷_, Bool}
 use Rattle.basis.specs.Limits.{Limits, limits, longestLabel}
 use Rattle.basis.specs.Words.{pick, within}
-use Rattle.basis.specs.Readers.{Step, ok, refuse, Reader, _>>=_, _>>_, give, refuse-at, here, byte, enough, end, marked}
+use Rattle.basis.specs.Readers.{Reader, _>>=_, _>>_, give, refuse-at, here, byte, enough, end, marked}
 use Rattle.numbers.specs.Numbers.{upToBy, upTo}
 use Rattle.sheet.specs.declared.row.Row.{Row}
 

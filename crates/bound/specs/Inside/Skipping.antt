@@ -1,5 +1,5 @@
 -- Which lengths may be skipped: what the functions of the search say of lengths that fail. No promise of a public function speaks of it.
-use Rattle.basis.specs.Prelude.{ℕ, _+_, _*_, _-_, _≤_, _<_, min, _≡_, Bool, true, false, eqb, leb, ltb}
+use Rattle.basis.specs.Prelude.{ℕ, _+_, _*_, _-_, _≤_, _<_, min, _≡_, Bool, true, false, leb, ltb}
 use Rattle.basis.specs.Limits.{mostProcessors}
 use Rattle.basis.specs.Words.{pick}
 use Rattle.sheet.specs.Legal.{rowAt}

@@ -3,7 +3,6 @@
 use Rattle.basis.specs.Prelude.{ℕ, zero, suc, _+_, _*_, _≤_, _<_, _≡_, refl, sym, ap, ap₂, _∙_, Bool, true, List, _++_, add-one, le-antisymm, arith, length}
 use Rattle.basis.specs.Limits.{mostRows}
 use Rattle.basis.specs.Readers.{begins}
-use Rattle.basis.specs.Upto.{upto}
 use Rattle.basis.specs.Words.{allOf}
 use Rattle.basis.specs.Refusals.{Outcome, accepted, refused, outcome}
 use Rattle.basis.specs.declared.refusal.Refusal.{Refusal}

@@ -1,7 +1,7 @@
 -- Where the first n rows of a sheet have bounds, a chain of accepted slots from a moment that slots lead to finishes each of their jobs within its row's bound and misses none of their deadlines.
 -- Assumes nothing.
 use Rattle.basis.specs.Prelude.{ℕ, zero, suc, _+_, _-_, _≤_, _<_, _≡_, refl, sym, ap, subst, _∙_, _⊎_, inl, inr, ⊎-elim, List, [], _∷_, arith, zero-add, length, getD}
-use Rattle.sheet.specs.Legal.{rowAt, Legal}
+use Rattle.sheet.specs.Legal.{Legal}
 use Rattle.sheet.specs.declared.row.Sheet.{Sheet}
 use Rattle.bound.specs.Test.{passes}
 use Rattle.bound.specs.Bound.{Word, bound, valueOf, resultOf}
@@ -13,7 +13,7 @@ use Rattle.green.specs.Demand.{Bounded, releaseIn, codeIn, FinishedWithi
 use Rattle.green.proofs.Sheets.{rowsOf, ranges, safe}
 use Rattle.green.proofs.Soundness.{within-bound}
 use Rattle.green.proofs.Slots.{momentOf, begin-remaining, released-so}
-use Rattle.green.proofs.Inside.Chains.{Slotted, Chain, none, more, bounds, leads, not-missed, GoesOn, step}
+use Rattle.green.proofs.Inside.Chains.{Chain, none, more, bounds, leads, not-missed, step}
 
 -- from the first slot of a list on, row k's job ends before R slots have gone
 record Ends (ds : List Done) (k R : ℕ) : Type 0 where

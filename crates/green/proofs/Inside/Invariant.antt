@@ -1,8 +1,8 @@
 -- The invariant of a moment that slots lead to: each job has waited in slots that would make an interference if they were more, and a slot keeps this.
 -- Assumes nothing.
 use Rattle.basis.specs.Prelude.{_≡_, refl, List, [], _∷_, ℕ, zero, suc, _+_, _-_, _≤_, _<_, min, sub-zero, arith, length}
-use Rattle.basis.specs.Words.{sum}
-use Rattle.green.specs.Inside.Model.{Rows, Moment, owed, age, tally, Each, none, more, Ranges, q, g, W, X, Slot, Busy, Safe}
+use Rattle.basis.specs.Words.{Each}
+use Rattle.green.specs.Inside.Model.{Rows, Moment, owed, age, tally, Ranges, q, g, W, X, Slot, Busy, Safe}
 use Rattle.green.proofs.Inside.Tallies.{sum-cap}
 use Rattle.green.proofs.Inside.Potential.{Φ, Φ-slot, Φ-release, Φ-start, split}
 
@@ -62,7 +62,7 @@ module _ (p : Rows) (legal : (i : ℕ) → i < p .n → Ranges p i) (safe : (k :
         record {
           ends = omega (arith, f (omega arith));
           slack = omega (arith, legal k h);
-          busy = none;
+          busy = tt;
           bounded = λ i l.
               let t : i < n = omega arith in
               rw (sub-zero (R k))
@@ -95,13 +95,7 @@ module _ (p : Rows) (legal : (i : ℕ) → i < p .n → Ranges p i) (safe : (k :
     waited r = record { ends = omega (arith, j .ends, older); slack = in-slack; busy = all; bounded = bound }
       where
         all : Each (Busy p k) (ran ∷ vs)
-        all =
-            more
-            (record {
-              once = λ i l. c .once i (omega arith);
-              load = omega (arith, c .waits k h (omega arith) r, legal k h, sum-cap k (q p k) threads ran);
-            })
-            (j .busy)
+        all = (record { once = λ i l. c .once i (omega arith); load = omega (arith, c .waits k h (omega arith) r, legal k h, sum-cap k (q p k) threads ran) }, j .busy)
 
         in-slack : suc (length vs) + C k ≤ R k
         in-slack =

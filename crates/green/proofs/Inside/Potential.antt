@@ -1,6 +1,6 @@
 -- The potential of a row: the most that it runs in the next slots, which falls by what it runs in each.
 -- Assumes nothing.
-use Rattle.basis.specs.Prelude.{_≡_, ℕ, zero, suc, _+_, _-_, _≤_, _<_, min, lt-of-not-le, arith}
+use Rattle.basis.specs.Prelude.{ℕ, zero, suc, _+_, _-_, _≤_, _<_, min, lt-of-not-le, arith}
 use native.Mathlib.Decide.{decLe}
 use Rattle.basis.specs.Workload.{ω}
 use Rattle.basis.proofs.Inside.Workload.{ω-mono, ω-lip, ω-period, ω-small, ω-least}

@@ -1,6 +1,6 @@
 -- The rows of a box and its slots as the argument for green sees them: functions of the row number, free of how a machine stores its rows.
 use Rattle.basis.specs.Prelude.{ℕ, zero, suc, _+_, _*_, _-_, _≤_, _<_, min, _≡_, List, [], _∷_, length}
-use Rattle.basis.specs.Words.{sum}
+use Rattle.basis.specs.Words.{sum, Each}
 use Rattle.basis.specs.Workload.{ω}
 
 -- m processors, and n rows from the top: threads, separation T, deadline D, budget C, and the bound R that is to be shown.
@@ -32,11 +32,6 @@ age (suc r) s = 0
 unfoldable pub tally : List (ℕ → ℕ) → ℕ → ℕ
 tally [] i = 0
 tally (v ∷ vs) i = v i + tally vs i
-
--- Each slot of a list is such a one.
-pub data Each (P : (ℕ → ℕ) → Type 0) : List (ℕ → ℕ) → Type 0 where
-  none : Each P []
-  more : {v : ℕ → ℕ} {vs : List (ℕ → ℕ)} → P v → Each P vs → Each P (v ∷ vs)
 
 module _ (p : Rows) where
   open Rows p using (m, n, threads, T, D, C, R)

@@ -2,7 +2,7 @@
 -- Assumes nothing.
 use Rattle.basis.specs.Prelude.{ℕ, _*_, _/_, _%_, _≤_, _<_, _≡_, refl, sym, ap, _∙_, true, List, length, leb, eqb, arith, div-add-mod', leb-true, eqb-true}
 use Rattle.basis.specs.Limits.{mostRows}
-use Rattle.basis.specs.Refusals.{accepted, refused, outcome, needed, Outcome}
+use Rattle.basis.specs.Refusals.{accepted, refused, outcome, needed}
 use Rattle.basis.specs.declared.refusal.Refusal.{Refusal}
 use Rattle.basis.specs.declared.refusal.Refusal.the-variants.{Accepted, Refused}
 use Rattle.basis.proofs.Inside.FirstRefusal.{both-accepted}

@@ -9,7 +9,7 @@ use Rattle.sheet.specs.declared.row.Row.{Row}
 use Rattle.sheet.specs.declared.row.Sheet.{Sheet}
 use Rattle.records.specs.declared.record.Job.{Job}
 use Rattle.records.specs.declared.record.RowState.{RowState}
-use Rattle.machine.specs.States.{State, recordAt, legalAt, legalState}
+use Rattle.machine.specs.States.{State, recordAt, legalRecordAt, legalState}
 use Rattle.records.specs.Records.{noRecord, hasJob, legalJob, isZero}
 
 -- a job that is legal for its row
@@ -52,17 +52,17 @@ pub record LegalState (h : Sheet) (t : State) : Type 0 where
 
 module _ (h : Sheet) (t : State) (fit : h .count ≤ mostRows) where
   pub legal-state-is : legalState h t ≡ true → LegalState h t
-  unfolding legalState legalAt
+  unfolding legalState legalRecordAt
   legal-state-is e =
       record {
-        rows = λ k l. legal-job-is (rowAt h k) (recordAt t k .job) (rw (lt-ltb k (h .count) l) at (all-at mostRows (legalAt h t) e k (omega arith)));
-        past = λ k l m. rw (le-ltb k (h .count) l) at (all-at mostRows (legalAt h t) e k m);
+        rows = λ k l. legal-job-is (rowAt h k) (recordAt t k .job) (rw (lt-ltb k (h .count) l) at (all-at mostRows (legalRecordAt h t) e k (omega arith)));
+        past = λ k l m. rw (le-ltb k (h .count) l) at (all-at mostRows (legalRecordAt h t) e k m);
       }
 
   pub legal-state-says : LegalState h t → legalState h t ≡ true
-  unfolding legalState legalAt
+  unfolding legalState legalRecordAt
   legal-state-says r =
-      all-true mostRows (legalAt h t)
+      all-true mostRows (legalRecordAt h t)
       (λ k m. ⊎-elim (λ l. rw (lt-ltb k (h .count) l) (legal-job-says (rowAt h k) (recordAt t k .job) (r .rows k l))) (λ l. rw (le-ltb k (h .count) l) (r .past k l m)) (lt-or-le k (h .count)))
 
 -- a legal state has a record for each row

@@ -1,7 +1,6 @@
 -- What is known of a number that was read: its bounds, and the places.
 use Rattle.basis.specs.Prelude.{ℕ, zero, suc, _+_, _-_, _*_, _≤_, _<_, _≡_, refl, sym, _∙_, ⊎-elim, List, arith, zero-lt-suc, length, getD, eqb, leb, eqb-false, leb-true}
-use Rattle.basis.specs.Words.{pick}
-use Rattle.basis.specs.Readers.{Step, ok, refuse, after, give, refuse-at}
+use Rattle.basis.specs.Readers.{Step, ok, refuse, after, give}
 use Rattle.basis.specs.Limits.{mostGroups}
 use Rattle.numbers.specs.Numbers.{groups, number, upToBy, upTo}
 use Rattle.numbers.proofs.Inside.Groups.{one-less, ends, over, low, last, more}

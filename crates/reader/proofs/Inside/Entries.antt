@@ -1,6 +1,6 @@
 -- A row: each way out of the functions that read its numbers, and its label before them.
 -- Assumes nothing.
-use Rattle.basis.specs.Prelude.{ℕ, _≡_, refl, sym, ap, subst, _∙_, List, length}
+use Rattle.basis.specs.Prelude.{ℕ, _≡_, refl, sym, subst, _∙_, List, length}
 use Rattle.basis.specs.Limits.{longestLabel, mostSeparation}
 use Rattle.basis.specs.Readers.{Step, ok, refuse, after, mapStep}
 use Rattle.basis.proofs.Inside.Steps.{got, map-step-ok, map-step-no}

@@ -2,8 +2,8 @@
 -- Assumes nothing.
 use Rattle.basis.specs.Prelude.{ℕ, _≤_, _<_, _≡_, sym, ap, subst, _∙_, List, arith, length, lt-ltb, le-ltb, le-leb, lt-leb}
 use Rattle.basis.specs.Limits.{mostRows}
-use Rattle.basis.specs.Upto.{upto, pairCell}
-use Rattle.basis.specs.Readers.{Step, ok, refuse, mapStep}
+use Rattle.basis.specs.Upto.{upto}
+use Rattle.basis.specs.Readers.{Step, ok, mapStep}
 use Rattle.basis.specs.Refusals.{Outcome, accepted, refused, orElse, roomFor, handed}
 use Rattle.basis.proofs.Inside.Pairs.{pairs-agree}
 use Rattle.basis.proofs.Inside.Steps.{got, map-step-ok, map-step-no}

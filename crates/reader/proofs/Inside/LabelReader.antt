@@ -1,6 +1,6 @@
 -- A label: each way out of the function that reads one.
 -- Assumes nothing.
-use Rattle.basis.specs.Prelude.{ℕ, _+_, _-_, _*_, _^_, _≤_, _<_, _≡_, sym, ap, _∙_, List, arith, add-sub-cancel-left, length, le-leb, lt-leb, w64, Fits}
+use Rattle.basis.specs.Prelude.{ℕ, _+_, _-_, _*_, _^_, _≤_, _<_, _≡_, sym, ap, List, arith, add-sub-cancel-left, length, le-leb, lt-leb, w64, Fits}
 use Rattle.basis.specs.Limits.{longestLabel}
 use Rattle.basis.specs.Readers.{ok, refuse, mapStep}
 use Rattle.basis.proofs.Inside.Steps.{got, map-step-ok, map-step-no}

@@ -1,8 +1,8 @@
 -- What is read into lists of zeros that have room for every row.
 -- Assumes nothing.
-use Rattle.basis.specs.Prelude.{ℕ, _+_, _*_, _-_, _/_, _≤_, _<_, _≡_, refl, sym, ap, ap₂, _∙_, List, map, arith, length, set, length-append, length-map, length-replicate, le-leb}
+use Rattle.basis.specs.Prelude.{ℕ, _+_, _*_, _-_, _≤_, _<_, _≡_, refl, sym, ap, ap₂, _∙_, List, map, arith, length, set, length-append, length-map, length-replicate, le-leb}
 use Rattle.basis.specs.Limits.{mostRows}
-use Rattle.basis.specs.Upto.{upto, pairCell}
+use Rattle.basis.specs.Upto.{upto}
 use Rattle.basis.specs.Readers.{Step, ok, refuse}
 use Rattle.basis.specs.Refusals.{Outcome, accepted, refused}
 use Rattle.basis.proofs.Inside.Pairs.{first-cell, second-cell, pair-zero}

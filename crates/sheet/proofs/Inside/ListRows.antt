@@ -1,9 +1,9 @@
 -- Numbers, rows and sheets of a list, as the code reads them.
 -- Assumes nothing.
-use Rattle.basis.specs.Prelude.{ℕ, _+_, _*_, _≤_, _<_, _≡_, sym, _∙_, List, length, set, List·getD-eq-default, arith, le-refl}
+use Rattle.basis.specs.Prelude.{ℕ, _+_, _*_, _≤_, _<_, _≡_, sym, List, length, set, List·getD-eq-default, arith, le-refl}
 use Rattle.basis.specs.Limits.{mostRows}
 use Rattle.basis.specs.Upto.{upto}
-use Rattle.basis.proofs.Inside.Upto.{upto-set, upto-below, length-upto}
+use Rattle.basis.proofs.Inside.Upto.{upto-set, upto-below}
 use Rattle.sheet.specs.Legal.{noRow, rowAt}
 use Rattle.sheet.specs.Values.{noRows}
 use Rattle.sheet.specs.declared.row.Row.{Row}

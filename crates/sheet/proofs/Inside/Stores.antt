@@ -1,8 +1,8 @@
 -- Rows that are stored one after another into a list: what stands before them, a row more, and two lists of the same rows.
 -- Assumes nothing.
-use Rattle.basis.specs.Prelude.{ℕ, _+_, _-_, _*_, _/_, _%_, _≤_, _<_, _≡_, refl, sym, ap, _∙_, List, ⊎-elim, length, set, arith, mod-lt, div-add-mod', eq-eqb, ne-eqb}
+use Rattle.basis.specs.Prelude.{ℕ, _+_, _-_, _*_, _/_, _%_, _<_, _≡_, refl, sym, ap, _∙_, List, ⊎-elim, set, arith, div-add-mod', eq-eqb, ne-eqb}
 use Rattle.basis.specs.Upto.{upto}
-use Rattle.basis.proofs.Inside.Upto.{upto-set, upto-agree}
+use Rattle.basis.proofs.Inside.Upto.{upto-set}
 use Rattle.basis.proofs.Inside.Words.{lt-or-le}
 use Rattle.sheet.specs.declared.row.Row.{Row}
 use Rattle.sheet.specs.Lists.{rowCell, listCell, sheetLong}

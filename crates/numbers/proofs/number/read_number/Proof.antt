@@ -1,4 +1,4 @@
-use Rattle.basis.specs.Prelude.{needs, arith, ℕ, _+_, _-_, _*_, _^_, _≤_, _<_, getD, _≡_, refl, sym, ap, _∙_}
+use Rattle.basis.specs.Prelude.{needs, arith, _-_, _*_, _^_, _≤_, _<_, getD, _≡_, sym, ap, _∙_}
 use denote.Ref.{now}
 use Rattle.basis.specs.Limits.{mostGroups}
 use Rattle.numbers.specs.Numbers.{groups, number}
