@@ -2,3 +2,4 @@ pub mod RefusedSlots
 pub mod Same
 pub mod Wrong
 pub mod Inside
+mod Names

@@ -1,16 +1,8 @@
--- Equal answers: any two answers that a promise allows are equal.
--- Assumes nothing.
+-- Equal answers: any two answers that a promise allows are equal. Assumes nothing.
 use Rattle.basis.specs.Prelude.{ℕ, _≡_, sym, ap, _∙_, List}
-use Rattle.basis.specs.declared.refusal.Refusal.{Refusal}
+use Rattle.aboard.proofs.Names.{Refusal, Sheet, State, Ran, SlotAnswer, fresh, slot, run, held, ran, held-one-to-one, ran-one-to-one, slottedIn}
 use Rattle.basis.proofs.Refusals.{outcome-one-to-one}
-use Rattle.sheet.specs.declared.row.Sheet.{Sheet}
 use Rattle.machine.specs.States as states
-use Rattle.states.specs.declared.state.State.{State}
-use Rattle.states.specs.declared.runs.Ran.{Ran}
-use Rattle.machine.specs.Answers.{SlotAnswer, fresh, slot, run}
-use Rattle.states.specs.Values.{held, ran}
-use Rattle.states.proofs.Same.{held-one-to-one, ran-one-to-one}
-use Rattle.aboard.specs.Lent.{slottedIn}
 
 -- `slot_in`: the refusal, the lent state and the code buffer after it
 pub slotted-in-one-to-one : (a b : Refusal) (t u : State) (cs ds : List ℕ) → slottedIn a t cs ≡ slottedIn b u ds → (a ≡ b) × (t ≡ u) × (cs ≡ ds)

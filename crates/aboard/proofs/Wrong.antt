@@ -1,8 +1,7 @@
--- Wrong rules for a lent state and for the box's own loop are shut out: on sheet C no answer with the fault meets the promise.
--- Assumes nothing.
+-- Wrong rules for a lent state and for the box's own loop are shut out: on sheet C no answer with the fault meets the promise. Assumes nothing.
 use Rattle.basis.specs.Prelude.{ℕ, refl, [], _∷_, arith, getD}
 use Rattle.basis.specs.Words.{allOf}
-use Rattle.basis.specs.Refusals.{firstOf}
+use Rattle.aboard.proofs.Names.{firstOf, checkReleases, checkState, checkRoom, checkSlot, checkRun}
 use Rattle.basis.specs.Upto.{upto}
 use Rattle.basis.specs.Faults.{NoneMeets}
 use Rattle.basis.proofs.Faults.{apart, numberOf}
@@ -14,7 +13,6 @@ use Rattle.records.specs.Checks.{checkRow}
 use Rattle.machine.specs.States.{State, recordAt}
 use Rattle.machine.specs.States as states
 use Rattle.machine.specs.Slot.{freeAt}
-use Rattle.machine.specs.Checks.{checkReleases, checkState, checkRoom, checkSlot, checkRun}
 use Rattle.machine.specs.Answers.{SlotAnswer, RunAnswer, fresh, given, nextState, nextCodes, slot, slotAt, onward, course, run}
 use Rattle.aboard.specs.Wrong.{leftAsFound, changedAlways, boxOfZeros, boxWithoutCodes, boxUnchecked}
 

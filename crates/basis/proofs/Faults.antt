@@ -1,5 +1,4 @@
--- A fault is shut out where one number, read off both answers, differs.
--- Assumes nothing.
+-- A fault is shut out where one number, read off both answers, differs. Assumes nothing.
 use Rattle.basis.specs.Prelude.{ℕ, _≡_, sym, ap, _∙_, Bool, true, false, arith, eq-eqb, eqb}
 use Rattle.basis.specs.Words.{pick}
 use Rattle.basis.specs.Refusals.{Outcome, accepted, refused}

@@ -1,5 +1,4 @@
--- Laws of `begins`: a turn of the loop that compares the bytes with a mark, i of them so far, and equal answers.
--- Assumes nothing.
+-- Laws of `begins`: a turn of the loop that compares the bytes with a mark, i of them so far, and equal answers. Assumes nothing.
 use Rattle.basis.specs.Prelude.{ℕ, suc, _+_, _≤_, _<_, _≡_, sym, ap₂, _∙_, List, _∷_, Bool, true, false, add-one, length, getD, drop, drop-of-length-le, drop-cons, eq-eqb, ne-eqb}
 use Rattle.basis.specs.Readers.{begins}
 

@@ -1,5 +1,4 @@
--- Laws of refusals: an outcome stands for one answer of the code, and two answers that a promise allows are equal.
--- Assumes nothing.
+-- Laws of refusals: an outcome stands for one answer of the code, and two answers that a promise allows are equal. Assumes nothing.
 use Rattle.basis.specs.Prelude.{_≡_, refl, sym, _∙_, Bool, true, false, leb, leb-true, ℕ, _≤_, arith}
 use Rattle.basis.specs.Refusals.{Outcome, accepted, refused, outcome, isAccepted, orElse, needed, roomFor, handed}
 use Rattle.basis.specs.declared.refusal.Refusal.{Refusal}

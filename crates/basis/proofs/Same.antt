@@ -1,5 +1,4 @@
--- Two answers that one promise allows are equal.
--- Assumes nothing.
+-- Two answers that one promise allows are equal. Assumes nothing.
 use Rattle.basis.specs.Prelude.{_≡_, sym, ap, _∙_}
 use Rattle.basis.specs.Refusals.{Outcome, outcome}
 use Rattle.basis.specs.declared.refusal.Refusal.{Refusal}

@@ -1,5 +1,4 @@
--- Tame readers: how far a reader goes and how far it looks, that its refusals are the table's, and that what it does not look at does not count.
--- Assumes nothing.
+-- Tame readers: how far a reader goes and how far it looks, that its refusals are the table's, and that what it does not look at does not count. Assumes nothing.
 use Rattle.basis.specs.Prelude.{ℕ, suc, _+_, _≤_, _<_, _≡_, refl, sym, ap, ap₂, _∙_, Bool, true, false, List, [], _∷_, arith, length, getD, ltb, leb, eqb, lt-ltb, le-leb}
 use Rattle.basis.specs.Words.{pick, both}
 use Rattle.basis.specs.Readers.{Step, ok, refuse, Reader, after, _>>=_, give, refuse-at, here, byte, enough, end, begins, marked}

@@ -1,5 +1,4 @@
--- Wrong answers of this crate's promises are shut out.
--- Assumes nothing.
+-- Wrong answers of this crate's promises are shut out. Assumes nothing.
 use Rattle.basis.specs.Prelude.{refl}
 use Rattle.basis.specs.Refusals.{accepted, isAccepted}
 use Rattle.basis.specs.Readers.{begins}

@@ -1,17 +1,6 @@
--- q, X and the sum of the amounts: they fit, and the sum never falls as the length grows.
--- Assumes nothing.
+-- q, X and the sum of the amounts: they fit, and the sum never falls as the length grows. Assumes nothing.
 use Rattle.basis.specs.Prelude.{ℕ, _+_, _*_, _-_, _≤_, _<_, min, _≡_, refl, ap, _∙_, false, le-ltb, mul-le-mul-right, arith, Fits, w64}
-use Rattle.basis.specs.Limits.{mostProcessors}
-use Rattle.basis.specs.Words.{sum}
-use Rattle.basis.proofs.Inside.Sums.{sum-le, sum-most, sum-one-more}
-use Rattle.sheet.specs.Legal.{rowAt, LegalRow, Legal}
-use Rattle.sheet.specs.declared.row.Row.{Row}
-use Rattle.sheet.specs.declared.row.Sheet.{Sheet}
-use Rattle.bound.specs.Quantities.{widestRows, widestSeparation, slots, on}
-use Rattle.bound.specs.Test.{q, X, x, durationOf, amountOf, amounts, room, passes}
-use Rattle.bound.specs.Inside.Ready.{Ready, Length, Above}
-use Rattle.bound.specs.declared.quantity.Duration.{Duration}
-use Rattle.bound.specs.declared.quantity.Amount.{Amount}
+use Rattle.bound.proofs.Names.{mostProcessors, sum, sum-le, sum-most, sum-one-more, rowAt, LegalRow, Legal, Row, Sheet, widestRows, widestSeparation, slots, on, q, X, x, durationOf, amountOf, amounts, room, passes, Ready, Length, Above, Duration, Amount}
 use Rattle.bound.proofs.Durations.{same-amount, number, number-of, most-amount}
 use Rattle.bound.proofs.Workload.{W-mono}
 

@@ -1,23 +1,9 @@
--- Laws of the answers: a word stands for one result of the code, two answers that a promise allows are equal, and what a refusal says.
--- Assumes nothing.
+-- Laws of the answers: a word stands for one result of the code, two answers that a promise allows are equal, and what a refusal says. Assumes nothing.
 use Rattle.basis.specs.Prelude.{ℕ, suc, _≤_, _<_, _≡_, refl, sym, ap, _∙_, Bool, true, false, List, arith, length, getD}
-use Rattle.basis.specs.Limits.{mostRows}
-use Rattle.basis.specs.Upto.{upto}
-use Rattle.basis.specs.Refusals.{Outcome, accepted, refused, outcome, orElse, roomFor, handed}
-use Rattle.basis.proofs.Refusals.{outcome-one-to-one, handed-found}
-use Rattle.sheet.specs.Legal.{legal}
-use Rattle.sheet.specs.Lists.{filled, sheetIn}
-use Rattle.sheet.specs.declared.row.Sheet.{Sheet}
-use Rattle.sheet.proofs.Legality.{legal-is}
-use Rattle.bound.specs.Test.{Test, passes}
-use Rattle.bound.specs.Bound.{Word, bound, none, unreached, word, wordIn, resultOf, allUnreached, holds, Answer, answer, notLegal, boundsBy, boundsOf}
-use Rattle.bound.specs.Lists.{resultsLong, resultCell, resultsOn, boundsOn}
-use Rattle.bound.specs.declared.results.Result.{Result}
+use Rattle.bound.proofs.Names.{mostRows, upto, Outcome, accepted, refused, outcome, orElse, roomFor, handed, outcome-one-to-one, handed-found, legal, filled, sheetIn, Sheet, legal-is, Test, passes, Word, bound, none, unreached, word, wordIn, resultOf, allUnreached, holds, Answer, answer, notLegal, boundsBy, boundsOf, resultsLong, resultCell, resultsOn, boundsOn, Result, Judgement, map-one-to-one, getD-all}
 use Rattle.bound.specs.declared.results.Result.the-variants.{Unreached, Bound, NoBound}
 use Rattle.bound.specs.declared.results.Results.{Results}
-use Rattle.bound.specs.declared.results.Judgement.{Judgement}
 use Rattle.basis.proofs.Same.{same-by, outcome-same}
-use Rattle.basis.proofs.Inside.Lists.{map-one-to-one, getD-all}
 use Rattle.bound.proofs.Inside.Lengths.{never}
 use Rattle.bound.proofs.Inside.Judging.{Agree, passes-local, result-agrees}
 use Rattle.bound.proofs.Lists.{word-there, word-past}

@@ -1,18 +1,6 @@
--- A bound carried over from a row above that is no wider: lengths that fail for that row, weighed for row k, fail for it too.
--- Assumes nothing.
+-- A bound carried over from a row above that is no wider: lengths that fail for that row, weighed for row k, fail for it too. Assumes nothing.
 use Rattle.basis.specs.Prelude.{ℕ, _+_, _*_, _-_, _≤_, _<_, min, max, _≡_, refl, ap, Bool, true, false, ⊎-elim, mul-le-mul, mul-le-mul-left, mul-le-mul-right, le-of-mul-le-mul-right, arith, ltb-true, ltb-false, leb-true, leb-false, ltb, leb}
-use Rattle.basis.specs.Limits.{mostProcessors}
-use Rattle.basis.specs.Words.{pick, sum}
-use Rattle.basis.proofs.Inside.Words.{lt-or-le}
-use Rattle.basis.proofs.Inside.Sums.{sum-grows, sum-weighed}
-use Rattle.sheet.specs.Legal.{rowAt, LegalRow}
-use Rattle.sheet.specs.declared.row.Row.{Row}
-use Rattle.sheet.specs.declared.row.Sheet.{Sheet}
-use Rattle.bound.specs.Quantities.{slots, plus, minus}
-use Rattle.bound.specs.Test.{C, q, X, x, W, durationOf, amountOf, amounts, room, passes}
-use Rattle.bound.specs.Inside.Ready.{Ready, Above}
-use Rattle.bound.specs.Inside.Skipping.{carriedOf, Starts}
-use Rattle.bound.specs.declared.quantity.Duration.{Duration}
+use Rattle.bound.proofs.Names.{mostProcessors, pick, sum, lt-or-le, sum-grows, sum-weighed, rowAt, LegalRow, Row, Sheet, slots, plus, minus, C, q, X, x, W, durationOf, amountOf, amounts, room, passes, Ready, Above, carriedOf, Starts, Duration}
 use Rattle.bound.proofs.Amounts.{q-some, room-by-q, fails-where, row, own-row, row-above, amounts-more}
 use Rattle.bound.proofs.Workload.{W-mono, W-least}
 

@@ -1,15 +1,6 @@
--- The quantities of one row above: each fits, and each is the definition's.
--- Assumes nothing.
+-- The quantities of one row above: each fits, and each is the definition's. Assumes nothing.
 use Rattle.basis.specs.Prelude.{ℕ, _+_, _*_, _-_, _/_, _%_, _≤_, _<_, min, _≡_, refl, ap, div-mul-le-self, div-add-mod', mod-lt, mul-le-mul-left, mul-le-mul, arith, Fits, w64}
-use Rattle.basis.specs.Limits.{mostProcessors}
-use Rattle.sheet.specs.declared.row.Row.{Row}
-use Rattle.bound.specs.Quantities.{widestRows, widestSeparation, slots, on}
-use Rattle.bound.specs.Test.{x, W, durationOf}
-use Rattle.bound.specs.Inside.Ready.{Above, Spans}
-use Rattle.bound.specs.Inside.Skipping.{stayOf}
-use Rattle.bound.specs.declared.quantity.Duration.{Duration}
-use Rattle.bound.specs.declared.quantity.Amount.{Amount}
-use Rattle.bound.specs.declared.quantity.FineAmount.{FineAmount}
+use Rattle.bound.proofs.Names.{mostProcessors, Row, widestRows, widestSeparation, slots, on, x, W, durationOf, Above, Spans, stayOf, Duration, Amount, FineAmount}
 
 -- equal quantities have equal numbers, and amounts of equal numbers are equal
 pub number : {a b : Duration} → a ≡ b → a .0 ≡ b .0

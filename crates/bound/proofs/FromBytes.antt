@@ -1,26 +1,13 @@
--- Bytes read and judged: what is known at each step, and each way out.
--- Assumes nothing.
+-- Bytes read and judged: what is known at each step, and each way out. Assumes nothing.
 use Rattle.basis.specs.Prelude.{ℕ, _+_, _*_, _≤_, _<_, _≡_, refl, sym, ap, _∙_, Bool, true, false, List, arith, length, take, length-take-le, lt-leb, le-leb, w64, Fits}
-use Rattle.basis.specs.Limits.{mostRows}
-use Rattle.basis.specs.Upto.{upto}
-use Rattle.basis.specs.Refusals.{Outcome, accepted, refused, outcome, orElse, roomFor}
+use Rattle.bound.proofs.Names.{mostRows, upto, Outcome, accepted, refused, outcome, orElse, roomFor, room-holds, handed-found, handed-done, handed-outcome, length-upto, legal, sheetIn, sheetLong, legal-is, labelsLong, readInto, Judgement, passes, Answer, resultOf, holds, boundsOf, resultsLong, resultCell, words, wordAt, judgedBytes}
 use Rattle.basis.specs.declared.refusal.Refusal.{Refusal}
 use Rattle.basis.specs.declared.refusal.Refusal.the-variants.{Accepted, Refused}
 use Rattle.basis.proofs.Inside.FirstRefusal.{both-accepted}
-use Rattle.basis.proofs.Refusals.{room-holds, handed-found, handed-done, handed-outcome}
-use Rattle.basis.proofs.Inside.Upto.{length-upto}
-use Rattle.sheet.specs.Legal.{legal}
-use Rattle.sheet.specs.Lists.{sheetIn, sheetLong}
-use Rattle.sheet.proofs.Legality.{legal-is}
 use Rattle.reader.specs.Answers.{reading, labelIn}
-use Rattle.reader.specs.Lists.{labelsLong, readInto}
 use Rattle.reader.specs.Inside.Steps.{partIn}
 use Rattle.reader.proofs.LentLists.{list-kept, labels-kept, list-has-room, labels-have-room, list-as-long, count-read, front-hands-over, sheet-is-legal, outcome-is-the-readers, parts-written, labels-as-long}
 use Rattle.reader.proofs.Inside.ZeroLists.{lists}
-use Rattle.bound.specs.declared.results.Judgement.{Judgement}
-use Rattle.bound.specs.Test.{passes}
-use Rattle.bound.specs.Bound.{Answer, resultOf, holds, boundsOf}
-use Rattle.bound.specs.Lists.{resultsLong, resultCell, words, wordAt, judgedBytes}
 use Rattle.bound.proofs.Answers.{legal-answer, judgement-same}
 use Rattle.bound.proofs.Lists.{word-there, word-comes-back}
 

@@ -15,3 +15,4 @@ pub mod Wrong
 pub mod Answers
 pub mod Load
 pub mod Inside
+mod Names

@@ -1,21 +1,7 @@
--- A list of results: what stands at its places, how it is put together, cleared past the rows and read back, and what `bounds_on` makes of it at each way out.
--- Assumes nothing.
+-- A list of results: what stands at its places, how it is put together, cleared past the rows and read back, and what `bounds_on` makes of it at each way out. Assumes nothing.
 use Rattle.basis.specs.Prelude.{ℕ, _+_, _*_, _≤_, _<_, _≡_, refl, sym, ap, _∙_, Bool, true, false, List, arith, le-refl, length, getD, set, replicate, length-set, length-replicate, ext-getD, eqb, le-leb, lt-leb, Fits, w64}
-use Rattle.basis.specs.Limits.{mostRows}
-use Rattle.basis.specs.Words.{pick}
-use Rattle.basis.specs.Upto.{upto}
-use Rattle.basis.specs.Refusals.{accepted, refused}
-use Rattle.basis.proofs.Inside.Upto.{upto-below, upto-past, length-upto}
-use Rattle.basis.proofs.Inside.Pairs.{first-cell, second-cell, pair-zero}
-use Rattle.basis.proofs.Inside.Lists.{getD-all}
-use Rattle.sheet.specs.Legal.{legal, Legal}
-use Rattle.sheet.specs.declared.row.Sheet.{Sheet}
-use Rattle.sheet.specs.Lists.{filled, sheetIn, clearedCell}
-use Rattle.sheet.proofs.Legality.{legal-is}
+use Rattle.bound.proofs.Names.{mostRows, pick, upto, accepted, refused, upto-below, upto-past, length-upto, first-cell, second-cell, pair-zero, getD-all, legal, Legal, Sheet, filled, sheetIn, clearedCell, legal-is, Test, passes, Word, bound, none, unreached, resultOf, allUnreached, holds, boundsBy, wordNumber, boundNumber, resultsLong, resultCell, resultsOn, boundsOn, words, putResult, wordAt}
 use Rattle.sheet.proofs.Inside.ClearedLists.{cleared-is-filled}
-use Rattle.bound.specs.Test.{Test, passes}
-use Rattle.bound.specs.Bound.{Word, bound, none, unreached, resultOf, allUnreached, holds, boundsBy}
-use Rattle.bound.specs.Lists.{wordNumber, boundNumber, resultsLong, resultCell, resultsOn, boundsOn, words, putResult, wordAt}
 
 -- ---- the words of a sheet
 

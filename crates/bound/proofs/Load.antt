@@ -1,15 +1,6 @@
--- A load that reaches q leaves nothing: where the rows above take, of every slot, as many processors as row k leaves them, no length passes.
--- Assumes nothing.
+-- A load that reaches q leaves nothing: where the rows above take, of every slot, as many processors as row k leaves them, no length passes. Assumes nothing.
 use Rattle.basis.specs.Prelude.{ℕ, _+_, _*_, _-_, _/_, _≤_, _<_, min, _≡_, false, ⊎-elim, mul-le-mul-left, mul-le-mul-right, le-of-mul-le-mul-right, div-mul-le-self, arith}
-use Rattle.basis.specs.Words.{sum}
-use Rattle.basis.proofs.Inside.Words.{lt-or-le}
-use Rattle.basis.proofs.Inside.Sums.{sum-weighed}
-use Rattle.sheet.specs.Legal.{rowAt, LegalRow}
-use Rattle.sheet.specs.declared.row.Sheet.{Sheet}
-use Rattle.bound.specs.Quantities.{slots}
-use Rattle.bound.specs.Test.{q, X, x, W, durationOf, amountOf, amounts, passes}
-use Rattle.bound.specs.Inside.Ready.{Ready}
-use Rattle.bound.specs.declared.quantity.Duration.{Duration}
+use Rattle.bound.proofs.Names.{sum, lt-or-le, sum-weighed, rowAt, LegalRow, Sheet, slots, q, X, x, W, durationOf, amountOf, amounts, passes, Ready, Duration}
 use Rattle.bound.proofs.Workload.{W-shares}
 use Rattle.bound.proofs.Amounts.{row, own-row, fails-where}
 

@@ -1,15 +1,7 @@
 -- What the definitions mean, for any test that looks at no lower row: a bound is the smallest length that passes, none is that no length passes, and not reached is
--- every row after the first none.
--- Assumes nothing.
+-- every row after the first none. Assumes nothing.
 use Rattle.basis.specs.Prelude.{ℕ, zero, suc, _+_, _*_, _≤_, _<_, _≡_, refl, sym, ap, _∙_, Bool, true, false, mul-le-mul, arith, ltb, lt-ltb}
-use Rattle.basis.specs.Words.{sum, allOf}
-use Rattle.basis.proofs.Inside.Words.{true-not-false, all-fails}
-use Rattle.sheet.specs.Legal.{rowAt, Legal}
-use Rattle.sheet.specs.declared.row.Sheet.{Sheet}
-use Rattle.bound.specs.Quantities.{slots}
-use Rattle.bound.specs.Test.{Test, q, X, amounts, room, passes}
-use Rattle.bound.specs.Bound.{Word, bound, none, unreached, isBound, valueOf, passesAt, boundBy, bounds, bounded, judge, resultsTo, resultOf, holds}
-use Rattle.bound.specs.declared.quantity.Duration.{Duration}
+use Rattle.bound.proofs.Names.{sum, allOf, true-not-false, all-fails, rowAt, Legal, Sheet, slots, Test, q, X, amounts, room, passes, Word, bound, none, unreached, isBound, valueOf, passesAt, boundBy, bounds, bounded, judge, resultsTo, resultOf, holds, Duration}
 use Rattle.bound.proofs.Inside.Lengths.{never, Smallest, least-hit, least-found, smallest-is-least, none-holds, none-is-least, least-never-unreached}
 use Rattle.bound.proofs.Amounts.{q-some, X-some, room-by-q}
 use Rattle.bound.proofs.Inside.Judging.{Local, result-where}

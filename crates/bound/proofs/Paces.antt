@@ -1,17 +1,6 @@
--- The pace at which the sum of the amounts grows with the length: what the loop over the rows above joins.
--- Assumes nothing.
+-- The pace at which the sum of the amounts grows with the length: what the loop over the rows above joins. Assumes nothing.
 use Rattle.basis.specs.Prelude.{ℕ, _+_, _*_, _-_, _%_, _≤_, _<_, min, _≡_, ap, Bool, true, false, mul-le-mul-right, arith, ltb, Fits, w64}
-use Rattle.basis.specs.Limits.{mostProcessors, mostSeparation}
-use Rattle.basis.specs.Words.{pick, sum}
-use Rattle.sheet.specs.Legal.{rowAt, LegalRow}
-use Rattle.sheet.specs.declared.row.Row.{Row}
-use Rattle.sheet.specs.declared.row.Sheet.{Sheet}
-use Rattle.bound.specs.Quantities.{widestRows, slots, plus, lesser}
-use Rattle.bound.specs.Test.{q, X, x, W, durationOf, amountOf, amounts}
-use Rattle.bound.specs.Inside.Ready.{Ready, Length}
-use Rattle.bound.specs.Inside.Skipping.{Paces, stayOf, joined}
-use Rattle.bound.specs.declared.quantity.Duration.{Duration}
-use Rattle.bound.specs.declared.pace.Pace.{Pace}
+use Rattle.bound.proofs.Names.{mostProcessors, mostSeparation, pick, sum, rowAt, LegalRow, Row, Sheet, widestRows, slots, plus, lesser, q, X, x, W, durationOf, amountOf, amounts, Ready, Length, Paces, stayOf, joined, Duration, Pace}
 use Rattle.bound.proofs.Durations.{number}
 use Rattle.bound.proofs.Workload.{W-runs-on}
 use Rattle.bound.proofs.Amounts.{row, q-small, amounts-more, amount-mono}

@@ -1,17 +1,6 @@
--- A straight line that a row's amount is never below along a stretch, for each of three ways to choose it: its own amounts, its shares, and level.
--- Assumes nothing.
+-- A straight line that a row's amount is never below along a stretch, for each of three ways to choose it: its own amounts, its shares, and level. Assumes nothing.
 use Rattle.basis.specs.Prelude.{ℕ, _+_, _*_, _-_, _%_, _≤_, min, _≡_, true, mul-le-mul-left, mul-le-mul-right, le-of-mul-le-mul-right, div-mul-le-self, mod-lt, arith, leb-true, leb, Fits, w64}
-use Rattle.basis.specs.Limits.{mostProcessors}
-use Rattle.basis.proofs.Inside.Workload.{lesser-evenly}
-use Rattle.sheet.specs.declared.row.Row.{Row}
-use Rattle.bound.specs.Quantities.{widestSeparation, slots, plus, on}
-use Rattle.bound.specs.Inside.Parts.{onFine}
-use Rattle.bound.specs.Test.{x, W, durationOf}
-use Rattle.bound.specs.Inside.Skipping.{shareOf, way, Along, RowMeets, lasts}
-use Rattle.bound.specs.declared.quantity.Duration.{Duration}
-use Rattle.bound.specs.declared.quantity.Amount.{Amount}
-use Rattle.bound.specs.declared.quantity.FineAmount.{FineAmount}
-use Rattle.bound.specs.declared.stretch.Stretch.{Stretch}
+use Rattle.bound.proofs.Names.{mostProcessors, lesser-evenly, Row, widestSeparation, slots, plus, on, onFine, x, W, durationOf, shareOf, way, Along, RowMeets, lasts, Duration, Amount, FineAmount, Stretch}
 use Rattle.bound.proofs.Durations.{most-fine}
 use Rattle.bound.proofs.Workload.{W-mono, W-shares, W-evenly}
 

@@ -1,20 +1,7 @@
--- Shares: in proportion to X, the amounts in a shorter length are no less than the shares in a longer one. So where these leave no room, no shorter length passes.
--- Assumes nothing.
+-- Shares: in proportion to X, the amounts in a shorter length are no less than the shares in a longer one. So where these leave no room, no shorter length passes. Assumes nothing.
 use Rattle.basis.specs.Prelude.{ℕ, _+_, _*_, _-_, _/_, _≤_, _<_, min, _≡_, sym, ap, _∙_, Bool, true, false, ⊎-elim, mul-le-mul-left, mul-le-mul-right, le-of-mul-le-mul-left, le-of-mul-le-mul-right, div-mul-le-self, arith, ltb-true, ltb, Fits, w64}
-use Rattle.basis.specs.Limits.{mostProcessors}
-use Rattle.basis.proofs.Inside.Words.{lt-or-le}
-use Rattle.sheet.specs.Legal.{rowAt, LegalRow}
-use Rattle.sheet.specs.declared.row.Row.{Row}
-use Rattle.sheet.specs.declared.row.Sheet.{Sheet}
-use Rattle.bound.specs.Quantities.{widestSeparation, slots}
-use Rattle.bound.specs.Inside.Parts.{parts, pieces, onFine}
-use Rattle.bound.specs.Test.{q, X, x, durationOf, amountOf, amounts, room}
-use Rattle.bound.specs.Inside.Ready.{Ready, Length}
-use Rattle.bound.specs.Inside.Skipping.{Skips, shareOf, Shares, AllFail}
-use Rattle.bound.specs.declared.quantity.Duration.{Duration}
-use Rattle.bound.specs.declared.quantity.Amount.{Amount}
+use Rattle.bound.proofs.Names.{mostProcessors, lt-or-le, rowAt, LegalRow, Row, Sheet, widestSeparation, slots, parts, pieces, onFine, q, X, x, durationOf, amountOf, amounts, room, Ready, Length, Skips, shareOf, Shares, AllFail, Duration, Amount, FineAmount}
 use Rattle.bound.specs.declared.quantity.Fine.{Fine}
-use Rattle.bound.specs.declared.quantity.FineAmount.{FineAmount}
 use Rattle.bound.proofs.Inside.Lengths.{never}
 use Rattle.bound.proofs.Durations.{number-in, most-fine}
 use Rattle.bound.proofs.Workload.{W-shares}

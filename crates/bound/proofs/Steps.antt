@@ -1,16 +1,6 @@
--- The step from a length that fails to the next that can pass: every length between fails.
--- Assumes nothing.
+-- The step from a length that fails to the next that can pass: every length between fails. Assumes nothing.
 use Rattle.basis.specs.Prelude.{ℕ, _+_, _*_, _-_, _≤_, min, max, _≡_, sym, _∙_, Bool, false, ⊎-elim, mul-le-mul-right, mul-le-mul-left, arith, ltb-false, ltb, Fits, w64}
-use Rattle.basis.specs.Limits.{mostProcessors}
-use Rattle.basis.proofs.Inside.Words.{lt-or-le}
-use Rattle.sheet.specs.declared.row.Sheet.{Sheet}
-use Rattle.bound.specs.Quantities.{widestRows, widestSeparation, slots, plus}
-use Rattle.bound.specs.Test.{q, X, amounts, room, passes}
-use Rattle.bound.specs.Inside.Ready.{Ready, Length}
-use Rattle.bound.specs.Inside.Skipping.{Skips, Paces, Steep}
-use Rattle.bound.specs.declared.quantity.Duration.{Duration}
-use Rattle.bound.specs.declared.quantity.Amount.{Amount}
-use Rattle.bound.specs.declared.pace.Pace.{Pace}
+use Rattle.bound.proofs.Names.{mostProcessors, lt-or-le, Sheet, widestRows, widestSeparation, slots, plus, q, X, amounts, room, passes, Ready, Length, Skips, Paces, Steep, Duration, Amount, Pace}
 use Rattle.bound.proofs.Durations.{number-of}
 use Rattle.bound.proofs.Amounts.{few-rows, amounts-mono, amounts-small, q-some, length-small, room-by-q, fails-where}
 use Rattle.bound.proofs.Paces.{X-more}

@@ -1,18 +1,7 @@
 -- A stretch of lengths is decided at its two ends: where the sum of straight lines that the rows above are never below reaches the room at both, every length between
--- fails; and the step over such a stretch.
--- Assumes nothing.
+-- fails; and the step over such a stretch. Assumes nothing.
 use Rattle.basis.specs.Prelude.{ℕ, _+_, _*_, _-_, _≤_, _<_, _≡_, sym, _∙_, Bool, true, false, mul-le-mul-left, le-of-mul-le-mul-left, arith, ltb-true, ltb, Fits, w64}
-use Rattle.sheet.specs.Legal.{rowAt}
-use Rattle.sheet.specs.declared.row.Row.{Row}
-use Rattle.sheet.specs.declared.row.Sheet.{Sheet}
-use Rattle.bound.specs.Quantities.{widestSeparation, slots, plus}
-use Rattle.bound.specs.Test.{q, X, amountOf, room}
-use Rattle.bound.specs.Inside.Ready.{Ready, Length}
-use Rattle.bound.specs.Inside.Skipping.{Skips, way, Stretches, Along, amountAlong, RowMeets, RowsMeet, AllFail}
-use Rattle.bound.specs.declared.quantity.Duration.{Duration}
-use Rattle.bound.specs.declared.quantity.Amount.{Amount}
-use Rattle.bound.specs.declared.quantity.FineAmount.{FineAmount}
-use Rattle.bound.specs.declared.stretch.Stretch.{Stretch}
+use Rattle.bound.proofs.Names.{rowAt, Row, Sheet, widestSeparation, slots, plus, q, X, amountOf, room, Ready, Length, Skips, way, Stretches, Along, amountAlong, RowMeets, RowsMeet, AllFail, Duration, Amount, FineAmount, Stretch}
 use Rattle.bound.specs.declared.stretch.Ends.{Ends}
 use Rattle.bound.proofs.Inside.Lengths.{never}
 use Rattle.bound.proofs.Durations.{number, number-in}

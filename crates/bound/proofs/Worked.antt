@@ -1,12 +1,6 @@
--- Cases A to F hold of the definitions.
--- Assumes nothing.
+-- Cases A to F hold of the definitions. Assumes nothing.
 use Rattle.basis.specs.Prelude.{refl}
-use Rattle.basis.specs.Words.{allOf, sum, Each}
-use Rattle.basis.specs.Upto.{upto}
-use Rattle.sheet.specs.Legal.{legalRow, legalAt, legal}
-use Rattle.tables.specs.Tables.{fixedSheet}
-use Rattle.bound.specs.Test.{q, X, x, W, durationOf, amountOf, amounts, room, passes}
-use Rattle.bound.specs.Bound.{least, boundBy, judge, resultsTo, resultOf, holds, boundsBy}
+use Rattle.bound.proofs.Names.{allOf, sum, Each, upto, legalRow, legalAt, legal, fixedSheet, q, X, x, W, durationOf, amountOf, amounts, room, passes, least, boundBy, judge, resultsTo, resultOf, holds, boundsBy}
 use Rattle.bound.specs.Cases.{cases, Right}
 
 pub cases-are-right : Each Right cases

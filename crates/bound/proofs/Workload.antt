@@ -1,11 +1,7 @@
--- The workload W is that of basis: it never falls, grows by one with each slot in which its present job runs, and is no less than its share.
--- Assumes nothing.
+-- The workload W is that of basis: it never falls, grows by one with each slot in which its present job runs, and is no less than its share. Assumes nothing.
 use Rattle.basis.specs.Prelude.{ℕ, _+_, _-_, _*_, _%_, _≤_, min}
 use Rattle.basis.specs.Workload.{ω}
-use Rattle.basis.proofs.Inside.Workload.{ω-mono, ω-runs-on, ω-shares, ω-evenly, ω-least}
-use Rattle.sheet.specs.declared.row.Row.{Row}
-use Rattle.bound.specs.Quantities.{slots}
-use Rattle.bound.specs.Test.{W}
+use Rattle.bound.proofs.Names.{ω-mono, ω-runs-on, ω-shares, ω-evenly, ω-least, Row, slots, W}
 
 module _ (row : Row) (pos : 1 ≤ row .separation) (fits : row .budget ≤ row .separation) where
   pub W-mono : (x y : ℕ) → x ≤ y → W row (slots x) .0 ≤ W row (slots y) .0

@@ -1,22 +1,11 @@
--- Wrong bounds are shut out: on a named sheet no answer with the fault meets the promise.
--- Assumes nothing.
+-- Wrong bounds are shut out: on a named sheet no answer with the fault meets the promise. Assumes nothing.
 use Rattle.basis.specs.Prelude.{ℕ, _≡_, refl, Bool, List, [], _∷_, arith, getD}
-use Rattle.basis.specs.Words.{allOf, sum}
+use Rattle.bound.proofs.Names.{allOf, sum, upto, pairCell, Outcome, legalRow, legalAt, legal, rowIn, sheetIn, filled, Sheet, intoLists, readInto, q, X, x, W, durationOf, amountOf, amounts, room, passes, unreached, least, boundBy, judge, resultsTo, resultOf, holds, Answer, boundsBy, boundsOf, boundNumber, resultCell, resultsOn, boundsOn, judgedBytes, sheetA, sheetC, sheetE, sheetF}
 use Rattle.basis.specs.Readers.{begins}
-use Rattle.basis.specs.Upto.{upto, pairCell}
-use Rattle.basis.specs.Refusals.{Outcome}
 use Rattle.basis.specs.Faults.{NoneMeets}
 use Rattle.basis.proofs.Faults.{apart, numberOf, bit}
-use Rattle.sheet.specs.Legal.{legalRow, legalAt, legal}
 use Rattle.sheet.specs.Values.{noSheet}
-use Rattle.sheet.specs.Lists.{rowIn, sheetIn, filled}
-use Rattle.sheet.specs.declared.row.Sheet.{Sheet}
 use Rattle.reader.specs.Form.{headBy, sheetBy}
-use Rattle.reader.specs.Lists.{intoLists, readInto}
-use Rattle.bound.specs.Test.{q, X, x, W, durationOf, amountOf, amounts, room, passes}
-use Rattle.bound.specs.Bound.{unreached, least, boundBy, judge, resultsTo, resultOf, holds, Answer, boundsBy, boundsOf}
-use Rattle.bound.specs.Lists.{boundNumber, resultCell, resultsOn, boundsOn, judgedBytes}
-use Rattle.tables.specs.Tables.{sheetA, sheetC, sheetE, sheetF}
 use Rattle.bound.proofs.FromBytes.{Found}
 use Rattle.bound.specs.Wrong.{withoutCap, shortX, insideOnly, orEqual, alwaysNone, alwaysDeadline, judgedOn, goesOn, refusedHolds, refusedBy16, listUntouched, pastLeft, roomIgnored, clearedOnRefusal, threeRows, afterNone, listF}
 

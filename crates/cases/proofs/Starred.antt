@@ -1,5 +1,4 @@
--- Every starred case is right: one statement over one list.
--- Assumes nothing.
+-- Every starred case is right: one statement over one list. Assumes nothing.
 use Rattle.basis.specs.Words.{Each}
 use Rattle.numbers.proofs.Cases.{case-I}
 use Rattle.bound.proofs.Worked.{cases-are-right}

@@ -1,9 +1,6 @@
--- What a program hands on of the buffers that it lends: the part that was written is in the buffer, and is the whole text.
--- Assumes nothing.
+-- What a program hands on of the buffers that it lends: the part that was written is in the buffer, and is the whole text. Assumes nothing.
 use Rattle.basis.specs.Prelude.{ℕ, _≤_, min, _≡_, refl, sym, ap, _∙_, List, _++_, arith, length, take, drop, length-append, length-take, length-drop, length-replicate, length-take-le, take-at}
-use Rattle.dashboard.specs.Texts.{verdictText, referenceText}
-use Rattle.page.specs.Pages.{Page, written}
-use Rattle.dashboard.specs.Longest.{textSize, textBuffer}
+use Rattle.dashboard.proofs.Names.{verdictText, referenceText, Page, written, textSize, textBuffer}
 use Rattle.dashboard.proofs.TextLengths.{verdict-is-whole, reference-is-whole}
 
 module _ (text buffer after : List ℕ) (n : ℕ) (e : (after, n) ≡ written text buffer) where

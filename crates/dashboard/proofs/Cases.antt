@@ -1,18 +1,6 @@
--- The worked verdicts and the whole reference hold of the definitions.
--- Assumes nothing.
+-- The worked verdicts and the whole reference hold of the definitions. Assumes nothing.
 use Rattle.basis.specs.Prelude.{_≡_, refl, [], _∷_, _++_}
-use Rattle.basis.specs.Words.{allOf, sum}
-use Rattle.basis.specs.Readers.{begins}
-use Rattle.numbers.specs.Numbers.{groups, upToBy}
-use Rattle.reader.specs.Form.{plain, labelBy, entryBy, entriesBy, bodyBy, headBy, sheetBy, labelHead}
-use Rattle.reader.specs.Answers.{labelIn}
-use Rattle.bound.specs.Test.{q, X, x, W, durationOf, amountOf, amounts, room, passes}
-use Rattle.bound.specs.Bound.{least, boundBy, judge, resultsTo, resultOf, holds}
-use Rattle.tables.specs.Tables.{fixedSheet}
-use Rattle.page.specs.Decimals.{digits, decimal}
-use Rattle.dashboard.specs.Words.{resultWords, lineStart, line, refusedBy, noVerdict}
-use Rattle.dashboard.specs.Labels.{ownLabel, numbered}
-use Rattle.dashboard.specs.Texts.{lines, board, verdictText, section, sections, referenceText}
+use Rattle.dashboard.proofs.Names.{allOf, sum, begins, groups, upToBy, plain, labelBy, entryBy, entriesBy, bodyBy, headBy, sheetBy, labelHead, labelIn, q, X, x, W, durationOf, amountOf, amounts, room, passes, least, boundBy, judge, resultsTo, resultOf, holds, fixedSheet, digits, decimal, resultWords, lineStart, line, refusedBy, noVerdict, ownLabel, numbered, lines, board, verdictText, section, sections, referenceText}
 use Rattle.dashboard.specs.Cases.{rollAndTrim, rollAndTrimText, sevenAt23, reference}
 
 -- sheet C with labels roll and trim

@@ -1,17 +1,6 @@
--- The bytes that a program reads decide the text.
--- Assumes nothing.
+-- The bytes that a program reads decide the text. Assumes nothing.
 use Rattle.basis.specs.Prelude.{ℕ, _+_, _≤_, _<_, _≡_, refl, sym, ap, _∙_, ⊎-elim, List, arith, length, take, take-all}
-use Rattle.basis.specs.Refusals.{Outcome, accepted}
-use Rattle.basis.specs.Readers.{Step, ok, refuse}
-use Rattle.basis.proofs.Inside.Words.{lt-or-le}
-use Rattle.numbers.specs.Numbers.{spelt, width}
-use Rattle.reader.specs.Form.{Held, sheet}
-use Rattle.reader.specs.Answers.{readingOf, reading}
-use Rattle.reader.specs.Longest.{longestRow, longestSheet}
-use Rattle.sheet.specs.declared.row.Sheet.{Sheet}
-use Rattle.reader.proofs.Reach.{accepted-is-short, first-bytes-decide}
-use Rattle.dashboard.specs.Texts.{verdictText}
-use Rattle.dashboard.specs.Longest.{inputSize}
+use Rattle.dashboard.proofs.Names.{Outcome, accepted, Step, ok, refuse, lt-or-le, spelt, width, Held, sheet, readingOf, reading, longestRow, longestSheet, Sheet, accepted-is-short, first-bytes-decide, verdictText, inputSize}
 use Rattle.dashboard.proofs.Outcomes.{refused-prints-one-line, by-outcome}
 
 -- 871 bytes at these limits

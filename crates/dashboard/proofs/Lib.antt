@@ -9,3 +9,4 @@ pub mod Verdicts
 pub mod Wrong
 pub mod LongestText
 pub mod Inside
+mod Names

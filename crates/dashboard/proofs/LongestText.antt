@@ -1,22 +1,9 @@
--- A text as long as the longest: that of thirty-two rows with the longest labels, each of which is bounded by the largest separation.
--- Assumes nothing.
+-- A text as long as the longest: that of thirty-two rows with the longest labels, each of which is bounded by the largest separation. Assumes nothing.
 use Rattle.basis.specs.Prelude.{ℕ, zero, suc, _+_, _*_, _-_, _≤_, _<_, min, _≡_, refl, ap, ap₂, _∙_, true, List, _++_, arith, mul-le-mul, length, getD, replicate, length-append, length-replicate, lt-ltb}
-use Rattle.basis.specs.Limits.{mostProcessors, mostRows, longestLabel, mostSeparation}
-use Rattle.basis.specs.Words.{sum, allOf}
-use Rattle.basis.proofs.Inside.Sums.{sum-le, sum-most}
-use Rattle.sheet.specs.Legal.{noRow, rowAt}
+use Rattle.dashboard.proofs.Names.{mostProcessors, mostRows, longestLabel, mostSeparation, sum, allOf, sum-le, sum-most, noRow, rowAt, Sheet, q, X, x, W, durationOf, amountOf, amounts, passes, bound, bounds, resultOf, holds, Reached, smallest-is-bound, passing-is-less, passes-local, row, sheetOf, resultWords, lineStart, line, lines, board, longestLine, longestText}
 use Rattle.sheet.specs.Values.{noRows}
 use Rattle.sheet.specs.declared.row.Row.{Row}
-use Rattle.sheet.specs.declared.row.Sheet.{Sheet}
 use Rattle.bound.specs.Quantities.{slots}
-use Rattle.bound.specs.Test.{q, X, x, W, durationOf, amountOf, amounts, passes}
-use Rattle.bound.specs.Bound.{bound, bounds, resultOf, holds}
-use Rattle.bound.proofs.Meaning.{Reached, smallest-is-bound, passing-is-less}
-use Rattle.bound.proofs.Inside.Judging.{passes-local}
-use Rattle.tables.specs.Tables.{row, sheetOf}
-use Rattle.dashboard.specs.Words.{resultWords, lineStart, line}
-use Rattle.dashboard.specs.Texts.{lines, board}
-use Rattle.dashboard.specs.Longest.{longestLine, longestText}
 
 -- one thread that runs from one release to the next
 abbrev always : Row

@@ -1,21 +1,7 @@
--- NO VERDICT: the number after it is 1 to 9, and no row is printed of a sheet that the reader refuses.
--- Assumes nothing.
+-- NO VERDICT: the number after it is 1 to 9, and no row is printed of a sheet that the reader refuses. Assumes nothing.
 use Rattle.basis.specs.Prelude.{ℕ, zero, suc, _≤_, _<_, _≡_, refl, sym, ap, _∙_, List, _∷_, _++_, arith, length, getD, drop}
-use Rattle.basis.specs.Refusals.{accepted, refused}
-use Rattle.sheet.specs.Legal.{rowAt}
-use Rattle.reader.specs.Answers.{reading}
-use Rattle.sheet.specs.declared.row.Sheet.{Sheet}
-use Rattle.reader.proofs.LegalSheets.{accepted-is-legal}
-use Rattle.sheet.proofs.Legality.{legal-is}
-use Rattle.reader.proofs.Reach.{refusal-is-listed}
-use Rattle.bound.specs.Test.{passes}
-use Rattle.bound.specs.Bound.{Word, resultOf, holds, Answer, boundsOf}
+use Rattle.dashboard.proofs.Names.{accepted, refused, rowAt, reading, Sheet, accepted-is-legal, legal-is, refusal-is-listed, passes, Word, resultOf, holds, Answer, boundsOf, digits, decimal, space, newline, lineStart, line, ending, noVerdictWord, refusedBy, noVerdict, ownLabel, lines, board, verdictText, Reported, NoVerdict}
 use Rattle.bound.proofs.Answers.{legal-answer}
-use Rattle.page.specs.Decimals.{digits, decimal}
-use Rattle.dashboard.specs.Words.{space, newline, lineStart, line, ending, noVerdictWord, refusedBy, noVerdict}
-use Rattle.dashboard.specs.Labels.{ownLabel}
-use Rattle.dashboard.specs.Texts.{lines, board, verdictText}
-use Rattle.dashboard.specs.Meaning.{Reported, NoVerdict}
 use Rattle.dashboard.proofs.Outcomes.{accepted-prints-its-rows, refused-prints-one-line, by-outcome}
 
 -- the text of a sheet with a row begins with the digit of row 0

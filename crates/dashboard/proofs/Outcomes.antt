@@ -1,11 +1,6 @@
--- The text by what the reader says: the lines of the sheet, or the one line of a refusal.
--- Assumes nothing.
+-- The text by what the reader says: the lines of the sheet, or the one line of a refusal. Assumes nothing.
 use Rattle.basis.specs.Prelude.{ℕ, _≡_, refl, ap, List}
-use Rattle.basis.specs.Refusals.{Outcome, accepted, refused}
-use Rattle.reader.specs.Answers.{reading}
-use Rattle.dashboard.specs.Words.{noVerdict}
-use Rattle.dashboard.specs.Labels.{ownLabel}
-use Rattle.dashboard.specs.Texts.{board, textOf, verdictText}
+use Rattle.dashboard.proofs.Names.{Outcome, accepted, refused, reading, noVerdict, ownLabel, board, textOf, verdictText}
 
 -- an accepted sheet prints its rows, and whether it holds
 pub accepted-prints-its-rows : (s : List ℕ) → reading s .0 ≡ accepted → verdictText s ≡ board (ownLabel s) (reading s .1)

@@ -1,10 +1,7 @@
--- Equal answers: two buffers, and two numbers of bytes, that a promise allows are the same.
--- Assumes nothing.
+-- Equal answers: two buffers, and two numbers of bytes, that a promise allows are the same. Assumes nothing.
 use Rattle.basis.specs.Prelude.{ℕ, _≡_, List}
 use Rattle.basis.proofs.Same.{same, pair-same}
-use Rattle.dashboard.specs.Texts.{verdictText, referenceText}
-use Rattle.dashboard.specs.Longest.{inputBuffer, textBuffer}
-use Rattle.page.specs.Pages.{written}
+use Rattle.dashboard.proofs.Names.{verdictText, referenceText, inputBuffer, textBuffer, written}
 
 module _ (buffer a b : List ℕ) (n m : ℕ) where
   -- `write_verdict`

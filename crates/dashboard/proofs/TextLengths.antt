@@ -1,30 +1,7 @@
--- How long a text can be: any is whole in the buffer that the programs lend.
--- Assumes nothing.
+-- How long a text can be: any is whole in the buffer that the programs lend. Assumes nothing.
 use Rattle.basis.specs.Prelude.{ℕ, zero, suc, _+_, _*_, _≤_, _<_, min, _≡_, refl, Bool, true, false, List, _++_, arith, length, drop, length-append, length-take, take-all}
-use Rattle.basis.specs.Limits.{mostRows, longestLabel, mostSeparation}
-use Rattle.basis.specs.Words.{sum}
-use Rattle.basis.proofs.Inside.Sums.{sum-grows}
-use Rattle.basis.specs.Refusals.{accepted}
-use Rattle.reader.specs.Form.{Held, sheet}
-use Rattle.sheet.specs.Legal.{Legal}
-use Rattle.reader.specs.Answers.{readingOf, reading, rowsRead}
-use Rattle.sheet.specs.declared.row.Sheet.{Sheet}
-use Rattle.reader.proofs.LegalSheets.{accepted-is-legal}
-use Rattle.sheet.proofs.Legality.{legal-is}
-use Rattle.reader.proofs.RowLabels.{label-of-row}
-use Rattle.basis.specs.Readers.{Step, ok, refuse}
-use Rattle.bound.specs.Test.{passes}
-use Rattle.bound.specs.Bound.{Word, bound, none, unreached, isBound, valueOf, resultOf, holds}
-use Rattle.bound.proofs.Meaning.{bound-in-range}
-use Rattle.bound.proofs.Inside.Judging.{passes-local}
-use Rattle.page.specs.Decimals.{digits, decimal, mostDigits}
-use Rattle.dashboard.specs.Words.{boundWord, resultWords, lineStart, line, holdsLine, ending, refusedBy, noVerdict}
-use Rattle.dashboard.specs.Labels.{ownLabel}
-use Rattle.dashboard.specs.Texts.{lines, board, verdictText, referenceText}
-use Rattle.page.specs.Pages.{written}
-use Rattle.dashboard.specs.Longest.{longestLine, longestText, textSize}
+use Rattle.dashboard.proofs.Names.{mostRows, longestLabel, mostSeparation, sum, sum-grows, accepted, Held, sheet, Legal, readingOf, reading, rowsRead, Sheet, accepted-is-legal, legal-is, label-of-row, Step, ok, refuse, passes, Word, bound, none, unreached, isBound, valueOf, resultOf, holds, bound-in-range, passes-local, digits, decimal, mostDigits, boundWord, resultWords, lineStart, line, holdsLine, ending, refusedBy, noVerdict, ownLabel, lines, board, verdictText, referenceText, written, longestLine, longestText, textSize, decimal-grows, decimal-is-short}
 use Rattle.dashboard.proofs.Cases.{reference-is}
-use Rattle.page.proofs.Digits.{decimal-grows, decimal-is-short}
 use Rattle.dashboard.proofs.Outcomes.{by-outcome, accepted-prints-its-rows, refused-prints-one-line}
 
 -- what the limits have to be: the bound of the longest line is no shorter than the word unreached, and the longest text is no shorter than a refusal

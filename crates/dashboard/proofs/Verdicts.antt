@@ -1,22 +1,9 @@
--- The last line is HOLDS exactly if the bytes are green, and then no job is ever late.
--- Assumes nothing.
+-- The last line is HOLDS exactly if the bytes are green, and then no job is ever late. Assumes nothing.
 use Rattle.basis.specs.Prelude.{ℕ, zero, suc, _+_, _<_, _≡_, refl, sym, ap, subst, _∙_, Bool, true, false, _⊎_, inl, inr, _↔_, List, [], _∷_, _++_, append-assoc, arith, length}
-use Rattle.basis.specs.Refusals.{accepted, isAccepted}
-use Rattle.basis.proofs.Inside.Words.{true-not-false, both-left, both-right}
-use Rattle.reader.specs.Answers.{reading}
-use Rattle.sheet.specs.declared.row.Sheet.{Sheet}
-use Rattle.reader.proofs.LegalSheets.{accepted-is-legal}
-use Rattle.bound.specs.Test.{passes}
-use Rattle.bound.specs.Bound.{Word, resultOf, holds}
+use Rattle.dashboard.proofs.Names.{accepted, isAccepted, true-not-false, both-left, both-right, reading, Sheet, accepted-is-legal, passes, Word, resultOf, holds, decimal, space, newline, resultWords, lineStart, line, holdsLine, ending, refusedBy, noVerdict, ownLabel, lines, board, verdictText, EndsIn, LastLine, last-digit}
 use Rattle.green.specs.Demand.{NoJobIsLate}
 use Rattle.green.specs.Green.{greenOf}
 use Rattle.green.proofs.Theorem.{no-job-is-late}
-use Rattle.page.specs.Decimals.{decimal}
-use Rattle.dashboard.specs.Words.{space, newline, resultWords, lineStart, line, holdsLine, ending, refusedBy, noVerdict}
-use Rattle.dashboard.specs.Labels.{ownLabel}
-use Rattle.dashboard.specs.Texts.{lines, board, verdictText}
-use Rattle.dashboard.specs.Meaning.{EndsIn, LastLine}
-use Rattle.page.proofs.Digits.{last-digit}
 use Rattle.dashboard.proofs.Inside.Lists.{ends-same}
 use Rattle.dashboard.proofs.Outcomes.{accepted-prints-its-rows, refused-prints-one-line, by-outcome}
 

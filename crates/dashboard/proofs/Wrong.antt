@@ -1,23 +1,8 @@
--- No text by a wrong rule meets the promise of `write_verdict` or of `write_reference`, and no other buffer that of the programs' two.
--- Assumes nothing.
+-- No text by a wrong rule meets the promise of `write_verdict` or of `write_reference`, and no other buffer that of the programs' two. Assumes nothing.
 use Rattle.basis.specs.Prelude.{ℕ, refl, List, length, getD}
-use Rattle.basis.specs.Words.{allOf, sum}
-use Rattle.basis.specs.Readers.{begins}
+use Rattle.dashboard.proofs.Names.{allOf, sum, begins, groups, upToBy, spelt, width, plain, labelBy, entryBy, entriesBy, bodyBy, headBy, sheetBy, labelHead, labelIn, longestRow, longestSheet, q, X, x, W, durationOf, amountOf, amounts, room, passes, least, boundBy, judge, resultsTo, resultOf, holds, fixedSheet, digits, decimal, resultWords, lineStart, line, refusedBy, noVerdict, ownLabel, numbered, lines, board, verdictText, section, sections, referenceText, Page, written, inputSize, inputBuffer, textBuffer}
 use Rattle.basis.specs.Faults.{NoneMeets}
 use Rattle.basis.proofs.Faults.{values-apart}
-use Rattle.numbers.specs.Numbers.{groups, upToBy, spelt, width}
-use Rattle.reader.specs.Form.{plain, labelBy, entryBy, entriesBy, bodyBy, headBy, sheetBy, labelHead}
-use Rattle.reader.specs.Answers.{labelIn}
-use Rattle.reader.specs.Longest.{longestRow, longestSheet}
-use Rattle.bound.specs.Test.{q, X, x, W, durationOf, amountOf, amounts, room, passes}
-use Rattle.bound.specs.Bound.{least, boundBy, judge, resultsTo, resultOf, holds}
-use Rattle.tables.specs.Tables.{fixedSheet}
-use Rattle.page.specs.Decimals.{digits, decimal}
-use Rattle.dashboard.specs.Words.{resultWords, lineStart, line, refusedBy, noVerdict}
-use Rattle.dashboard.specs.Labels.{ownLabel, numbered}
-use Rattle.dashboard.specs.Texts.{lines, board, verdictText, section, sections, referenceText}
-use Rattle.page.specs.Pages.{Page, written}
-use Rattle.dashboard.specs.Longest.{inputSize, inputBuffer, textBuffer}
 use Rattle.dashboard.specs.Wrong.{boardBy, textBy, alwaysHolds, placeZero, refusedIsEmpty, firstLabelAgain, digitLost, shortBounds, lastRowLost, sameSection, sameSections, sheetAEachTime, sheetLeftOut, inputOfOnes, textOfOnes, inputTooSmall, textTooSmall, sheetCBytes, blankCBytes, forty, fourHundred}
 
 -- the byte at a place of a written buffer, and how many bytes of a text were written

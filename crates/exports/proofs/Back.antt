@@ -1,15 +1,8 @@
--- What is read into a list comes back when the list is read.
--- Assumes nothing.
+-- What is read into a list comes back when the list is read. Assumes nothing.
 use Rattle.basis.specs.Prelude.{ℕ, _≡_, refl, Bool, true, false, List, length, leb, arith}
-use Rattle.basis.specs.Refusals.{Outcome, accepted, refused, orElse, needed, roomFor}
-use Rattle.basis.proofs.Refusals.{room-holds}
-use Rattle.reader.specs.Answers.{reading}
-use Rattle.reader.proofs.LegalSheets.{accepted-is-legal}
+use Rattle.exports.proofs.Names.{Outcome, accepted, refused, orElse, needed, roomFor, room-holds, reading, accepted-is-legal, rows-long, sheetIn, sheetLong, told, fieldsIn, readIn}
 use Rattle.reader.proofs.Reach.{refusal-is-listed}
-use Rattle.reader.proofs.Inside.ZeroLists.{rows-long}
 use Rattle.sheet.proofs.RoundTrip.{sheet-comes-back}
-use Rattle.sheet.specs.Lists.{sheetIn, sheetLong}
-use Rattle.exports.specs.Answers.{told, fieldsIn, readIn}
 
 -- What `giachimu_read` writes where it tells no refusal is the sheet that was read.
 module _ (s l : List ℕ) (none : readIn s l .0 .0 ≡ 0) where

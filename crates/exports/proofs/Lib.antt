@@ -6,3 +6,4 @@ pub mod Same
 pub mod Wrong
 pub mod WrongFurther
 pub mod Inside
+mod Names

@@ -1,21 +1,10 @@
--- Demand 3 for a machine kept in a list: its accepted slots since fresh are those of a history by value.
--- Assumes nothing.
+-- Demand 3 for a machine kept in a list: its accepted slots since fresh are those of a history by value. Assumes nothing.
 use Rattle.basis.specs.Prelude.{ℕ, _≡_, refl, sym, ap, ap₂, subst, _∙_, Bool, true, false, List, [], _∷_, _++_, append-nil, append-assoc, arith, length, take, leb, eqb, ne-eqb, eqb-true, eqb-false}
-use Rattle.basis.specs.Words.{pick}
-use Rattle.basis.specs.Refusals.{Outcome, accepted, refused, isAccepted, orElse, needed}
-use Rattle.reader.specs.Answers.{reading}
-use Rattle.sheet.specs.Legal.{legal}
-use Rattle.sheet.specs.Lists.{sheetIn}
-use Rattle.sheet.specs.declared.row.Sheet.{Sheet}
-use Rattle.machine.specs.States.{State}
-use Rattle.machine.specs.Answers.{fresh, slot}
-use Rattle.machine.specs.Lists.{stateLong, stateIn, freshOn, slotIn, runIn}
+use Rattle.exports.proofs.Names.{pick, Outcome, accepted, refused, isAccepted, orElse, needed, reading, legal, sheetIn, Sheet, State, fresh, slot, stateLong, stateIn, freshOn, slotIn, runIn, InTime, NoJobIsLate, told, readIn, freshIn, slotOn, runOn}
 use Rattle.machine.proofs.RefusalTable.{InTable, sheet-not-legal, list-not-whole, over-budget, too-soon, no-such-row, short-buffer, state-not-legal, Listed, slot-refusals}
 use Rattle.machine.proofs.StatesAfter.{fresh-on-state, slot-in-state, run-in-state}
 use Rattle.green.specs.Calls.{Call, Done, slotsOf, stateAfter, history, stateAfterAll, freshOf}
 use Rattle.green.specs.Calls as by-value
-use Rattle.green.specs.Demand.{InTime, NoJobIsLate}
-use Rattle.exports.specs.Answers.{told, readIn, freshIn, slotOn, runOn}
 use Rattle.exports.specs.ListCalls.{ListCall, make-fresh, one-slot, a-run, listAfter, slotsAfter, sinceFresh, NoListedJobIsLate}
 use Rattle.exports.proofs.Refusals.{refused-fresh-changes-nothing}
 use Rattle.exports.proofs.Back.{read-comes-back}

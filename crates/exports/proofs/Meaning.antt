@@ -1,8 +1,6 @@
--- What a sheet's list that hands over too little means: it is refused, since the sheet in it is not legal.
--- Assumes nothing.
+-- What a sheet's list that hands over too little means: it is refused, since the sheet in it is not legal. Assumes nothing.
 use Rattle.basis.specs.Prelude.{ℕ, _<_, _≡_, false, List, length, arith}
-use Rattle.sheet.specs.Legal.{legal}
-use Rattle.sheet.specs.Lists.{sheetIn}
+use Rattle.exports.proofs.Names.{legal, sheetIn}
 use Rattle.sheet.proofs.Ranges.{missing-rows-are-refused}
 
 -- A list of no number or of one hands over no sheet.

@@ -1,26 +1,8 @@
--- A refused call changes nothing that is lent: where the number told is not 0, every list and number is as it was.
--- Assumes nothing.
+-- A refused call changes nothing that is lent: where the number told is not 0, every list and number is as it was. Assumes nothing.
 use Rattle.basis.specs.Prelude.{ℕ, _/_, _≡_, refl, sym, ap, _∙_, List, length, eq-eqb}
 use lib.IntN.{ℤ}
-use Rattle.basis.specs.Words.{pick}
-use Rattle.basis.specs.Refusals.{Outcome, accepted, refused, orElse, needed, roomFor, handed, isAccepted}
-use Rattle.basis.specs.Readers.{Step, ok, refuse}
-use Rattle.numbers.specs.Numbers.{number, upTo}
-use Rattle.reader.specs.Answers.{reading}
-use Rattle.sheet.specs.declared.row.Sheet.{Sheet}
-use Rattle.bound.specs.Bound.{boundsOf}
-use Rattle.bound.specs.Lists.{resultsLong}
-use Rattle.machine.specs.Checks.{checkSlot, checkRun}
-use Rattle.machine.specs.Answers.{RunAnswer, runAnswer, MarginAnswer, no-job, margin-is, refused-by, fresh, nextState, nextCodes, slotBy, slot, course, run, margin}
-use Rattle.machine.specs.States.{State}
+use Rattle.exports.proofs.Names.{pick, Outcome, accepted, refused, orElse, needed, roomFor, handed, isAccepted, Step, ok, refuse, number, upTo, reading, Sheet, boundsOf, resultsLong, checkSlot, checkRun, RunAnswer, runAnswer, MarginAnswer, no-job, margin-is, refused-by, fresh, nextState, nextCodes, slotBy, slot, course, run, margin, State, verdictText, legal, sheetIn, sheetLong, fixedSheet, stateLong, stateIn, freshOn, slotListed, slotIn, runIn, told, verdictIn, fieldsIn, readIn, labelOutcome, labelAnswer, resultsIn, boundsIn, freshIn, slotTold, slotOn, runOn, marginGiven, marginIn, stepTold, numberOn, upToOn, fixedIn, boxBy, boxOf, boxOn}
 use Rattle.machine.proofs.SlotsDone.{Ends, all-done, stopped-at, run-ends, run-not-begun}
-use Rattle.dashboard.specs.Texts.{verdictText}
-use Rattle.sheet.specs.Legal.{legal}
-use Rattle.sheet.specs.Lists.{sheetIn, sheetLong}
-use Rattle.tables.specs.Tables.{fixedSheet}
-use Rattle.machine.specs.Lists.{stateLong, stateIn, freshOn, slotListed, slotIn, runIn}
-use Rattle.exports.specs.Answers.{told, verdictIn, fieldsIn, readIn, labelOutcome, labelAnswer, resultsIn, boundsIn, freshIn, slotTold, slotOn, runOn, marginGiven, marginIn}
-use Rattle.exports.specs.Further.{stepTold, numberOn, upToOn, fixedIn, boxBy, boxOf, boxOn}
 
 -- what is handed over where a number other than 0 is told
 kept : {A : Type 0} (o : Outcome) (done found : A) → (told o .0 ≡ 0 → ⊥) → handed o done found .1 ≡ found

@@ -1,14 +1,8 @@
--- Equal answers: any two answers that the promise of a call allows are equal.
--- Assumes nothing.
+-- Equal answers: any two answers that the promise of a call allows are equal. Assumes nothing.
 use Rattle.basis.specs.Prelude.{ℕ, _≡_, sym, _∙_, Bool, true, List}
 use lib.IntN.{ℤ}
-use Rattle.reader.specs.Answers.{reading}
-use Rattle.green.specs.Demand.{NoJobIsLate}
+use Rattle.exports.proofs.Names.{reading, NoJobIsLate, legal, sheetIn, numberOn, upToOn, fixedIn, boxOn, verdictIn, readIn, labelAnswer, boundsIn, freshIn, slotOn, runOn, marginIn}
 use Rattle.green.specs.Green.{greenOf}
-use Rattle.sheet.specs.Legal.{legal}
-use Rattle.sheet.specs.Lists.{sheetIn}
-use Rattle.exports.specs.Further.{numberOn, upToOn, fixedIn, boxOn}
-use Rattle.exports.specs.Answers.{verdictIn, readIn, labelAnswer, boundsIn, freshIn, slotOn, runOn, marginIn}
 
 -- `giachimu_read`: the number and the place, and the list.
 pub read-same : (s list : List ℕ) (a b : (ℕ × ℕ) × List ℕ) → a ≡ readIn s list → b ≡ readIn s list → a ≡ b

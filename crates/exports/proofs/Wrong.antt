@@ -1,35 +1,14 @@
--- Wrong answers of the calls for other programs are shut out: on the list or the bytes of sheet C, or on none, no answer with the fault meets the promise.
--- Assumes nothing.
+-- Wrong answers of the calls for other programs are shut out: on the list or the bytes of sheet C, or on none, no answer with the fault meets the promise. Assumes nothing.
 use Rattle.basis.specs.Prelude.{ℕ, refl, List, [], _∷_, arith, getD, replicate}
 use lib.IntN.{ℤ, pos, negsuc}
-use Rattle.basis.specs.Words.{allOf, sum}
-use Rattle.basis.specs.Readers.{begins}
-use Rattle.basis.specs.Refusals.{firstOf}
-use Rattle.basis.specs.Upto.{upto}
-use Rattle.basis.specs.Faults.{NoneMeets}
-use Rattle.basis.proofs.Faults.{apart}
-use Rattle.numbers.specs.Numbers.{groups, upToBy}
-use Rattle.sheet.specs.Legal.{legalRow, legalAt, legal}
-use Rattle.sheet.specs.Lists.{filled, rowIn, sheetIn, rowCell, listCell}
+use Rattle.exports.proofs.Names.{allOf, sum, begins, firstOf, upto, NoneMeets, apart, groups, upToBy, legalRow, legalAt, legal, filled, rowIn, sheetIn, rowCell, listCell, labelIn, holds, resultOf, resultsTo, judge, boundBy, least, boundsBy, legalJob, isZeroJob, released, fits, freeBelow, worked, older, aged, missed, ended, codeOf, checkRow, freeAt, checkReleases, checkState, checkRoom, checkSlot, checkRun, checkMargin, fresh, given, nextState, nextCodes, slot, course, run, marginAt, margin, recordIn, zeroAt, zeroFrom, stateIn, putRecord, putTo, putState, freshOn, slotIn, runIn, Page, written, verdictText, verdictIn, fieldsIn, readIn, labelAnswer, resultsIn, boundsIn, freshIn, slotOn, runOn, marginGiven, marginIn}
 use Rattle.reader.specs.Form.{plain, labelBy, entryBy, entriesBy, bodyBy, headBy, sheetBy, labelHead}
-use Rattle.reader.specs.Answers.{labelIn}
 use Rattle.bound.specs.Test.{passes, amounts, amountOf, durationOf, room, q, X, x, W}
-use Rattle.bound.specs.Bound.{holds, resultOf, resultsTo, judge, boundBy, least, boundsBy}
-use Rattle.records.specs.Records.{legalJob, isZeroJob}
-use Rattle.records.specs.Steps.{released, fits, freeBelow, worked, older, aged, missed, ended, codeOf}
-use Rattle.records.specs.Checks.{checkRow}
 use Rattle.machine.specs.States as states
-use Rattle.machine.specs.Slot.{freeAt}
-use Rattle.machine.specs.Checks.{checkReleases, checkState, checkRoom, checkSlot, checkRun, checkMargin}
-use Rattle.machine.specs.Answers.{fresh, given, nextState, nextCodes, slot, course, run, marginAt, margin}
-use Rattle.machine.specs.Lists.{recordIn, zeroAt, zeroFrom, stateIn, putRecord, putTo, putState, freshOn, slotIn, runIn}
 use Rattle.machine.specs.Wrong.{listC, freshListC}
-use Rattle.page.specs.Pages.{Page, written}
 use Rattle.page.specs.Decimals.{digits, decimal}
 use Rattle.dashboard.specs.Words.{refusedBy, noVerdict}
-use Rattle.dashboard.specs.Texts.{verdictText}
 use Rattle.green.specs.Wrong.{bytesC}
-use Rattle.exports.specs.Answers.{verdictIn, fieldsIn, readIn, labelAnswer, resultsIn, boundsIn, freshIn, slotOn, runOn, marginGiven, marginIn}
 use Rattle.exports.specs.Wrong.{toldZero, verdictCut, verdictUntold, readFilled, labelSwapped, boundsHold, freshListKept, slotStateKept, runOfOne, marginWithJob, marginOfZero}
 
 -- the number that is told

@@ -1,25 +1,7 @@
--- No answer by a wrong rule of the further calls meets their promises; that of `giachimu_legal` is that of `sheet::is_legal`, and so are its wrong answers.
--- Assumes nothing.
+-- No answer by a wrong rule of the further calls meets their promises; that of `giachimu_legal` is that of `sheet::is_legal`, and so are its wrong answers. Assumes nothing.
 use Rattle.basis.specs.Prelude.{ℕ, refl, List, getD}
-use Rattle.basis.specs.Words.{allOf}
-use Rattle.basis.specs.Refusals.{firstOf}
-use Rattle.basis.specs.Upto.{upto, pairCell}
-use Rattle.basis.specs.Faults.{NoneMeets}
-use Rattle.basis.proofs.Faults.{values-apart}
-use Rattle.numbers.specs.Numbers.{groups, upToBy}
-use Rattle.sheet.specs.Legal.{legal, legalAt, legalRow}
-use Rattle.sheet.specs.Lists.{filled, rowIn, sheetIn, rowCell, listCell}
-use Rattle.tables.specs.Tables.{fixedSheet}
-use Rattle.records.specs.Records.{legalJob, isZeroJob}
-use Rattle.records.specs.Steps.{released, fits, freeBelow, worked, older, aged, missed, ended, codeOf}
-use Rattle.records.specs.Checks.{checkRow}
-use Rattle.machine.specs.States.{freshState, legalState}
+use Rattle.exports.proofs.Names.{allOf, firstOf, upto, pairCell, NoneMeets, values-apart, groups, upToBy, legal, legalAt, legalRow, filled, rowIn, sheetIn, rowCell, listCell, fixedSheet, legalJob, isZeroJob, released, fits, freeBelow, worked, older, aged, missed, ended, codeOf, checkRow, freshState, legalState, freeAt, checkReleases, checkState, checkRoom, checkSlot, checkRun, fresh, given, nextState, nextCodes, slot, slotAt, onward, course, run, fieldsIn, stepTold, numberOn, upToOn, fixedIn, boxOf, boxOn}
 use Rattle.machine.specs.States as states
-use Rattle.machine.specs.Slot.{freeAt}
-use Rattle.machine.specs.Checks.{checkReleases, checkState, checkRoom, checkSlot, checkRun}
-use Rattle.machine.specs.Answers.{fresh, given, nextState, nextCodes, slot, slotAt, onward, course, run}
-use Rattle.exports.specs.Answers.{fieldsIn}
-use Rattle.exports.specs.Further.{stepTold, numberOn, upToOn, fixedIn, boxOf, boxOn}
 use Rattle.exports.specs.WrongFurther.{NumberTold, swapped, notTold, zerosWritten, eightAndSeven, sheetAAlways, cutOff, BoxTold, allCounted, stateKept, twoGroups, zeroLast, sevens, twoPlaces, listC, tooSoon, fourPlaces}
 
 -- the number and the value that are told

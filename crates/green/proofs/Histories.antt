@@ -1,17 +1,8 @@
--- The accepted slots of any calls are a chain: of one slot, of a run, and of calls one after another.
--- Assumes nothing.
+-- The accepted slots of any calls are a chain: of one slot, of a run, and of calls one after another. Assumes nothing.
 use Rattle.basis.specs.Prelude.{ℕ, zero, suc, _+_, _*_, _-_, _/_, _≤_, _<_, _≡_, refl, sym, ap, ap₂, subst, _∙_, List, [], _∷_, _++_, arith, mul-le-mul-right, add-one, length, take, drop, length-drop, take-append-drop, getD-take, length-take-le, take-append-le, drop-append-le, drop-at}
-use Rattle.basis.specs.Refusals.{Outcome, accepted, refused}
-use Rattle.basis.proofs.Inside.Upto.{upto-below}
-use Rattle.sheet.specs.declared.row.Sheet.{Sheet}
-use Rattle.machine.specs.States.{State}
-use Rattle.machine.specs.Slot.{code}
-use Rattle.machine.specs.Checks.{checkSlot, checkRun}
-use Rattle.machine.specs.Answers.{SlotAnswer, RunAnswer, slotAnswer, runAnswer, given, nextState, nextCodes, slotBy, slot, entriesOf, slotAt, onward, course, run}
+use Rattle.green.proofs.Names.{Outcome, accepted, refused, upto-below, Sheet, State, code, checkSlot, checkRun, SlotAnswer, RunAnswer, slotAnswer, runAnswer, given, nextState, nextCodes, slotBy, slot, entriesOf, slotAt, onward, course, run, legal-state-is, Call, one-slot, a-run, Done, slotDone, runDone, slotsOf, stateAfter, history, stateAfterAll}
 use Rattle.machine.proofs.Inside.Answers.{Accepted-slot, slot-shows}
 use Rattle.machine.proofs.Inside.Courses.{followed}
-use Rattle.machine.proofs.Inside.Legals.{legal-state-is}
-use Rattle.green.specs.Calls.{Call, one-slot, a-run, Done, slotDone, runDone, slotsOf, stateAfter, history, stateAfterAll}
 use Rattle.green.proofs.Inside.Chains.{Slotted, Chain, none, more, chain-append}
 
 -- an accepted slot, on any buffer that begins with its codes

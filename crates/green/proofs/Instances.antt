@@ -1,24 +1,8 @@
--- Demand 3 is not empty: sheets A, B, D, E and F are instances, and on sheet D a job of the lower row finishes in exactly its bound.
--- Assumes nothing.
+-- Demand 3 is not empty: sheets A, B, D, E and F are instances, and on sheet D a job of the lower row finishes in exactly its bound. Assumes nothing.
 use Rattle.basis.specs.Prelude.{_≡_, refl, [], _∷_}
-use Rattle.basis.specs.Words.{allOf, sum, Each}
-use Rattle.basis.specs.Refusals.{firstOf}
-use Rattle.basis.specs.Upto.{upto}
-use Rattle.sheet.specs.Legal.{legal, legalAt, legalRow}
+use Rattle.green.proofs.Names.{allOf, sum, Each, firstOf, upto, legal, legalAt, legalRow, bound, holds, resultOf, resultsTo, judge, boundBy, least, sheetA, sheetB, sheetD, sheetE, sheetF, freshState, legalState, legalJob, isZeroJob, released, fits, freeBelow, worked, older, aged, missed, ended, codeOf, freeAt, checkRow, checkReleases, checkState, checkRoom, checkSlot, checkRun, fresh, given, nextState, nextCodes, slot, slotAt, onward, course, run, freshOf, runDone, history, releaseIn, codeIn, NoJobIsLate, tight}
 use Rattle.bound.specs.Test.{passes, amounts, amountOf, durationOf, room, q, X, x, W}
-use Rattle.bound.specs.Bound.{bound, holds, resultOf, resultsTo, judge, boundBy, least}
-use Rattle.tables.specs.Tables.{sheetA, sheetB, sheetD, sheetE, sheetF}
-use Rattle.machine.specs.States.{freshState, legalState}
-use Rattle.records.specs.Records.{legalJob, isZeroJob}
 use Rattle.machine.specs.States as states
-use Rattle.records.specs.Steps.{released, fits, freeBelow, worked, older, aged, missed, ended, codeOf}
-use Rattle.machine.specs.Slot.{freeAt}
-use Rattle.records.specs.Checks.{checkRow}
-use Rattle.machine.specs.Checks.{checkReleases, checkState, checkRoom, checkSlot, checkRun}
-use Rattle.machine.specs.Answers.{fresh, given, nextState, nextCodes, slot, slotAt, onward, course, run}
-use Rattle.green.specs.Calls.{freshOf, runDone, history}
-use Rattle.green.specs.Demand.{releaseIn, codeIn, NoJobIsLate}
-use Rattle.green.specs.Tight.{tight}
 use Rattle.green.proofs.Theorem.{no-job-is-late}
 
 -- no job of these is ever late

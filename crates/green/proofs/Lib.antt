@@ -10,3 +10,4 @@ pub mod Soundness
 pub mod Wrong
 pub mod WrongAnswers
 pub mod Inside
+mod Names

@@ -1,26 +1,8 @@
--- From the machine's own slot to what the argument for green needs of a slot.
--- Assumes nothing.
+-- From the machine's own slot to what the argument for green needs of a slot. Assumes nothing.
 use Rattle.basis.specs.Prelude.{ℕ, zero, suc, _+_, _*_, _-_, _≤_, _<_, min, _≡_, refl, sym, ap, subst, _∙_, Bool, true, false, ⊎-elim, List, arith, getD, ltb, leb, ltb-true, lt-ltb, ne-eqb}
-use Rattle.basis.specs.Words.{pick, both}
-use Rattle.basis.specs.Refusals.{accepted}
+use Rattle.green.proofs.Names.{pick, both, accepted, sum-same, lt-or-le, rowAt, Row, Sheet, Job, RowState, State, recordAt, begun, free, runs, reached, released, fits, worked, older, aged, ended, checkAt, checkReleases, given, nextState, LegalState, next-at, release-allowed, older-below, older-full, ended-less, Moment, owed, age, Slot}
 use Rattle.basis.proofs.Inside.FirstRefusal.{first-at}
-use Rattle.basis.proofs.Inside.Sums.{sum-same}
-use Rattle.basis.proofs.Inside.Words.{lt-or-le}
-use Rattle.sheet.specs.Legal.{rowAt}
-use Rattle.sheet.specs.declared.row.Row.{Row}
-use Rattle.sheet.specs.declared.row.Sheet.{Sheet}
-use Rattle.records.specs.declared.record.Job.{Job}
-use Rattle.records.specs.declared.record.RowState.{RowState}
-use Rattle.machine.specs.States.{State, recordAt}
-use Rattle.machine.specs.Slot.{begun, free, runs, reached}
-use Rattle.records.specs.Steps.{released, fits, worked, older, aged, ended}
-use Rattle.machine.specs.Checks.{checkAt, checkReleases}
-use Rattle.machine.specs.Answers.{given, nextState}
-use Rattle.machine.proofs.Inside.Legals.{LegalState}
-use Rattle.machine.proofs.Inside.LegalSlots.{next-at}
 use Rattle.machine.proofs.Placement.{takenBy, processors-are-kept, waits-unfit}
-use Rattle.records.proofs.Inside.Records.{release-allowed, older-below, older-full, ended-less}
-use Rattle.green.specs.Inside.Model.{Moment, owed, age, Slot}
 use Rattle.green.proofs.Sheets.{rowsOf}
 
 -- a state as functions of the row number

@@ -1,26 +1,11 @@
 -- Demand 3: on a legal sheet whose first n rows have bounds, from a fresh machine, whatever calls follow, each of their jobs is finished within its row's bound and
--- none of their deadlines is missed; all rows have bounds where the sheet holds.
--- Assumes nothing.
+-- none of their deadlines is missed; all rows have bounds where the sheet holds. Assumes nothing.
 use Rattle.basis.specs.Prelude.{ℕ, _+_, _-_, _≤_, _<_, _≡_, sym, ap, _∙_, true, List, arith, replicate, length-replicate, le-ltb}
 use lib.IntN.{pos}
-use Rattle.basis.specs.Limits.{mostRows}
-use Rattle.basis.proofs.Inside.Upto.{upto-below}
-use Rattle.sheet.specs.Legal.{rowAt, legal}
-use Rattle.sheet.specs.declared.row.Sheet.{Sheet}
+use Rattle.green.proofs.Names.{mostRows, upto-below, rowAt, legal, Sheet, passes, isBound, valueOf, resultOf, holds, passes-local, bound-all, State, recordAt, freshAt, freshState, Job, RowState, noRecord, fresh, marginOf, Reached, Call, freshOf, history, stateAfterAll, NoJobIsLateTo, NoJobIsLate, Bounded}
 use Rattle.sheet.proofs.Legality.{legal-is}
-use Rattle.bound.specs.Test.{passes}
-use Rattle.bound.specs.Bound.{isBound, valueOf, resultOf, holds}
-use Rattle.bound.proofs.Inside.Judging.{passes-local, bound-all}
-use Rattle.machine.specs.States.{State, recordAt, freshAt, freshState}
-use Rattle.records.specs.declared.record.Job.{Job}
-use Rattle.records.specs.declared.record.RowState.{RowState}
-use Rattle.records.specs.Records.{noRecord}
-use Rattle.machine.specs.Answers.{fresh, marginOf}
 use Rattle.machine.proofs.Inside.Differences.{less-twice}
-use Rattle.green.specs.Inside.Model.{Reached}
 use Rattle.green.specs.Inside.Model as model
-use Rattle.green.specs.Calls.{Call, freshOf, history, stateAfterAll}
-use Rattle.green.specs.Demand.{NoJobIsLateTo, NoJobIsLate, Bounded}
 use Rattle.green.proofs.Sheets.{rowsOf, ranges, safe}
 use Rattle.green.proofs.Soundness.{within-bound}
 use Rattle.green.proofs.Slots.{momentOf}

@@ -1,34 +1,15 @@
--- Wrong answers of green and wrong histories are shut out: on the bytes of sheets C and D, and on runs of sheet D.
--- Assumes nothing.
+-- Wrong answers of green and wrong histories are shut out: on the bytes of sheets C and D, and on runs of sheet D. Assumes nothing.
 use Rattle.basis.specs.Prelude.{ℕ, zero, suc, _+_, _<_, _≡_, refl, List, [], _∷_, arith, length}
-use Rattle.basis.specs.Words.{allOf, sum}
+use Rattle.green.proofs.Names.{allOf, sum, firstOf, upto, legal, legalAt, legalRow, holds, resultOf, resultsTo, judge, boundBy, least, sheetD, legalJob, isZeroJob, released, fits, freeBelow, worked, older, aged, missed, ended, codeOf, checkRow, freshState, legalState, freeAt, checkReleases, checkState, checkRoom, checkSlot, checkRun, fresh, given, nextState, nextCodes, slot, slotAt, onward, course, run, Done, freshOf, runDone, history, codeIn, FinishedWithin, InTime, greenOf, boxDone, tight, bytesC, bytesD, alwaysGreen, neverGreen, greenIfRead, slotsOnce, slotsAll, historyBy, tooSoon, boxSwapped, oneSlotRan, StuckSlots, no-more, once-more, stuck}
 use Rattle.basis.specs.Readers.{begins}
-use Rattle.basis.specs.Refusals.{firstOf}
 use Rattle.basis.specs.declared.refusal.Refusal.the-variants.{Accepted}
-use Rattle.basis.specs.Upto.{upto}
 use Rattle.basis.specs.Faults.{NoneMeets}
 use Rattle.basis.proofs.Faults.{apart, bit}
 use Rattle.numbers.specs.Numbers.{groups, upToBy}
-use Rattle.sheet.specs.Legal.{legal, legalAt, legalRow}
 use Rattle.reader.specs.Form.{plain, labelBy, entryBy, entriesBy, bodyBy, headBy, sheetBy}
 use Rattle.bound.specs.Test.{passes, amounts, amountOf, durationOf, room, q, X, x, W}
-use Rattle.bound.specs.Bound.{holds, resultOf, resultsTo, judge, boundBy, least}
-use Rattle.tables.specs.Tables.{sheetD}
-use Rattle.records.specs.Records.{legalJob, isZeroJob}
-use Rattle.records.specs.Steps.{released, fits, freeBelow, worked, older, aged, missed, ended, codeOf}
-use Rattle.records.specs.Checks.{checkRow}
-use Rattle.machine.specs.States.{freshState, legalState}
 use Rattle.machine.specs.States as states
-use Rattle.machine.specs.Slot.{freeAt}
-use Rattle.machine.specs.Checks.{checkReleases, checkState, checkRoom, checkSlot, checkRun}
-use Rattle.machine.specs.Answers.{fresh, given, nextState, nextCodes, slot, slotAt, onward, course, run}
 use Rattle.states.specs.declared.state.State.{State as Value}
-use Rattle.green.specs.Calls.{Done, freshOf, runDone, history}
-use Rattle.green.specs.Demand.{codeIn, FinishedWithin, InTime}
-use Rattle.green.specs.Green.{greenOf}
-use Rattle.green.specs.Lent.{boxDone}
-use Rattle.green.specs.Tight.{tight}
-use Rattle.green.specs.Wrong.{bytesC, bytesD, alwaysGreen, neverGreen, greenIfRead, slotsOnce, slotsAll, historyBy, tooSoon, boxSwapped, oneSlotRan, StuckSlots, no-more, once-more, stuck}
 
 -- ---- `green`
 

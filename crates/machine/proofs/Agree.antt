@@ -1,13 +1,6 @@
--- Two sheets: rows 0 to k decide for rows 0 to k, and rows past n decide nothing.
--- Assumes nothing.
+-- Two sheets: rows 0 to k decide for rows 0 to k, and rows past n decide nothing. Assumes nothing.
 use Rattle.basis.specs.Prelude.{ℕ, _≤_, _<_, _≡_, refl, sym, ap, _∙_, List, length, getD, arith}
-use Rattle.basis.specs.Refusals.{accepted}
-use Rattle.basis.proofs.Inside.Upto.{upto-below}
-use Rattle.sheet.specs.declared.row.Sheet.{Sheet}
-use Rattle.machine.specs.States.{State, recordAt}
-use Rattle.machine.specs.Slot.{freeAt, Given, begun, free, runs, next, code}
-use Rattle.machine.specs.Checks.{checkSlot}
-use Rattle.machine.specs.Answers.{SlotAnswer, slotAnswer, given, nextState, nextCodes, slot}
+use Rattle.machine.proofs.Names.{accepted, upto-below, Sheet, State, recordAt, freeAt, Given, begun, free, runs, next, code, checkSlot, SlotAnswer, slotAnswer, given, nextState, nextCodes, slot}
 use Rattle.machine.proofs.Inside.Answers.{slot-shows}
 use Rattle.machine.proofs.Inside.Legals.{legal-state-is}
 use Rattle.machine.proofs.Inside.LegalSlots.{next-at}

@@ -1,28 +1,13 @@
--- What the margin of a job says of its deadline, in any continuation of accepted slots.
--- Assumes nothing.
+-- What the margin of a job says of its deadline, in any continuation of accepted slots. Assumes nothing.
 use Rattle.basis.specs.Prelude.{ℕ, zero, suc, _+_, _≤_, _<_, _≡_, sym, ap, _∙_, Bool, true, false, List, length, getD, arith, lt-ltb, eq-eqb}
 use lib.IntN.{pos}
 use lib.Signed.{_<ℤ_}
-use Rattle.basis.specs.Refusals.{accepted}
-use Rattle.basis.proofs.Inside.FirstRefusal.{first-at}
-use Rattle.sheet.specs.Legal.{rowAt}
-use Rattle.sheet.specs.declared.row.Row.{Row}
-use Rattle.sheet.specs.declared.row.Sheet.{Sheet}
-use Rattle.sheet.proofs.Legality.{legal-is}
-use Rattle.records.specs.declared.record.Job.{Job}
-use Rattle.records.specs.declared.record.RowState.{RowState}
-use Rattle.records.specs.Steps.{released, worked, aged, ended, codeOf}
-use Rattle.records.specs.Checks.{checkRow}
-use Rattle.machine.specs.States.{State, recordAt}
-use Rattle.machine.specs.Slot.{begun, runs}
-use Rattle.machine.specs.Checks.{checkAt, checkReleases}
-use Rattle.machine.specs.Answers.{SlotAnswer, slotAnswer, given, slot, marginOf}
+use Rattle.machine.proofs.Names.{accepted, first-at, rowAt, Row, Sheet, legal-is, Job, RowState, released, worked, aged, ended, codeOf, checkRow, State, recordAt, begun, runs, checkAt, checkReleases, SlotAnswer, slotAnswer, given, slot, marginOf, released-none, release-allowed, worked-near, worked-one, worked-none, older-below, ended-else, ended-since}
 use Rattle.machine.proofs.Agree.{slot-passed, record-after, code-after}
 use Rattle.machine.proofs.Inside.Answers.{Accepted-slot, slot-shows}
 use Rattle.machine.proofs.Inside.Legals.{legal-state-is}
 use Rattle.machine.proofs.Ranges.{negative-late, zero-just}
 use Rattle.records.proofs.Inside.Codes.{code-is}
-use Rattle.records.proofs.Inside.Records.{released-none, release-allowed, worked-near, worked-one, worked-none, older-below, ended-else, ended-since}
 
 -- n accepted slots one after another, with any releases and any room for codes
 pub record Continuation (h : Sheet) (n : ℕ) : Type 0 where

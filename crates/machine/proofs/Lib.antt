@@ -13,3 +13,4 @@ pub mod SlotsInPlace
 pub mod StatesAfter
 pub mod Wrong
 pub mod Inside
+mod Names

@@ -1,24 +1,8 @@
--- Sheets that are equal in m, n and rows 0 to n - 1 get equal answers of every function: rows past n are not looked at.
--- Assumes nothing.
+-- Sheets that are equal in m, n and rows 0 to n - 1 get equal answers of every function: rows past n are not looked at. Assumes nothing.
 use Rattle.basis.specs.Prelude.{ℕ, zero, suc, _*_, _/_, _%_, _<_, _≡_, refl, ap, ap₂, _∙_, Bool, List, _++_, ⊎-elim, length, getD, take, drop, replicate, ltb, eqb, arith, le-refl, lt-ltb, le-ltb}
-use Rattle.basis.specs.Limits.{mostRows, mostProcessors}
-use Rattle.basis.specs.Words.{pick, both, within}
-use Rattle.basis.specs.Refusals.{Outcome, accepted, refused, isAccepted, orElse, needed}
-use Rattle.basis.proofs.Inside.Words.{all-same, lt-or-le}
-use Rattle.basis.proofs.Inside.FirstRefusal.{first-same}
-use Rattle.sheet.specs.Legal.{noRow, rowAt, legalRow, legal, legalAt}
-use Rattle.sheet.specs.declared.row.Row.{Row}
-use Rattle.sheet.specs.declared.row.Sheet.{Sheet}
-use Rattle.records.specs.declared.record.RowState.{RowState}
-use Rattle.machine.specs.States.{State, noState, recordAt, stateOf, freshAt, freshState, legalRecordAt, legalState}
-use Rattle.records.specs.Records.{recordOf, noRecord, legalRecord}
-use Rattle.machine.specs.Slot.{next, code}
-use Rattle.records.specs.Checks.{checkRow}
-use Rattle.machine.specs.Checks.{checkAt, checkReleases, checkState, checkRoom, checkSlot, checkRun, checkMargin}
-use Rattle.machine.specs.Answers.{SlotAnswer, RunAnswer, freshAnswer, slotAnswer, runAnswer, fresh, given, nextState, nextCodes, slotBy, slot, entriesOf, slotAt, onward, course, run, MarginAnswer, marginAt, marginBy, margin}
+use Rattle.machine.proofs.Names.{mostRows, mostProcessors, pick, both, within, Outcome, accepted, refused, isAccepted, orElse, needed, all-same, lt-or-le, first-same, noRow, rowAt, legalRow, legal, legalAt, Row, Sheet, RowState, State, noState, recordAt, stateOf, freshAt, freshState, legalRecordAt, legalState, recordOf, noRecord, legalRecord, next, code, checkRow, checkAt, checkReleases, checkState, checkRoom, checkSlot, checkRun, checkMargin, SlotAnswer, RunAnswer, freshAnswer, slotAnswer, runAnswer, fresh, given, nextState, nextCodes, slotBy, slot, entriesOf, slotAt, onward, course, run, MarginAnswer, marginAt, marginBy, margin, upto-agree}
 use Rattle.machine.proofs.Inside.Courses.{followed}
 use Rattle.machine.proofs.Agree.{AgreeTo, next-agrees, code-agrees}
-use Rattle.basis.proofs.Inside.Upto.{upto-agree}
 
 -- equal in m, n and rows 0 to n - 1
 pub record Alike (h h′ : Sheet) : Type 0 where

@@ -1,13 +1,6 @@
--- Laws of placement: processors are kept, and rows and records that agree above row k leave as many free there.
--- Assumes nothing.
+-- Laws of placement: processors are kept, and rows and records that agree above row k leave as many free there. Assumes nothing.
 use Rattle.basis.specs.Prelude.{ℕ, zero, suc, _+_, _-_, _≤_, _<_, _≡_, refl, Bool, true, false, leb, leb-true, leb-false, arith}
-use Rattle.basis.specs.Words.{pick, sum}
-use Rattle.basis.proofs.Inside.Words.{both-right}
-use Rattle.sheet.specs.declared.row.Row.{Row}
-use Rattle.records.specs.declared.record.Job.{Job}
-use Rattle.records.specs.Records.{hasJob}
-use Rattle.records.specs.Steps.{fits, freeBelow}
-use Rattle.machine.specs.Slot.{freeAt, Given, begun, free, runs}
+use Rattle.machine.proofs.Names.{pick, sum, both-right, Row, Job, hasJob, fits, freeBelow, freeAt, Given, begun, free, runs}
 
 pub free-agrees : (m : ℕ) (p q : ℕ → Row) (a b : ℕ → Job) (k : ℕ) → ((i : ℕ) → i < k → p i ≡ q i) → ((i : ℕ) → i < k → a i ≡ b i) → freeAt m p a k ≡ freeAt m q b k
 unfolding freeAt

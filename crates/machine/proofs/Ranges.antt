@@ -1,16 +1,8 @@
--- The margin of a row with a job: its value, its range, and what negative and zero say in numbers.
--- Assumes nothing.
+-- The margin of a row with a job: its value, its range, and what negative and zero say in numbers. Assumes nothing.
 use Rattle.basis.specs.Prelude.{ℕ, suc, _+_, _-_, _≤_, _<_, _≡_, refl, Bool, true, false, cond, ltb, le→leb, ltb→lt, arith, lt-ltb, ltb-true, ltb-false}
 use lib.IntN.{pos, negsuc, subℕ, _-ℤ_}
 use lib.Signed.{_≤ℤ_, _<ℤ_}
-use Rattle.basis.specs.Refusals.{accepted}
-use Rattle.sheet.specs.Legal.{rowAt, LegalRow}
-use Rattle.sheet.specs.declared.row.Row.{Row}
-use Rattle.sheet.specs.declared.row.Sheet.{Sheet}
-use Rattle.records.specs.declared.record.Job.{Job}
-use Rattle.machine.specs.States.{State, recordAt}
-use Rattle.machine.specs.Checks.{checkMargin}
-use Rattle.machine.specs.Answers.{margin-is, marginOf, marginAt, margin}
+use Rattle.machine.proofs.Names.{accepted, rowAt, LegalRow, Row, Sheet, Job, State, recordAt, checkMargin, margin-is, marginOf, marginAt, margin}
 use Rattle.machine.proofs.Inside.Differences.{less, less-twice}
 use Rattle.machine.proofs.Inside.Legals.{LegalJob}
 

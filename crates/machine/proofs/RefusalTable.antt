@@ -1,17 +1,6 @@
--- Every refusal is the table's: its number, and its place.
--- Assumes nothing.
+-- Every refusal is the table's: its number, and its place. Assumes nothing.
 use Rattle.basis.specs.Prelude.{ℕ, zero, suc, _*_, _/_, _%_, _<_, _≡_, sym, Bool, true, false, List, length, getD, drop, ltb, leb, eqb, arith}
-use Rattle.basis.specs.Words.{pick}
-use Rattle.basis.specs.Refusals.{Outcome, accepted, refused, isAccepted, orElse, firstOf, needed}
-use Rattle.sheet.specs.Legal.{rowAt, legal}
-use Rattle.sheet.specs.declared.row.Row.{Row}
-use Rattle.sheet.specs.declared.row.Sheet.{Sheet}
-use Rattle.records.specs.declared.record.RowState.{RowState}
-use Rattle.machine.specs.States.{State, recordAt, legalState}
-use Rattle.records.specs.Records.{hasJob}
-use Rattle.records.specs.Checks.{checkRow}
-use Rattle.machine.specs.Checks.{checkAt, checkReleases, checkState, checkRoom, checkSlot, checkRun, checkMargin}
-use Rattle.machine.specs.Answers.{RunAnswer, fresh, slot, entriesOf, slotAt, onward, course, run, no-job, margin-is, refused-by, marginOf, marginAt, marginBy, margin}
+use Rattle.machine.proofs.Names.{pick, Outcome, accepted, refused, isAccepted, orElse, firstOf, needed, rowAt, legal, Row, Sheet, RowState, State, recordAt, legalState, hasJob, checkRow, checkAt, checkReleases, checkState, checkRoom, checkSlot, checkRun, checkMargin, RunAnswer, fresh, slot, entriesOf, slotAt, onward, course, run, no-job, margin-is, refused-by, marginOf, marginAt, marginBy, margin}
 use Rattle.machine.proofs.Inside.Courses.{followed}
 use Rattle.machine.proofs.Agree.{slot-outcome}
 

@@ -1,16 +1,8 @@
--- Equal answers: what an answer stands for is one value of the code, and any two answers that a promise allows are equal.
--- Assumes nothing.
+-- Equal answers: what an answer stands for is one value of the code, and any two answers that a promise allows are equal. Assumes nothing.
 use Rattle.basis.specs.Prelude.{ℕ, _≡_, refl, sym, ap, _∙_, List, arith}
-use Rattle.basis.specs.Refusals.{outcome}
-use Rattle.basis.specs.declared.refusal.Refusal.{Refusal}
-use Rattle.basis.proofs.Refusals.{outcome-one-to-one}
-use Rattle.sheet.specs.Lists.{sheetIn}
-use Rattle.machine.specs.declared.places.Done.{Done}
+use Rattle.machine.proofs.Names.{outcome, Refusal, outcome-one-to-one, sheetIn, Done, stateIn, freshOn, slotIn, runIn, ranIn, checkSlot, checkRun, FreshAnswer, SlotAnswer, RunAnswer, freshAnswer, slotAnswer, marginAnswer, margin}
 use Rattle.machine.specs.declared.margins.Margin.{Margin}
 use Rattle.machine.specs.declared.margins.Margin.the-variants.{NoJob, Is, Refused}
-use Rattle.machine.specs.Lists.{stateIn, freshOn, slotIn, runIn, ranIn}
-use Rattle.machine.specs.Checks.{checkSlot, checkRun}
-use Rattle.machine.specs.Answers.{FreshAnswer, SlotAnswer, RunAnswer, freshAnswer, slotAnswer, marginAnswer, margin}
 
 -- `fresh_on`: the refusal, and the list after it
 pub fresh-on-same : (sheet list : List ℕ) (a b : Refusal) (l m : List ℕ) → freshAnswer (outcome a) l ≡ freshOn (sheetIn sheet) list → freshAnswer (outcome b) m ≡ freshOn (sheetIn sheet) list → (a ≡ b) × (l ≡ m)

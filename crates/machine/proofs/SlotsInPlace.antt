@@ -1,25 +1,9 @@
--- The slot in place: what each turn and each way out shows, in the words of its invariant and of what it calls.
--- Assumes nothing.
+-- The slot in place: what each turn and each way out shows, in the words of its invariant and of what it calls. Assumes nothing.
 use Rattle.basis.specs.Prelude.{ℕ, _+_, _*_, _-_, _≤_, _<_, _≡_, refl, sym, ap, _∙_, true, List, length, getD, set, take, drop, arith, le-refl, add-one}
 use borrow.Rule.Slice.PartMut.{putMid}
-use Rattle.basis.specs.Refusals.{accepted, refused, outcome}
-use Rattle.basis.specs.declared.refusal.Refusal.{Refusal}
-use Rattle.basis.specs.declared.refusal.Refusal.the-variants.{Accepted, Refused}
-use Rattle.basis.specs.Upto.{upto}
-use Rattle.basis.proofs.Inside.Upto.{upto-set}
-use Rattle.sheet.specs.Legal.{rowAt, legal}
-use Rattle.sheet.specs.declared.row.Row.{Row}
-use Rattle.sheet.specs.declared.row.Sheet.{Sheet}
-use Rattle.sheet.proofs.Legality.{legal-is}
-use Rattle.records.specs.declared.record.RowState.{RowState}
-use Rattle.records.specs.Records.{recordOf}
-use Rattle.machine.specs.States.{State, stateOf, recordAt, legalState}
+use Rattle.machine.proofs.Names.{accepted, refused, outcome, Refusal, Accepted, Refused, upto, upto-set, rowAt, legal, Row, Sheet, legal-is, RowState, recordOf, State, stateOf, recordAt, legalState, freeAt, free, next, code, checkReleases, checkSlot, SlotAnswer, slotAnswer, given, nextState, nextCodes, slotAt, recordIn, stateIn, putRecord, putTo, putState, slotListed, slotIn}
 use Rattle.records.specs.declared.steps.Placed.{Placed}
-use Rattle.machine.specs.Slot.{freeAt, free, next, code}
-use Rattle.machine.specs.Checks.{checkReleases, checkSlot}
-use Rattle.machine.specs.Answers.{SlotAnswer, slotAnswer, given, nextState, nextCodes, slotAt}
 use Rattle.records.specs.Methods.{begunRow, steppedRow}
-use Rattle.machine.specs.Lists.{recordIn, stateIn, putRecord, putTo, putState, slotListed, slotIn}
 use Rattle.machine.proofs.Inside.Answers.{Accepted-slot, slot-shows, slot-is-refused, slot-is-accepted}
 use Rattle.machine.proofs.Inside.Courses.{slot-at-accepted}
 use Rattle.machine.proofs.Inside.LegalSlots.{next-at, next-legal}

@@ -1,24 +1,6 @@
--- The state that a list hands over after each call on it: the fresh state, and the state after a slot and after a run by value.
--- Assumes nothing.
+-- The state that a list hands over after each call on it: the fresh state, and the state after a slot and after a run by value. Assumes nothing.
 use Rattle.basis.specs.Prelude.{ℕ, _/_, _≤_, _≡_, refl, sym, ap, _∙_, Bool, true, false, List, ⊎-elim, length, replicate, List·getD-eq-default, leb, eqb, arith, le-leb, eq-eqb, leb-true, eqb-true}
-use Rattle.basis.specs.Limits.{mostRows}
-use Rattle.basis.specs.Words.{pick}
-use Rattle.basis.specs.Refusals.{Outcome, accepted, refused, outcome, orElse, needed}
-use Rattle.basis.specs.Upto.{upto}
-use Rattle.basis.proofs.Inside.FirstRefusal.{both-accepted}
-use Rattle.basis.proofs.Inside.Lists.{getD-all}
-use Rattle.basis.proofs.Inside.Words.{lt-or-le}
-use Rattle.basis.proofs.Refusals.{needed-holds}
-use Rattle.sheet.specs.Legal.{legal}
-use Rattle.sheet.specs.declared.row.Sheet.{Sheet}
-use Rattle.sheet.proofs.Legality.{legal-is}
-use Rattle.sheet.specs.Lists.{numberAt}
-use Rattle.sheet.proofs.Inside.FilledLists.{length-filled}
-use Rattle.machine.specs.States.{State, stateOf, recordAt, freshAt, freshState, legalState}
-use Rattle.machine.specs.declared.places.Done.{Done}
-use Rattle.machine.specs.Checks.{checkSlot, checkRun}
-use Rattle.machine.specs.Answers.{RunAnswer, freshAnswer, runAnswer, fresh, nextState, nextCodes, slotBy, slot, run}
-use Rattle.machine.specs.Lists.{stateLong, stateIn, putState, cleared, freshOn, slotListed, slotIn, runIn, ranIn}
+use Rattle.machine.proofs.Names.{mostRows, pick, Outcome, accepted, refused, outcome, orElse, needed, upto, both-accepted, getD-all, lt-or-le, needed-holds, legal, Sheet, legal-is, numberAt, length-filled, State, stateOf, recordAt, freshAt, freshState, legalState, Done, checkSlot, checkRun, RunAnswer, freshAnswer, runAnswer, fresh, nextState, nextCodes, slotBy, slot, run, stateLong, stateIn, putState, cleared, freshOn, slotListed, slotIn, runIn, ranIn}
 use Rattle.machine.proofs.Inside.Checks.{Ready}
 use Rattle.machine.proofs.Inside.Answers.{slot-shows, run-in-order-shows}
 use Rattle.machine.proofs.SlotsDone.{run-not-begun}

@@ -1,25 +1,11 @@
--- Wrong rules for a state are shut out: on sheet B, C or F no answer with the fault meets the promise.
--- Assumes nothing.
+-- Wrong rules for a state are shut out: on sheet B, C or F no answer with the fault meets the promise. Assumes nothing.
 use Rattle.basis.specs.Prelude.{ℕ, _+_, refl, List, [], _∷_, arith, getD}
 use lib.IntN.{pos, negsuc}
-use Rattle.basis.specs.Words.{allOf}
-use Rattle.basis.specs.Refusals.{firstOf}
-use Rattle.basis.specs.Upto.{upto}
+use Rattle.machine.proofs.Names.{allOf, firstOf, upto, legalRow, legalAt, legal, filled, rowIn, sheetIn, sheetB, sheetC, sheetF, legalJob, isZeroJob, released, fits, freeBelow, worked, older, aged, missed, ended, codeOf, checkRow, State, recordAt, freeAt, checkReleases, checkState, checkRoom, checkSlot, checkRun, checkMargin, FreshAnswer, SlotAnswer, RunAnswer, fresh, given, nextState, nextCodes, slot, slotAt, onward, course, run, MarginAnswer, no-job, margin-is, refused-by, marginOf, marginAt, margin, recordIn, zeroAt, zeroFrom, stateIn, putRecord, putTo, putState, freshOn, slotIn, runIn}
 use Rattle.basis.specs.Faults.{NoneMeets}
 use Rattle.basis.proofs.Faults.{apart, numberOf}
-use Rattle.sheet.specs.Legal.{legalRow, legalAt, legal}
-use Rattle.sheet.specs.Lists.{filled, rowIn, sheetIn}
-use Rattle.tables.specs.Tables.{sheetB, sheetC, sheetF}
-use Rattle.records.specs.Records.{legalJob, isZeroJob}
-use Rattle.records.specs.Steps.{released, fits, freeBelow, worked, older, aged, missed, ended, codeOf}
-use Rattle.records.specs.Checks.{checkRow}
 use Rattle.records.specs.Wrong.{thirteenFirst, stopsAtUnfit, missedFirst}
-use Rattle.machine.specs.States.{State, recordAt}
 use Rattle.machine.specs.States as states
-use Rattle.machine.specs.Slot.{freeAt}
-use Rattle.machine.specs.Checks.{checkReleases, checkState, checkRoom, checkSlot, checkRun, checkMargin}
-use Rattle.machine.specs.Answers.{FreshAnswer, SlotAnswer, RunAnswer, fresh, given, nextState, nextCodes, slot, slotAt, onward, course, run, MarginAnswer, no-job, margin-is, refused-by, marginOf, marginAt, margin}
-use Rattle.machine.specs.Lists.{recordIn, zeroAt, zeroFrom, stateIn, putRecord, putTo, putState, freshOn, slotIn, runIn}
 use Rattle.machine.specs.Wrong.{freshWithJobs, freshTooYoung, freeToUnfit, slotToUnfit, slotOfAll, slotMissedFirst, slotUntouched, slotUnreleased, slotCodesAlways, checkThirteenFirst, anyReleases, slotThirteenFirst, runOfFirst, runMadeUp, runUntouched, roomFirst, anyState, zeroForNone, sinceLeftOut, marginOfFirst, freshKept, freshRoomless, slotListKept, slotCodesKept, runListKept, runListMadeUp, listC, freshListC, busyC}
 
 -- ---- what is read off an answer: a number of a record, a code, the refusal's number

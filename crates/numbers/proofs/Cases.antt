@@ -1,8 +1,6 @@
--- Case I holds of the definitions.
--- Assumes nothing.
+-- Case I holds of the definitions. Assumes nothing.
 use Rattle.basis.specs.Prelude.{refl}
-use Rattle.basis.specs.Words.{Each}
-use Rattle.numbers.specs.Numbers.{groups}
+use Rattle.numbers.proofs.Names.{Each, groups}
 use Rattle.numbers.specs.Cases.{caseI, RightNumber}
 
 pub case-I : Each RightNumber caseI

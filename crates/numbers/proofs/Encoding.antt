@@ -1,10 +1,7 @@
--- The laws of a number: one encoding, its range, equal answers; and the worked numbers.
--- Assumes nothing.
+-- The laws of a number: one encoding, its range, equal answers; and the worked numbers. Assumes nothing.
 use Rattle.basis.specs.Prelude.{ℕ, _^_, _<_, _≡_, sym, _∙_, List, arith, length, take-length}
-use Rattle.basis.specs.Limits.{mostGroups}
-use Rattle.basis.specs.Readers.{Bytes, ok}
+use Rattle.numbers.proofs.Names.{mostGroups, Bytes, ok, step, number, upTo}
 use Rattle.basis.proofs.Same.{same-by}
-use Rattle.numbers.specs.Numbers.{step, number, upTo}
 use Rattle.numbers.specs.declared.number.Number.{Number}
 use Rattle.numbers.specs.declared.number.Number.the-variants.{Is, Refused}
 use Rattle.numbers.proofs.OneSpelling.{number-spelled, one-spelling}

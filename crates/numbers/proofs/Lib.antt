@@ -3,3 +3,4 @@ pub mod Encoding
 pub mod OneSpelling
 pub mod Wrong
 pub mod Inside
+mod Names

@@ -1,10 +1,6 @@
 -- A value has one spelling: what `groups` accepts is what `spelt` writes, and `groups` accepts that.
 use Rattle.basis.specs.Prelude.{ℕ, zero, suc, _+_, _-_, _*_, _/_, _%_, _^_, _≤_, _<_, _≡_, refl, sym, ap, ap₂, _∙_, _⊎_, ⊎-elim, List, [], _∷_, _++_, append-assoc, arith, add-one, pow-succ', zero-lt-suc, one-le-pow, length, getD, length-append, slice, slice-cons, slice-empty, getD-append-seam, lt-ltb, le-ltb}
-use Rattle.basis.specs.Readers.{Bytes, Step, ok, refuse, after}
-use Rattle.basis.specs.Limits.{mostGroups}
-use Rattle.numbers.specs.Numbers.{groups, spelt, number, spell}
-use Rattle.basis.proofs.Inside.Steps.{never-ok}
-use Rattle.basis.proofs.Inside.Words.{lt-or-le}
+use Rattle.numbers.proofs.Names.{Bytes, Step, ok, refuse, after, mostGroups, groups, spelt, number, spell, never-ok, lt-or-le}
 use Rattle.numbers.proofs.Inside.Groups.{one-less, ends, over, low, last, more}
 
 pub spelt-one : (g v : ℕ) → v < 128 → spelt (suc g) v ≡ v ∷ []

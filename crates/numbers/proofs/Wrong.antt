@@ -1,10 +1,8 @@
--- No answer by a wrong rule of a number meets the promise of `read_number` or of `read_up_to`.
--- Assumes nothing.
+-- No answer by a wrong rule of a number meets the promise of `read_number` or of `read_up_to`. Assumes nothing.
 use Rattle.basis.specs.Prelude.{ℕ, refl}
-use Rattle.basis.specs.Readers.{Step, ok, refuse}
+use Rattle.numbers.proofs.Names.{Step, ok, refuse, step, groups, number, upToBy, upTo}
 use Rattle.basis.specs.Faults.{NoAnswer}
 use Rattle.basis.proofs.Faults.{told-apart}
-use Rattle.numbers.specs.Numbers.{step, groups, number, upToBy, upTo}
 use Rattle.numbers.specs.Wrong.{highGroups, highestFirst, looseGroups, anyForm, groupMore, threeAs, longIsCut, placeAfter, blankIsZero, mostIsOver, zeroIsOver, twoGroups, zeroLast, fourGroups, blank, five}
 
 -- the value of a step, the number that it is refused by, and its place

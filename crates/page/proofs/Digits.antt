@@ -1,5 +1,4 @@
--- The digits of a number: the last and those before it, how many there are, and what they stand for.
--- Assumes nothing.
+-- The digits of a number: the last and those before it, how many there are, and what they stand for. Assumes nothing.
 use Rattle.basis.specs.Prelude.{ℕ, zero, suc, _+_, _-_, _*_, _/_, _%_, _^_, _≤_, _<_, _≡_, refl, ap, _∙_, Bool, true, false, List, [], _∷_, _++_, pow-succ', arith, length, length-append, ltb, lt-ltb, le-ltb, ltb-true, ltb-false}
 use Rattle.basis.specs.Words.{pick}
 use Rattle.page.specs.Decimals.{digits, decimal, mostDigits, valueAfter, value}

@@ -1,5 +1,4 @@
--- Equal answers: two buffers, and two places, that a promise allows are the same.
--- Assumes nothing.
+-- Equal answers: two buffers, and two places, that a promise allows are the same. Assumes nothing.
 use Rattle.basis.specs.Prelude.{ℕ, _≡_, List, [], _∷_}
 use Rattle.basis.proofs.Same.{pair-same}
 use Rattle.page.specs.Pages.{said}

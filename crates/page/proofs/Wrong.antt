@@ -1,5 +1,4 @@
--- Wrong ways to write into a lent buffer are shut out: in a buffer of two bytes no answer with the fault meets the promise.
--- Assumes nothing.
+-- Wrong ways to write into a lent buffer are shut out: in a buffer of two bytes no answer with the fault meets the promise. Assumes nothing.
 use Rattle.basis.specs.Prelude.{ℕ, refl, [], _∷_, arith, getD}
 use Rattle.basis.specs.Faults.{NoneMeets}
 use Rattle.basis.proofs.Faults.{apart}

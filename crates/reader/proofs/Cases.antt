@@ -1,14 +1,6 @@
--- Worked sheets hold of the definitions: two rows with one label have two parts, and a label is judged length, enough bytes, each byte.
--- Assumes nothing.
+-- Worked sheets hold of the definitions: two rows with one label have two parts, and a label is judged length, enough bytes, each byte. Assumes nothing.
 use Rattle.basis.specs.Prelude.{_≡_, refl, [], _∷_, take, drop, replicate}
-use Rattle.basis.specs.Refusals.{refused}
-use Rattle.basis.specs.Upto.{upto}
-use Rattle.basis.specs.Readers.{begins}
-use Rattle.numbers.specs.Numbers.{groups, upToBy}
-use Rattle.reader.specs.Form.{plain, labelBy, entryBy, entriesBy, bodyBy, headBy, sheetBy, labelHead}
-use Rattle.sheet.specs.Values.{noSheet}
-use Rattle.reader.specs.Answers.{reading, nowhere, labelIn, labelsIn}
-use Rattle.reader.specs.Cases.{twoPumps, firstPump, secondPump}
+use Rattle.reader.proofs.Names.{refused, upto, begins, groups, upToBy, plain, labelBy, entryBy, entriesBy, bodyBy, headBy, sheetBy, labelHead, noSheet, reading, nowhere, labelIn, labelsIn, twoPumps, firstPump, secondPump}
 
 -- two equal labels, each at its own place
 pub two-pumps : (labelIn twoPumps 0 ≡ firstPump) × (labelIn twoPumps 1 ≡ secondPump) × (take 4 (drop 7 twoPumps) ≡ take 4 (drop 16 twoPumps))

@@ -1,18 +1,6 @@
--- An accepted sheet is legal: every range of the table holds of what is handed over, and rows past n are zero.
--- Assumes nothing.
+-- An accepted sheet is legal: every range of the table holds of what is handed over, and rows past n are zero. Assumes nothing.
 use Rattle.basis.specs.Prelude.{ℕ, zero, suc, _+_, _-_, _<_, _≡_, refl, sym, ap, subst, _∙_, true, ⊎-elim, List, _∷_, map, arith, not-suc-le-zero, le-of-suc-le-suc, length, getD, length-map, List·getD-append, List·getD-eq-default, getD-replicate, length-replicate, getD-append-add}
-use Rattle.basis.specs.Limits.{mostProcessors, mostRows, mostSeparation}
-use Rattle.basis.specs.Refusals.{accepted, refused}
-use Rattle.basis.specs.Readers.{Step, ok, refuse}
-use Rattle.basis.proofs.Inside.Steps.{after-ok, ok-same}
-use Rattle.basis.proofs.Inside.Words.{lt-or-le}
-use Rattle.numbers.specs.Numbers.{upTo}
-use Rattle.numbers.proofs.Inside.Bounds.{bounded}
-use Rattle.reader.specs.Form.{Entry, Held, entryRow, label, entryBy, entry, entriesBy, entries, sheet}
-use Rattle.sheet.specs.Legal.{noRow, rowAt, legal, ZeroPast, LegalRow, Legal}
-use Rattle.sheet.specs.Values.{noRows, padded, noSheet}
-use Rattle.reader.specs.Answers.{sheetHeld, readingOf, reading}
-use Rattle.sheet.specs.declared.row.Row.{Row}
+use Rattle.reader.proofs.Names.{mostProcessors, mostRows, mostSeparation, accepted, refused, Step, ok, refuse, after-ok, ok-same, lt-or-le, upTo, bounded, Entry, Held, entryRow, label, entryBy, entry, entriesBy, entries, sheet, noRow, rowAt, legal, ZeroPast, LegalRow, Legal, noRows, padded, noSheet, sheetHeld, readingOf, reading, Row}
 use Rattle.reader.proofs.Inside.LabelPlaces.{whole}
 use Rattle.reader.proofs.Inside.Heads.{headed}
 use Rattle.sheet.proofs.Legality.{legal-says}

@@ -1,18 +1,8 @@
--- What is known after a reading into lent lists.
--- Assumes nothing.
+-- What is known after a reading into lent lists. Assumes nothing.
 use Rattle.basis.specs.Prelude.{ℕ, _≤_, _<_, _≡_, sym, ap, _∙_, true, List, arith, length, take, le-leb}
-use Rattle.basis.specs.Upto.{upto}
-use Rattle.basis.specs.Refusals.{Outcome, accepted, refused, orElse, roomFor, handed}
+use Rattle.reader.proofs.Names.{upto, Outcome, accepted, refused, orElse, roomFor, handed, room-holds, handed-found, handed-done, handed-outcome, or-nothing, upto-below, length-upto, legal, numberAt, listCell, sheetIn, sheetCell, sheetLong, sheet-in-front, reading, labelIn, labelsLong, labelCell, intoLists, readInto, partIn}
 use Rattle.basis.proofs.Inside.FirstRefusal.{both-accepted}
-use Rattle.basis.proofs.Refusals.{room-holds, handed-found, handed-done, handed-outcome, or-nothing}
-use Rattle.basis.proofs.Inside.Upto.{upto-below, length-upto}
-use Rattle.sheet.specs.Legal.{legal}
-use Rattle.sheet.specs.Lists.{numberAt, listCell, sheetIn, sheetCell, sheetLong}
-use Rattle.sheet.proofs.RoundTrip.{sheet-in-front}
-use Rattle.reader.specs.Answers.{reading, labelIn}
-use Rattle.reader.specs.Lists.{labelsLong, labelCell, intoLists, readInto}
 use Rattle.reader.proofs.LegalSheets.{accepted-is-legal}
-use Rattle.reader.specs.Inside.Steps.{partIn}
 use Rattle.reader.proofs.Inside.PartLists.{part-there}
 use Rattle.reader.proofs.Inside.ZeroLists.{Lists, lists, rows-long}
 

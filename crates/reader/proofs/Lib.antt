@@ -6,3 +6,4 @@ pub mod RowLabels
 pub mod Reach
 pub mod Wrong
 pub mod Inside
+mod Names

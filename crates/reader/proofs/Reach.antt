@@ -1,17 +1,9 @@
--- The reader is tame: how long a sheet can be, that no later byte counts, and that its refusals are the table's.
--- Assumes nothing.
+-- The reader is tame: how long a sheet can be, that no later byte counts, and that its refusals are the table's. Assumes nothing.
 use Rattle.basis.specs.Prelude.{ℕ, zero, suc, _+_, _*_, _≤_, _<_, _≡_, refl, ap, _⊎_, inl, inr, List, [], _∷_, arith, mul-le-mul-right, length, take, take-all, getD-take, length-take-le}
-use Rattle.basis.specs.Limits.{mostGroups, mostProcessors, mostRows, longestLabel, mostSeparation}
-use Rattle.basis.specs.Refusals.{refused}
-use Rattle.basis.specs.Readers.{Step, ok, refuse, Reader, _>>=_, give, enough, end, marked}
+use Rattle.reader.proofs.Names.{mostGroups, mostProcessors, mostRows, longestLabel, mostSeparation, refused, Step, ok, refuse, Reader, _>>=_, give, enough, end, marked, lt-or-le, upTo, spelt, width, bounded, Held, markBytes, isPlain, plain, labelBy, label, entryBy, entry, entriesBy, entries, bodyBy, body, headBy, head, sheetBy, sheet, readingOf, reading}
 use Rattle.basis.proofs.Tame.{BytesRefusal, Tame, bytes-refusal-as, tame-give, tame-more, tame-then, tame-tested, tame-enough, tame-end, tame-marked}
-use Rattle.basis.proofs.Inside.Words.{lt-or-le}
-use Rattle.numbers.specs.Numbers.{upTo, spelt, width}
-use Rattle.numbers.proofs.Inside.Bounds.{bounded}
 use Rattle.numbers.proofs.Inside.Reach.{tame-up-to, width-grows}
-use Rattle.reader.specs.Form.{Held, markBytes, isPlain, plain, labelBy, label, entryBy, entry, entriesBy, entries, bodyBy, body, headBy, head, sheetBy, sheet}
 use Rattle.reader.specs.Longest.{longestRow, longestSheet}
-use Rattle.reader.specs.Answers.{readingOf, reading}
 use Rattle.reader.proofs.Inside.LabelPlaces.{whole-length}
 use Rattle.reader.proofs.Inside.Heads.{headed}
 

@@ -1,17 +1,8 @@
 -- The laws of a label: where it is not empty it is 1 to 16 bytes of 21..7E inside the sheet, the very label that was read; and it is empty exactly where
--- the reader refuses or the row number is n or more.
--- Assumes nothing.
+-- the reader refuses or the row number is n or more. Assumes nothing.
 use Rattle.basis.specs.Prelude.{ℕ, zero, suc, _+_, _≤_, _<_, _≡_, refl, sym, ap, _∙_, true, _⊎_, inl, inr, ⊎-elim, _↔_, List, [], map, arith, not-suc-le-zero, length, getD, take, drop, ltb, lt-ltb, le-ltb}
-use Rattle.basis.specs.Limits.{longestLabel}
+use Rattle.reader.proofs.Names.{longestLabel, accepted, refused, Step, ok, refuse, byte, after-ok, ok-same, passed, byte-ok, lt-or-le, bounded, Held, entryLabel, isPlain, plain, sheet, labelHead, readingOf, reading, nowhere, rowsRead, partAfter, labelIn, Part}
 use Rattle.basis.specs.Words.{pick}
-use Rattle.basis.specs.Refusals.{accepted, refused}
-use Rattle.basis.specs.Readers.{Step, ok, refuse, byte}
-use Rattle.basis.proofs.Inside.Steps.{after-ok, ok-same, passed, byte-ok}
-use Rattle.basis.proofs.Inside.Words.{lt-or-le}
-use Rattle.numbers.proofs.Inside.Bounds.{bounded}
-use Rattle.reader.specs.Form.{Held, entryLabel, isPlain, plain, sheet, labelHead}
-use Rattle.reader.specs.Answers.{readingOf, reading, nowhere, rowsRead, partAfter, labelIn}
-use Rattle.reader.specs.declared.row.Part.{Part}
 use Rattle.reader.proofs.Inside.LabelPlaces.{found}
 
 -- each byte that was read as a label's is one that it may have

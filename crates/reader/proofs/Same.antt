@@ -1,16 +1,9 @@
--- Equal answers of the reader and of the labels.
--- Assumes nothing.
+-- Equal answers of the reader and of the labels. Assumes nothing.
 use Rattle.basis.specs.Prelude.{ℕ, _≡_, sym, ap, ap₂, _∙_, List}
 use denote.Ref.{RefT}
-use Rattle.basis.specs.Refusals.{Outcome, outcome}
+use Rattle.reader.proofs.Names.{Outcome, outcome, outcome-one-to-one, outcomeAndSheet, reading, shown, part, labelIn, labelsIn, readInto, Part, Parts, Sheet}
 use Rattle.basis.specs.declared.refusal.Refusal.{Refusal}
-use Rattle.basis.proofs.Refusals.{outcome-one-to-one}
 use Rattle.basis.proofs.Same.{same, same-by, pair-same, outcome-same}
-use Rattle.reader.specs.Answers.{outcomeAndSheet, reading, shown, part, labelIn, labelsIn}
-use Rattle.reader.specs.Lists.{readInto}
-use Rattle.reader.specs.declared.row.Part.{Part}
-use Rattle.reader.specs.declared.labels.Parts.{Parts}
-use Rattle.sheet.specs.declared.row.Sheet.{Sheet}
 use Rattle.reader.specs.declared.whole.Reading.{Reading}
 
 -- an answer stands for one value of the code

@@ -1,21 +1,9 @@
--- No answer by a wrong rule of the reader or of the labels meets the promise of a function of this crate.
--- Assumes nothing.
+-- No answer by a wrong rule of the reader or of the labels meets the promise of a function of this crate. Assumes nothing.
 use Rattle.basis.specs.Prelude.{ℕ, _+_, _≡_, refl, sym, ap, _∙_, List, arith, getD}
 use denote.Ref.{RefT}
-use Rattle.basis.specs.Refusals.{Outcome, accepted, refused}
-use Rattle.basis.specs.Readers.{begins}
-use Rattle.basis.specs.Upto.{upto, pairCell}
+use Rattle.reader.proofs.Names.{Outcome, accepted, refused, begins, upto, pairCell, groups, upToBy, rowCell, listCell, Sheet, plain, labelBy, entryBy, entriesBy, bodyBy, headBy, sheetBy, labelHead, outcomeAndSheet, reading, nowhere, labelIn, labelsIn, shown, part, intoLists, readInto, twoPumps, Part, Parts}
 use Rattle.basis.specs.Faults.{NoAnswer, NoneMeets}
 use Rattle.basis.proofs.Faults.{told-apart, values-apart}
-use Rattle.numbers.specs.Numbers.{groups, upToBy}
-use Rattle.sheet.specs.Lists.{rowCell, listCell}
-use Rattle.sheet.specs.declared.row.Sheet.{Sheet}
-use Rattle.reader.specs.Form.{plain, labelBy, entryBy, entriesBy, bodyBy, headBy, sheetBy, labelHead}
-use Rattle.reader.specs.Answers.{outcomeAndSheet, reading, nowhere, labelIn, labelsIn, shown, part}
-use Rattle.reader.specs.Lists.{intoLists, readInto}
-use Rattle.reader.specs.Cases.{twoPumps}
-use Rattle.reader.specs.declared.row.Part.{Part}
-use Rattle.reader.specs.declared.labels.Parts.{Parts}
 use Rattle.reader.specs.Wrong.{rowsBy, formBy, rowBy, readBy, otherMark, anotherKind, bytesAfter, longDeadline, blankRead, sevenAndEight, anyBytes, anyLabel, labelByte, enoughFrom, cutLabel, cutAtStart, allAccepted, nothingRead, intoAnswer, listsAsTheyWere, numbersForLabels, firstLabel, startForLength, afterItsEnd, copied, firstForAll, noLabels, pumpsAndMore, lateRow, blankRow, oddLabel, shortLabel, roomForTwo, labelsForTwo}
 
 -- the number of a refusal, and its place

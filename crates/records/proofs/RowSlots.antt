@@ -1,12 +1,6 @@
--- Placement and ageing of one row are its steps: its job, and its code.
--- Assumes nothing.
+-- Placement and ageing of one row are its steps: its job, and its code. Assumes nothing.
 use Rattle.basis.specs.Prelude.{ℕ, _≡_, refl}
-use Rattle.sheet.specs.declared.row.Row.{Row}
-use Rattle.records.specs.declared.record.Job.{Job}
-use Rattle.records.specs.declared.steps.Placed.{Placed}
-use Rattle.records.specs.declared.steps.Aged.{Aged}
-use Rattle.records.specs.Steps.{released, fits, worked, aged, codeOf}
-use Rattle.records.specs.Methods.{placedRow, agedRow, begunRow, steppedRow}
+use Rattle.records.proofs.Names.{Row, Job, Placed, Aged, released, fits, worked, aged, codeOf, placedRow, agedRow, begunRow, steppedRow}
 
 -- the code of a row that is placed and then aged
 pub row-code : (free : ℕ) (row : Row) (s : Job) → agedRow row (worked (fits free row s) s) (placedRow row s free .code) .code ≡ codeOf row (fits free row s) s (aged row (worked (fits free row s) s))

@@ -1,18 +1,8 @@
--- Equal answers: any two answers that a promise allows are equal.
--- Assumes nothing.
+-- Equal answers: any two answers that a promise allows are equal. Assumes nothing.
 use Rattle.basis.specs.Prelude.{ℕ, _≡_, sym, _∙_, Bool}
-use Rattle.basis.specs.Refusals.{outcome}
+use Rattle.records.proofs.Names.{outcome, Row, Job, RowState, Placed, Aged, legalRecord, released, checkRow, placedRow, agedRow, steppedRow}
 use Rattle.basis.specs.declared.refusal.Refusal.{Refusal}
 use Rattle.basis.proofs.Refusals.{outcome-one-to-one}
-use Rattle.sheet.specs.declared.row.Row.{Row}
-use Rattle.records.specs.declared.record.Job.{Job}
-use Rattle.records.specs.declared.record.RowState.{RowState}
-use Rattle.records.specs.declared.steps.Placed.{Placed}
-use Rattle.records.specs.declared.steps.Aged.{Aged}
-use Rattle.records.specs.Records.{legalRecord}
-use Rattle.records.specs.Steps.{released}
-use Rattle.records.specs.Checks.{checkRow}
-use Rattle.records.specs.Methods.{placedRow, agedRow, steppedRow}
 
 module _ (row : Row) (s : RowState) where
   -- `is_legal_record`

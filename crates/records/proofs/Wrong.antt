@@ -1,15 +1,8 @@
--- Wrong rules for one row are shut out: on a row of sheet C, or one with an early deadline, no answer with the fault meets the promise.
--- Assumes nothing.
+-- Wrong rules for one row are shut out: on a row of sheet C, or one with an early deadline, no answer with the fault meets the promise. Assumes nothing.
 use Rattle.basis.specs.Prelude.{refl, arith}
 use Rattle.basis.specs.Faults.{NoneMeets}
 use Rattle.basis.proofs.Faults.{apart, numberOf, bit}
-use Rattle.records.specs.declared.record.Job.{Job}
-use Rattle.records.specs.declared.steps.Placed.{Placed}
-use Rattle.records.specs.declared.steps.Aged.{Aged}
-use Rattle.records.specs.Records.{legalRecord, legalJob}
-use Rattle.records.specs.Steps.{released, fits, freeBelow, worked, older, aged, missed, ended, codeOf}
-use Rattle.records.specs.Checks.{checkRow}
-use Rattle.records.specs.Methods.{placedRow, agedRow, begunRow, steppedRow}
+use Rattle.records.proofs.Names.{Job, Placed, Aged, legalRecord, legalJob, released, fits, freeBelow, worked, older, aged, missed, ended, codeOf, checkRow, placedRow, agedRow, begunRow, steppedRow}
 use Rattle.records.specs.Wrong.{upperC, lowerC, early, jobOf, rec, thirteenFirst, soonByDeadline, oneSoon, lateIsLegal, noSlotIsLegal, releaseLost, sinceKept, everyJobRuns, stopsAtUnfit, missedFirst, restKept, sinceGoesOn, steppedUnreleased, steppedIdle}
 
 -- ---- `check_row`

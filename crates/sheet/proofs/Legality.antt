@@ -1,12 +1,6 @@
--- A legal sheet is one whose every number is in its range.
--- Assumes nothing.
+-- A legal sheet is one whose every number is in its range. Assumes nothing.
 use Rattle.basis.specs.Prelude.{ℕ, _≡_, true}
-use Rattle.basis.specs.Limits.{mostProcessors, mostRows, mostSeparation}
-use Rattle.basis.specs.Words.{within}
-use Rattle.basis.proofs.Inside.Words.{both-left, both-right, both-true, at-least, at-most, within-true, all-at, all-true}
-use Rattle.sheet.specs.Legal.{rowAt, legalRow, legalAt, legal, LegalRow, Legal}
-use Rattle.sheet.specs.declared.row.Row.{Row}
-use Rattle.sheet.specs.declared.row.Sheet.{Sheet}
+use Rattle.sheet.proofs.Names.{mostProcessors, mostRows, mostSeparation, within, both-left, both-right, both-true, at-least, at-most, within-true, all-at, all-true, rowAt, legalRow, legalAt, legal, LegalRow, Legal, Row, Sheet}
 
 legal-row-is : (m : ℕ) (row : Row) → legalRow m row ≡ true → LegalRow m row
 unfolding legalRow

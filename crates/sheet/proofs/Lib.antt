@@ -4,3 +4,4 @@ pub mod Ranges
 pub mod Same
 pub mod Wrong
 pub mod Inside
+mod Names

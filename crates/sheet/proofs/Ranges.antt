@@ -1,14 +1,7 @@
--- The check of the sheet in a list: a turn over its rows, and what each way out says.
--- Assumes nothing.
+-- The check of the sheet in a list: a turn over its rows, and what each way out says. Assumes nothing.
 use Rattle.basis.specs.Prelude.{ℕ, _+_, _-_, _*_, _≤_, _<_, _≡_, refl, sym, ap, ap₂, _∙_, Bool, true, false, List, length, List·getD-eq-default, arith, w64, Fits, ⊎-elim}
-use Rattle.basis.specs.Limits.{mostProcessors, mostRows}
-use Rattle.basis.specs.Words.{both, within, allOf}
-use Rattle.basis.proofs.Inside.Words.{all-one-more, all-fails, both-left, both-right, at-most, lt-or-le}
-use Rattle.sheet.specs.Legal.{rowAt, legalRow, legalAt, legal, Legal}
-use Rattle.sheet.specs.declared.row.Row.{Row}
-use Rattle.sheet.specs.declared.row.Sheet.{Sheet}
+use Rattle.sheet.proofs.Names.{mostProcessors, mostRows, both, within, allOf, all-one-more, all-fails, both-left, both-right, at-most, lt-or-le, rowAt, legalRow, legalAt, legal, Legal, Row, Sheet, numberAt, rowIn, sheetIn, sheetLong, legalRows}
 use Rattle.sheet.proofs.Legality.{legal-is}
-use Rattle.sheet.specs.Lists.{numberAt, rowIn, sheetIn, sheetLong, legalRows}
 use Rattle.sheet.proofs.Inside.ListRows.{row-in-sheet}
 
 -- `rows_are_legal`

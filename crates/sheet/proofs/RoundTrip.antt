@@ -1,14 +1,6 @@
--- A sheet that is written into a list comes back when the list is read.
--- Assumes nothing.
+-- A sheet that is written into a list comes back when the list is read. Assumes nothing.
 use Rattle.basis.specs.Prelude.{ℕ, _+_, _*_, _≤_, _<_, _≡_, sym, ap, _∙_, ⊎-elim, List, length, take, List·getD-eq-default, ext-getD, getD-take, length-take-le, arith, le-refl}
-use Rattle.basis.specs.Limits.{mostRows}
-use Rattle.basis.specs.Upto.{upto}
-use Rattle.basis.proofs.Inside.Upto.{upto-below, length-upto}
-use Rattle.basis.proofs.Inside.Words.{lt-or-le}
-use Rattle.sheet.specs.Legal.{noRow, rowAt}
-use Rattle.sheet.specs.Values.{noRows}
-use Rattle.sheet.specs.declared.row.Sheet.{Sheet}
-use Rattle.sheet.specs.Lists.{numberAt, filled, rowIn, sheetIn, rowCell, listCell, sheetCell, sheetLong}
+use Rattle.sheet.proofs.Names.{mostRows, upto, upto-below, length-upto, lt-or-le, noRow, rowAt, noRows, Sheet, numberAt, filled, rowIn, sheetIn, rowCell, listCell, sheetCell, sheetLong}
 use Rattle.sheet.proofs.Inside.FilledLists.{filled-read}
 use Rattle.sheet.proofs.Inside.ListRows.{row-read}
 use Rattle.sheet.proofs.Inside.Cells.{cell-of-row, cell-past, no-row-past}

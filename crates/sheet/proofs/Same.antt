@@ -1,10 +1,7 @@
--- Two answers that a promise allows are equal.
--- Assumes nothing.
+-- Two answers that a promise allows are equal. Assumes nothing.
 use Rattle.basis.specs.Prelude.{ℕ, _≡_, Bool, List}
 use Rattle.basis.proofs.Same.{same}
-use Rattle.sheet.specs.Legal.{legal}
-use Rattle.sheet.specs.declared.row.Sheet.{Sheet}
-use Rattle.sheet.specs.Lists.{numberAt, filled, sheetIn, sheetCell, clearedCell}
+use Rattle.sheet.proofs.Names.{legal, Sheet, numberAt, filled, sheetIn, sheetCell, clearedCell}
 
 pub number-at-same : (l : List ℕ) (i r r′ : ℕ) → r ≡ numberAt l i → r′ ≡ numberAt l i → r ≡ r′
 number-at-same l i = same (numberAt l i)

@@ -1,13 +1,8 @@
--- No answer by a wrong rule of a sheet or its list meets the promise of a function of this crate.
--- Assumes nothing.
+-- No answer by a wrong rule of a sheet or its list meets the promise of a function of this crate. Assumes nothing.
 use Rattle.basis.specs.Prelude.{ℕ, refl, List}
-use Rattle.basis.specs.Words.{allOf}
-use Rattle.basis.specs.Upto.{upto}
+use Rattle.sheet.proofs.Names.{allOf, upto, rowAt, legalRow, legalAt, legal, numberAt, filled, rowIn, sheetIn, rowCell, listCell, sheetCell, clearedCell, Sheet}
 use Rattle.basis.specs.Faults.{NoneMeets}
 use Rattle.basis.proofs.Faults.{values-apart, bit}
-use Rattle.sheet.specs.Legal.{rowAt, legalRow, legalAt, legal}
-use Rattle.sheet.specs.Lists.{numberAt, filled, rowIn, sheetIn, rowCell, listCell, sheetCell, clearedCell}
-use Rattle.sheet.specs.declared.row.Sheet.{Sheet}
 use Rattle.sheet.specs.Wrong.{listA, listE, largest, blankBudget, nines, firstPast, nextPlace, rowsForProcessors, processorsForRows, firstThreads, sameRows, rowForEach, anySheet, nowhereLegal, judgedBy, belowLargest, withBlank, rowPastLast, asItWas, twoNumbers, budgetForDeadline, allCleared, onesFrom}
 
 -- a number is its own measure

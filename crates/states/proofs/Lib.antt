@@ -1,3 +1,4 @@
 pub mod StepsTogether
 pub mod Same
 pub mod Inside
+mod Names

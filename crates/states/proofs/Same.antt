@@ -1,20 +1,13 @@
--- Equal answers: what an answer stands for is one value of the code, and any two answers that a promise allows are equal.
--- Assumes nothing.
+-- Equal answers: what an answer stands for is one value of the code, and any two answers that a promise allows are equal. Assumes nothing.
 use Rattle.basis.specs.Prelude.{ℕ, _≡_, sym, ap, ap₂, _∙_, List}
-use Rattle.basis.specs.Refusals.{outcome}
-use Rattle.basis.specs.declared.refusal.Refusal.{Refusal}
+use Rattle.states.proofs.Names.{outcome, Refusal, Sheet, State, checkRun, FreshAnswer, SlotAnswer, RunAnswer, fresh, slot, run, marginAnswer, margin, held, started, slotted, ran}
 use Rattle.basis.proofs.Refusals.{outcome-one-to-one}
-use Rattle.sheet.specs.declared.row.Sheet.{Sheet}
 use Rattle.machine.specs.declared.margins.Margin.{Margin}
-use Rattle.machine.specs.States.{State}
-use Rattle.machine.specs.Checks.{checkRun}
-use Rattle.machine.specs.Answers.{FreshAnswer, SlotAnswer, RunAnswer, fresh, slot, run, marginAnswer, margin}
 use Rattle.machine.proofs.Same.{margin-one-to-one}
 use Rattle.states.specs.declared.state.State.{State as Value}
 use Rattle.states.specs.declared.start.Started.{Started}
 use Rattle.states.specs.declared.slots.Slotted.{Slotted}
 use Rattle.states.specs.declared.runs.Ran.{Ran}
-use Rattle.states.specs.Values.{held, started, slotted, ran}
 
 -- the value that holds a state
 abbrev value : State → Value

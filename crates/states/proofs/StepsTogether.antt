@@ -1,20 +1,6 @@
--- Releases, placement and ageing are the slot: of all rows one step after another.
--- Assumes nothing.
+-- Releases, placement and ageing are the slot: of all rows one step after another. Assumes nothing.
 use Rattle.basis.specs.Prelude.{ℕ, _≤_, _<_, _≡_, refl, ap, ap₂, _∙_, List, length, getD, le-refl, arith}
-use Rattle.basis.specs.Limits.{mostRows}
-use Rattle.basis.proofs.Inside.Upto.{length-upto, upto-below, upto-agree, upto-over}
-use Rattle.sheet.specs.Legal.{rowAt}
-use Rattle.sheet.specs.declared.row.Sheet.{Sheet}
-use Rattle.machine.specs.States.{State, stateOf}
-use Rattle.records.specs.declared.record.RowState.{RowState}
-use Rattle.records.specs.declared.steps.Placed.{Placed}
-use Rattle.records.specs.declared.steps.Aged.{Aged}
-use Rattle.records.specs.Records.{recordOf, noRecord}
-use Rattle.records.specs.Steps.{worked}
-use Rattle.machine.specs.Slot.{begun, free, runs, next, code}
-use Rattle.machine.specs.Answers.{given, nextState, nextCodes}
-use Rattle.states.specs.Inside.Methods.{jobAt, releasedAt, releasedState, placedAt, placedRecord, placedCode, placedState, placedCodes, agedAt, agedRecord, agedCode, agedState, agedCodes}
-use Rattle.records.specs.Methods.{placedRow, agedRow}
+use Rattle.states.proofs.Names.{mostRows, length-upto, upto-below, upto-agree, upto-over, rowAt, Sheet, State, stateOf, RowState, Placed, Aged, recordOf, noRecord, worked, begun, free, runs, next, code, given, nextState, nextCodes, jobAt, releasedAt, releasedState, placedAt, placedRecord, placedCode, placedState, placedCodes, agedAt, agedRecord, agedCode, agedState, agedCodes, placedRow, agedRow}
 use Rattle.records.proofs.RowSlots.{row-code}
 use Rattle.machine.proofs.Placement.{free-agrees}
 

@@ -1,5 +1,4 @@
--- Equal answers: any two answers that the promise allows are equal.
--- Assumes nothing.
+-- Equal answers: any two answers that the promise allows are equal. Assumes nothing.
 use Rattle.basis.specs.Prelude.{ℕ, _≡_}
 use Rattle.basis.proofs.Same.{same}
 use Rattle.sheet.specs.declared.row.Sheet.{Sheet}

@@ -1,5 +1,4 @@
--- Wrong tables are shut out: for a named number no answer with the fault meets the promise.
--- Assumes nothing.
+-- Wrong tables are shut out: for a named number no answer with the fault meets the promise. Assumes nothing.
 use Rattle.basis.specs.Prelude.{refl}
 use Rattle.basis.specs.Faults.{NoneMeets}
 use Rattle.basis.proofs.Faults.{values-apart}

@@ -1,20 +1,8 @@
--- The box's own loop: what it begins with, a slot on parts of the list and the buffer, and the end of its course.
--- Assumes nothing.
+-- The box's own loop: what it begins with, a slot on parts of the list and the buffer, and the end of its course. Assumes nothing.
 use Rattle.basis.specs.Prelude.{ℕ, _+_, _*_, _-_, _/_, _≤_, _<_, _^_, _≡_, refl, sym, ap, ap₂, subst, _∙_, true, false, List, _++_, append-nil, length, take, drop, length-drop, drop-of-length-le, take-all, arith}
-use borrow.Rule.Slice.PartMut.{putMid}
-use Rattle.basis.specs.Refusals.{Outcome, accepted, refused, outcome, isAccepted, handed}
-use Rattle.basis.specs.declared.refusal.Refusal.{Refusal}
-use Rattle.basis.specs.declared.refusal.Refusal.the-variants.{Accepted, Refused}
-use Rattle.sheet.specs.declared.row.Sheet.{Sheet}
+use Rattle.aboard.proofs.Names.{putMid, Outcome, accepted, refused, outcome, isAccepted, handed, Refusal, Accepted, Refused, Sheet, State, Begun, checkRun, held, started, FreshAnswer, SlotAnswer, RunAnswer, slotAnswer, runAnswer, fresh, slot, entriesOf, slotAt, course, run, slottedIn, beginningOf, beginning, run-list, run-buffer}
 use Rattle.machine.specs.States as states
-use Rattle.states.specs.declared.state.State.{State}
 use Rattle.states.specs.declared.start.Started.{Started}
-use Rattle.aboard.specs.declared.lent.Begun.{Begun}
-use Rattle.machine.specs.Checks.{checkRun}
-use Rattle.states.specs.Values.{held, started}
-use Rattle.machine.specs.Answers.{FreshAnswer, SlotAnswer, RunAnswer, slotAnswer, runAnswer, fresh, slot, entriesOf, slotAt, course, run}
-use Rattle.aboard.specs.Lent.{slottedIn, beginningOf, beginning}
-use Rattle.machine.proofs.Inside.Answers.{run-list, run-buffer}
 use Rattle.machine.proofs.SlotsDone.{run-not-begun}
 use Rattle.machine.proofs.Inside.Courses.{room-for, goes-on, stops}
 

@@ -1,5 +1,4 @@
--- Laws of the first refusal: what a loop that leaves at the first one shows.
--- Assumes nothing.
+-- Laws of the first refusal: what a loop that leaves at the first one shows. Assumes nothing.
 use Rattle.basis.specs.Prelude.{ℕ, zero, suc, _+_, _<_, _≡_, refl, ap₂, ⊎-elim, eq-or-lt-of-le, add-one, arith}
 use Rattle.basis.specs.Refusals.{Outcome, accepted, refused, orElse, firstOf}
 

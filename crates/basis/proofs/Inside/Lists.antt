@@ -1,5 +1,4 @@
--- Laws of lists that hold of any.
--- Assumes nothing.
+-- Laws of lists that hold of any. Assumes nothing.
 use Rattle.basis.specs.Prelude.{ℕ, zero, suc, _≡_, refl, ap, List, [], _∷_, map, arith, set, getD, replicate}
 
 module _ {A B : Type 0} (f : A → B) where

@@ -1,5 +1,4 @@
--- Laws of a list of pairs: the store of a pair, and what is read of one.
--- Assumes nothing.
+-- Laws of a list of pairs: the store of a pair, and what is read of one. Assumes nothing.
 use Rattle.basis.specs.Prelude.{ℕ, _+_, _*_, _/_, _%_, _≤_, _<_, _≡_, refl, sym, ap, ap₂, _∙_, Bool, true, false, List, eqb, length, getD, set, arith, div-add-mod', mod-lt}
 use lib.Arith.{digits-div, digits-mod}
 use Rattle.basis.specs.Words.{pick}

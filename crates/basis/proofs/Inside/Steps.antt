@@ -1,5 +1,4 @@
--- Laws of steps: what is known where readers that follow each other accept, and of a step with what a function makes of its value.
--- Assumes nothing.
+-- Laws of steps: what is known where readers that follow each other accept, and of a step with what a function makes of its value. Assumes nothing.
 use Rattle.basis.specs.Prelude.{ℕ, _+_, _≤_, _<_, _≡_, refl, sym, ap, ap₂, _∙_, Bool, true, false, List, arith, length, getD, ltb, leb, ltb-true, ltb-false, leb-true}
 use Rattle.basis.specs.Words.{pick}
 use Rattle.basis.specs.Readers.{Step, ok, refuse, Reader, after, refuse-at, byte, enough, end, begins, marked, mapStep}

@@ -1,5 +1,4 @@
--- Laws of sums: by their parts, where the parts agree, and with more parts.
--- Assumes nothing.
+-- Laws of sums: by their parts, where the parts agree, and with more parts. Assumes nothing.
 use Rattle.basis.specs.Prelude.{ℕ, zero, suc, _+_, _*_, _≤_, _<_, _≡_, refl, ⊎-elim, eq-or-lt-of-le, arith, add-one}
 use Rattle.basis.specs.Words.{sum}
 

@@ -1,5 +1,4 @@
--- Laws of `upto`: what a loop that stores once a turn has made, read at a place, and its length.
--- Assumes nothing.
+-- Laws of `upto`: what a loop that stores once a turn has made, read at a place, and its length. Assumes nothing.
 use Rattle.basis.specs.Prelude.{ℕ, zero, suc, _+_, _≤_, _<_, _≡_, refl, sym, ap, _∙_, List, ⊎-elim, length, getD, set, length-set, getD-set-same, getD-set-other, ext-getD, add-one, arith, le-refl, eq-or-lt-of-le}
 use Rattle.basis.specs.Upto.{upto}
 use Rattle.basis.proofs.Inside.Words.{lt-or-le}

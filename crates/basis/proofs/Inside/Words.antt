@@ -1,5 +1,4 @@
--- Laws of tests: of both, of a range, of all below a number.
--- Assumes nothing.
+-- Laws of tests: of both, of a range, of all below a number. Assumes nothing.
 use Rattle.basis.specs.Prelude.{ℕ, zero, suc, _+_, _≤_, _<_, _≡_, refl, ap, ap₂, Bool, true, false, _⊎_, inl, inr, ⊎-elim, eq-or-lt-of-le, arith, add-one, ltb, leb, ltb-true, ltb-false, leb-true, le-leb}
 use Rattle.basis.specs.Words.{both, within, allOf}
 

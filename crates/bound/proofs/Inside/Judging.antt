@@ -1,16 +1,6 @@
--- The results of the rows, for any test that looks at no lower row: each is the judgement by those above, and sheets that agree in m and rows 0 to k agree in them.
--- Assumes nothing.
+-- The results of the rows, for any test that looks at no lower row: each is the judgement by those above, and sheets that agree in m and rows 0 to k agree in them. Assumes nothing.
 use Rattle.basis.specs.Prelude.{ℕ, zero, suc, _+_, _-_, _≤_, _<_, _≡_, refl, sym, ap, ap₂, _∙_, Bool, true, false, ⊎-elim, eq-or-lt-of-le, arith, ltb, lt-ltb, le-ltb}
-use Rattle.basis.specs.Words.{pick, both, allOf}
-use Rattle.basis.proofs.Inside.Sums.{sum-same}
-use Rattle.basis.proofs.Inside.Words.{all-same, all-one-more}
-use Rattle.sheet.specs.Legal.{rowAt}
-use Rattle.sheet.specs.declared.row.Row.{Row}
-use Rattle.sheet.specs.declared.row.Sheet.{Sheet}
-use Rattle.bound.specs.Quantities.{slots}
-use Rattle.bound.specs.Test.{Test, q, X, amountOf, amounts, room, passes}
-use Rattle.bound.specs.Bound.{Word, unreached, isBound, valueOf, least, passesAt, boundBy, bounds, bounded, judge, resultsTo, resultOf}
-use Rattle.bound.specs.declared.quantity.Duration.{Duration}
+use Rattle.bound.proofs.Names.{pick, both, allOf, sum-same, all-same, all-one-more, rowAt, Row, Sheet, slots, Test, q, X, amountOf, amounts, room, passes, Word, unreached, isBound, valueOf, least, passesAt, boundBy, bounds, bounded, judge, resultsTo, resultOf, Duration}
 use Rattle.bound.proofs.Inside.Lengths.{least-same}
 
 -- two sheets agree in m and in the first n rows

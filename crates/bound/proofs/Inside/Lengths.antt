@@ -1,16 +1,6 @@
--- The smallest number of which a test holds: found, passed over, in range; and the turns of the search.
--- Assumes nothing.
+-- The smallest number of which a test holds: found, passed over, in range; and the turns of the search. Assumes nothing.
 use Rattle.basis.specs.Prelude.{ℕ, zero, suc, _+_, _-_, _≤_, _<_, _≡_, refl, sym, _∙_, Bool, true, false, _⊎_, inl, inr, ⊎-elim, eq-or-lt-of-le, arith}
-use Rattle.basis.proofs.Inside.Words.{lt-or-le}
-use Rattle.sheet.specs.Legal.{rowAt}
-use Rattle.sheet.specs.declared.row.Row.{Row}
-use Rattle.sheet.specs.declared.row.Sheet.{Sheet}
-use Rattle.bound.specs.Test.{passes}
-use Rattle.bound.specs.Bound.{bound, none, unreached, least, passesAt, boundBy}
-use Rattle.bound.specs.Inside.Ready.{Length}
-use Rattle.bound.specs.Inside.Skipping.{Skips, Starts, Says}
-use Rattle.bound.specs.declared.quantity.Duration.{Duration}
-use Rattle.bound.specs.declared.quantity.FineAmount.{FineAmount}
+use Rattle.bound.proofs.Names.{lt-or-le, rowAt, Row, Sheet, passes, bound, none, unreached, least, passesAt, boundBy, Length, Skips, Starts, Says, Duration, FineAmount}
 use Rattle.bound.specs.declared.search.Tried.{Tried}
 use Rattle.bound.specs.declared.search.Tried.the-variants.{Passes, Next}
 

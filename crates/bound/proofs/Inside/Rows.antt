@@ -1,27 +1,9 @@
--- The loop over the rows: what a row is judged by, what stands in the list of results, and the answer by value.
--- Assumes nothing.
+-- The loop over the rows: what a row is judged by, what stands in the list of results, and the answer by value. Assumes nothing.
 use Rattle.basis.specs.Prelude.{ℕ, suc, _+_, _*_, _≤_, _<_, _≡_, refl, sym, ap, _∙_, Bool, true, false, List, map, arith, length, getD, set, replicate}
-use Rattle.basis.specs.Limits.{mostRows}
-use Rattle.basis.specs.Words.{allOf}
-use Rattle.basis.specs.Upto.{upto}
-use Rattle.basis.specs.Refusals.{Outcome, accepted, refused}
-use Rattle.basis.proofs.Inside.Words.{all-at}
-use Rattle.basis.proofs.Inside.Upto.{upto-set, length-upto}
-use Rattle.basis.proofs.Inside.Pairs.{pair-stored, second-read}
-use Rattle.basis.proofs.Inside.Lists.{map-set}
-use Rattle.sheet.specs.Legal.{legal, Legal}
-use Rattle.sheet.specs.declared.row.Sheet.{Sheet}
-use Rattle.sheet.specs.Lists.{filled, sheetCell, sheetIn, sheetLong}
-use Rattle.sheet.proofs.Legality.{legal-is}
+use Rattle.bound.proofs.Names.{mostRows, allOf, upto, Outcome, accepted, refused, all-at, upto-set, length-upto, pair-stored, second-read, map-set, legal, Legal, Sheet, filled, sheetCell, sheetIn, sheetLong, legal-is, slots, passes, Word, unreached, word, wordIn, isBound, boundBy, bounds, bounded, resultOf, allUnreached, holds, Answer, boundsOf, wordNumber, boundNumber, resultsLong, resultCell, words, putResult, wordAt, boundsOn, heldIn, Lent, RowsAbove, SoFar, Ready, Result}
 use Rattle.sheet.proofs.Ranges.{legal-sheet-long}
 use Rattle.sheet.proofs.RoundTrip.{whole-sheet-comes-back}
-use Rattle.bound.specs.Quantities.{slots}
-use Rattle.bound.specs.Test.{passes}
-use Rattle.bound.specs.Bound.{Word, unreached, word, wordIn, isBound, boundBy, bounds, bounded, resultOf, allUnreached, holds, Answer, boundsOf}
-use Rattle.bound.specs.Lists.{wordNumber, boundNumber, resultsLong, resultCell, words, putResult, wordAt, boundsOn}
-use Rattle.bound.specs.Inside.Ready.{heldIn, Lent, RowsAbove, SoFar, Ready}
 use Rattle.bound.specs.declared.results.Judged.{Judged}
-use Rattle.bound.specs.declared.results.Result.{Result}
 use Rattle.bound.proofs.Durations.{number}
 use Rattle.bound.proofs.Inside.Judging.{passes-local, bound-agrees, agree-self, result-where, bound-all}
 use Rattle.bound.proofs.Meaning.{bound-in-range, bound-is-first}

@@ -1,25 +1,9 @@
--- What each function says, from what its calls say.
--- Assumes nothing.
+-- What each function says, from what its calls say. Assumes nothing.
 use Rattle.basis.specs.Prelude.{ℕ, zero, suc, _+_, _-_, _*_, _^_, _≤_, _<_, _≡_, refl, ap, ap₂, _∙_, Bool, true, false, List, _++_, add-one, le-antisymm, add-sub-cancel-left, arith, length, ne-eqb, take, drop, w64, Fits}
-use Rattle.sheet.specs.Lists.{numberAt}
-use Rattle.sheet.specs.declared.row.Sheet.{Sheet}
-use Rattle.reader.specs.Answers.{labelIn}
-use Rattle.reader.specs.Lists.{labelsLong}
-use Rattle.reader.specs.Inside.Steps.{partIn}
+use Rattle.dashboard.proofs.Names.{numberAt, Sheet, labelIn, labelsLong, partIn, passes, Word, resultOf, holds, resultsLong, wordAt, decimal, boundWord, noneWord, unreachedWord, resultWords, line, holdsLine, failsLine, ending, ownLabel, numbered, lineLabel, LabelsLie, Own, Numbered, lines, board, Page, said, two-said}
 use Rattle.reader.specs.declared.row.Part.{Part}
 use Rattle.reader.proofs.Inside.LentParts.{inside}
-use Rattle.bound.specs.Test.{passes}
-use Rattle.bound.specs.Bound.{Word, resultOf, holds}
-use Rattle.bound.specs.Lists.{resultsLong, wordAt}
-use Rattle.page.specs.Decimals.{decimal}
-use Rattle.dashboard.specs.Words.{boundWord, noneWord, unreachedWord, resultWords, line, holdsLine, failsLine, ending}
-use Rattle.dashboard.specs.Labels.{ownLabel, numbered, lineLabel}
-use Rattle.dashboard.specs.Inside.Ready.{LabelsLie}
 use Rattle.dashboard.specs.declared.line.Labels.{Labels}
-use Rattle.dashboard.specs.declared.line.Labels.the-variants.{Own, Numbered}
-use Rattle.dashboard.specs.Texts.{lines, board}
-use Rattle.page.specs.Pages.{Page, said}
-use Rattle.page.proofs.Inside.Pages.{two-said}
 
 -- ---- a line
 

@@ -1,5 +1,4 @@
--- Laws of lists that hold of any.
--- Assumes nothing.
+-- Laws of lists that hold of any. Assumes nothing.
 use Rattle.basis.specs.Prelude.{_≡_, refl, sym, ap, _∙_, List, _++_, arith, length, drop, length-append, drop-at}
 
 -- one list has one end of a length

@@ -1,41 +1,16 @@
--- The two ways out of a verdict, and the sections of the reference.
--- Assumes nothing.
+-- The two ways out of a verdict, and the sections of the reference. Assumes nothing.
 use Rattle.basis.specs.Prelude.{ℕ, zero, suc, _+_, _*_, _≤_, _<_, _≡_, refl, sym, ap, ap₂, _∙_, Bool, true, List, _++_, add-one, le-antisymm, arith, length}
-use Rattle.basis.specs.Limits.{mostRows}
-use Rattle.basis.specs.Readers.{begins}
-use Rattle.basis.specs.Words.{allOf}
-use Rattle.basis.specs.Refusals.{Outcome, accepted, refused, outcome}
+use Rattle.dashboard.proofs.Names.{mostRows, begins, allOf, Outcome, accepted, refused, outcome, legalRow, legalAt, legal, filled, sheetIn, sheetCell, sheetLong, Sheet, legal-is, headBy, sheetBy, reading, labelsLong, partIn, accepted-is-legal, refused-is-no-sheet, no-label, passes, resultOf, holds, fixedSheet, resultsLong, resultCell, boundsOn, words, wordAt, judgedBytes, newline, ending, noVerdict, ownLabel, numbered, lineLabel, LabelsLie, Roomy, Own, Numbered, lines, board, textOf, verdictText, fixedCount, letter, prefix, section, sections, referenceText, Page, written, said, two-said, three-said, said-is-written}
 use Rattle.basis.specs.declared.refusal.Refusal.{Refusal}
 use Rattle.basis.specs.declared.refusal.Refusal.the-variants.{Accepted, Refused}
 use Rattle.basis.proofs.Inside.Lists.{getD-all}
-use Rattle.sheet.specs.Legal.{legalRow, legalAt, legal}
-use Rattle.sheet.specs.Lists.{filled, sheetIn, sheetCell, sheetLong}
-use Rattle.sheet.specs.declared.row.Sheet.{Sheet}
-use Rattle.sheet.proofs.Legality.{legal-is}
 use Rattle.sheet.proofs.RoundTrip.{whole-sheet-comes-back}
 use Rattle.sheet.proofs.Inside.FilledLists.{zeros, zeros-long}
-use Rattle.reader.specs.Form.{headBy, sheetBy}
-use Rattle.reader.specs.Answers.{reading}
-use Rattle.reader.specs.Lists.{labelsLong}
-use Rattle.reader.specs.Inside.Steps.{partIn}
-use Rattle.reader.proofs.LegalSheets.{accepted-is-legal, refused-is-no-sheet}
 use Rattle.reader.proofs.Inside.ShortestSheet.{accepted-is-not-shorter}
-use Rattle.reader.proofs.RowLabels.{no-label}
-use Rattle.bound.specs.Test.{passes}
-use Rattle.bound.specs.Bound.{resultOf, holds}
-use Rattle.tables.specs.Tables.{fixedSheet}
-use Rattle.bound.specs.Lists.{resultsLong, resultCell, boundsOn, words, wordAt, judgedBytes}
 use Rattle.bound.specs.declared.results.Judgement.{Judgement}
 use Rattle.bound.proofs.FromBytes.{found, judged-outcome, judged-count, judged-few, judged-labels-long, judged-label, judged-results-long, judged-word, judged-holds}
 use Rattle.bound.proofs.Lists.{legal-is-put, word-there, word-comes-back}
-use Rattle.dashboard.specs.Words.{newline, ending, noVerdict}
-use Rattle.dashboard.specs.Labels.{ownLabel, numbered, lineLabel}
-use Rattle.dashboard.specs.Inside.Ready.{LabelsLie, Roomy}
-use Rattle.dashboard.specs.declared.line.Labels.the-variants.{Own, Numbered}
-use Rattle.dashboard.specs.Texts.{lines, board, textOf, verdictText, fixedCount, letter, prefix, section, sections, referenceText}
-use Rattle.page.specs.Pages.{Page, written, said}
 use Rattle.dashboard.proofs.Inside.Boards.{board-is}
-use Rattle.page.proofs.Inside.Pages.{two-said, three-said, said-is-written}
 
 -- ---- a verdict, where the bytes were judged
 

@@ -1,14 +1,7 @@
--- What `giachimu_bounds` answers at each way out, where `bounds_on` has judged the sheet in the list.
--- Assumes nothing.
+-- What `giachimu_bounds` answers at each way out, where `bounds_on` has judged the sheet in the list. Assumes nothing.
 use Rattle.basis.specs.Prelude.{ℕ, _≡_, sym, ap, _∙_, Bool, false, List, length}
-use Rattle.basis.specs.Refusals.{Outcome, outcome, orElse, roomFor, handed}
-use Rattle.basis.specs.declared.refusal.Refusal.the-variants.{Accepted, Refused}
-use Rattle.basis.proofs.Refusals.{handed-outcome, handed-found, handed-done}
-use Rattle.sheet.specs.Lists.{filled, sheetIn}
-use Rattle.bound.specs.Bound.{boundsOf}
-use Rattle.bound.specs.Lists.{resultsLong, resultCell, resultsOn, boundsOn}
+use Rattle.exports.proofs.Names.{Outcome, outcome, orElse, roomFor, handed, Accepted, Refused, handed-outcome, handed-found, handed-done, filled, sheetIn, boundsOf, resultsLong, resultCell, resultsOn, boundsOn, flag, resultsIn, boundsIn}
 use Rattle.bound.specs.declared.results.Judgement.{Judgement}
-use Rattle.exports.specs.Answers.{flag, resultsIn, boundsIn}
 
 -- what `bounds_on` answers
 abbrev Given : Type 0

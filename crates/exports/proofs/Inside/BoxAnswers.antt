@@ -1,22 +1,9 @@
--- What the call of the box's own loop answers at each way out, and the list of a state that it writes.
--- Assumes nothing.
+-- What the call of the box's own loop answers at each way out, and the list of a state that it writes. Assumes nothing.
 use Rattle.basis.specs.Prelude.{ℕ, _*_, _/_, _%_, _≤_, _<_, _≡_, sym, ap, _∙_, Bool, true, false, List, arith, length, List·getD-eq-default, lt-leb, le-leb, eq-eqb, ne-eqb, w64, Fits}
-use Rattle.basis.specs.Limits.{mostRows}
-use Rattle.basis.specs.Refusals.{outcome}
-use Rattle.basis.specs.Upto.{pairCell}
-use Rattle.sheet.specs.Legal.{legal}
-use Rattle.sheet.specs.Lists.{filled, sheetIn}
-use Rattle.sheet.specs.declared.row.Sheet.{Sheet}
+use Rattle.exports.proofs.Names.{mostRows, outcome, pairCell, legal, filled, sheetIn, Sheet, held, ran, noRecord, State, recordAt, stateLong, RunAnswer, fresh, run, told, stateCell, courseTold, boxOf, boxOn}
 use Rattle.sheet.proofs.Legality.{legal-is}
 use Rattle.records.specs.declared.record.RowState.{RowState}
 use Rattle.states.specs.declared.runs.Ran.{Ran}
-use Rattle.states.specs.Values.{held, ran}
-use Rattle.records.specs.Records.{noRecord}
-use Rattle.machine.specs.States.{State, recordAt}
-use Rattle.machine.specs.Lists.{stateLong}
-use Rattle.machine.specs.Answers.{RunAnswer, fresh, run}
-use Rattle.exports.specs.Answers.{told}
-use Rattle.exports.specs.Further.{stateCell, courseTold, boxOf, boxOn}
 
 -- `record_at`
 pub record-past : (t : State) (k : ℕ) → length (t .rows) ≡ mostRows → mostRows ≤ k → noRecord ≡ recordAt t k

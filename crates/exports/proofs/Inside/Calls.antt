@@ -1,18 +1,12 @@
--- What each call of the machine answers, from the answers of what it calls.
--- Assumes nothing.
+-- What each call of the machine answers, from the answers of what it calls. Assumes nothing.
 use Rattle.basis.specs.Prelude.{ℕ, _≡_, ap, _∙_, List, w64}
 use lib.IntN.{ℤ}
 use mir.Val.{SFits, toZ, ofZ}
 use mir.ValLaws.{toZ-ofZ}
-use Rattle.basis.specs.Refusals.{accepted, refused, outcome}
-use Rattle.basis.specs.declared.refusal.Refusal.{Refusal}
+use Rattle.exports.proofs.Names.{accepted, refused, outcome, Refusal, freshAnswer, slotAnswer, MarginAnswer, marginAnswer, margin, sheetIn, stateIn, freshOn, slotIn, ranIn, runIn, told, freshTold, freshIn, slotTold, slotOn, runTold, runOn, marginGiven, marginIn}
 use Rattle.machine.specs.declared.places.Done.{Done}
 use Rattle.machine.specs.declared.margins.Margin.{Margin}
 use Rattle.machine.specs.declared.margins.Margin.the-variants as margin-variants
-use Rattle.machine.specs.Answers.{freshAnswer, slotAnswer, MarginAnswer, marginAnswer, margin}
-use Rattle.sheet.specs.Lists.{sheetIn}
-use Rattle.machine.specs.Lists.{stateIn, freshOn, slotIn, ranIn, runIn}
-use Rattle.exports.specs.Answers.{told, freshTold, freshIn, slotTold, slotOn, runTold, runOn, marginGiven, marginIn}
 
 -- `giachimu_fresh`
 pub fresh-answered : (s list : List ℕ) (r : Refusal) (after : List ℕ) → freshAnswer (outcome r) after ≡ freshOn (sheetIn s) list → (v p : ℕ) → (v, p) ≡ told (outcome r) → ((v, p), after) ≡ freshIn s list

@@ -1,5 +1,4 @@
--- A text that is copied byte by byte to the start of a buffer.
--- Assumes nothing.
+-- A text that is copied byte by byte to the start of a buffer. Assumes nothing.
 use Rattle.basis.specs.Prelude.{ℕ, suc, _+_, _≤_, _<_, _≡_, sym, ap, _∙_, List, _++_, add-one, arith, length, getD, set, take, drop, append-snoc, drop-cons, length-take-le, set-at, take-length, take-suc}
 
 -- the first i bytes are copied

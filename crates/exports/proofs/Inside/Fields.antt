@@ -1,23 +1,11 @@
--- What `giachimu_read` and `giachimu_label` answer at each way out, where the reader has answered r and written into lists.
--- Assumes nothing.
+-- What `giachimu_read` and `giachimu_label` answer at each way out, where the reader has answered r and written into lists. Assumes nothing.
 use Rattle.basis.specs.Prelude.{ℕ, _+_, _*_, _≤_, _<_, _≡_, sym, ap, ap₂, _∙_, List, arith, length, lt-ltb, le-ltb, le-leb, w64, Fits}
-use Rattle.basis.specs.Limits.{mostRows}
-use Rattle.basis.specs.Refusals.{Outcome, accepted, outcome, orElse, roomFor}
-use Rattle.basis.specs.declared.refusal.Refusal.{Refusal}
-use Rattle.basis.specs.declared.refusal.Refusal.the-variants.{Accepted, Refused}
-use Rattle.basis.proofs.Refusals.{handed-outcome, or-nothing}
-use Rattle.sheet.specs.Lists.{numberAt, filled, sheetIn, sheetCell, sheetLong, clearedCell}
-use Rattle.sheet.proofs.Inside.Cells.{cell-past}
+use Rattle.exports.proofs.Names.{mostRows, Outcome, accepted, outcome, orElse, roomFor, Refusal, Accepted, Refused, handed-outcome, or-nothing, numberAt, filled, sheetIn, sheetCell, sheetLong, clearedCell, cell-past, zeros, zeros-long, reading, labelIn, accepted-is-legal, Lists, lists, rows-few, fieldsIn, readIn, labelAnswer}
 use Rattle.sheet.proofs.Inside.ClearedLists.{cleared-is-filled}
-use Rattle.sheet.proofs.Inside.FilledLists.{zeros, zeros-long}
-use Rattle.reader.specs.Answers.{reading, labelIn}
 use Rattle.reader.specs.Lists.{labelsLong, intoLists, readInto}
 use Rattle.reader.specs.Inside.Steps.{partIn}
 use Rattle.reader.specs.declared.row.Part.{Part}
-use Rattle.reader.proofs.LegalSheets.{accepted-is-legal}
 use Rattle.reader.proofs.LentLists.{outcome-is-the-readers, list-kept, reader-accepts, list-has-room, list-written, count-read, parts-written}
-use Rattle.reader.proofs.Inside.ZeroLists.{Lists, lists, rows-few}
-use Rattle.exports.specs.Answers.{fieldsIn, readIn, labelAnswer}
 
 -- `giachimu_read`, with a list of labels that has room for every row
 module _ (s list : List ℕ) (r : Refusal) (l b : List ℕ) (e : lists (outcome r) l b ≡ readInto s list (zeros (labelsLong mostRows))) where

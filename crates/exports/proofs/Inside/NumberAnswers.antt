@@ -1,15 +1,8 @@
--- What the calls about a number and a worked sheet answer at each way out.
--- Assumes nothing.
+-- What the calls about a number and a worked sheet answer at each way out. Assumes nothing.
 use Rattle.basis.specs.Prelude.{ℕ, zero, suc, _+_, _*_, _≤_, _<_, _≡_, sym, ap, _∙_, List, arith, length, lt-leb, le-leb, w64, Fits}
-use Rattle.basis.specs.Readers.{Step}
-use Rattle.numbers.specs.Numbers.{step, number, upTo}
+use Rattle.exports.proofs.Names.{Step, step, number, upTo, Sheet, filled, sheetCell, sheetLong, fixedSheet, fieldsIn, stepTold, numberOn, upToOn, fixedIn}
 use Rattle.numbers.specs.declared.number.Number.{Number}
 use Rattle.numbers.specs.declared.number.Number.the-variants.{Is, Refused}
-use Rattle.sheet.specs.declared.row.Sheet.{Sheet}
-use Rattle.sheet.specs.Lists.{filled, sheetCell, sheetLong}
-use Rattle.tables.specs.Tables.{fixedSheet}
-use Rattle.exports.specs.Answers.{fieldsIn}
-use Rattle.exports.specs.Further.{stepTold, numberOn, upToOn, fixedIn}
 
 -- a number that was read, and one that was refused
 step-refused : (r : Number) (st : Step ℕ) → step r ≡ st → (found t : ℕ × ℕ) (k p : ℕ) → r ≡ Refused k p → t ≡ (k, p) → (t, found) ≡ stepTold st found

@@ -1,21 +1,7 @@
--- Accepted slots one after another, each from the state that the one before it left; and that those of the first n rows are in time where these have bounds.
--- Assumes nothing.
+-- Accepted slots one after another, each from the state that the one before it left; and that those of the first n rows are in time where these have bounds. Assumes nothing.
 use Rattle.basis.specs.Prelude.{ℕ, zero, suc, _+_, _≤_, _<_, _≡_, refl, sym, ap, _∙_, _⊎_, inl, inr, ⊎-elim, List, [], _∷_, _++_, arith, getD}
-use Rattle.basis.specs.Refusals.{accepted}
-use Rattle.sheet.specs.Legal.{rowAt, Legal}
-use Rattle.sheet.specs.declared.row.Sheet.{Sheet}
-use Rattle.machine.specs.States.{State, recordAt}
-use Rattle.records.specs.declared.record.RowState.{RowState}
-use Rattle.machine.specs.Slot.{begun, runs, reached, code}
-use Rattle.machine.specs.Checks.{checkReleases}
-use Rattle.machine.specs.Answers.{given, nextState}
-use Rattle.records.proofs.Inside.Codes.{four-says}
-use Rattle.machine.proofs.Inside.Legals.{LegalState}
-use Rattle.machine.proofs.Inside.LegalSlots.{next-at}
-use Rattle.records.proofs.Inside.Records.{ended-else}
+use Rattle.green.proofs.Names.{accepted, rowAt, Legal, Sheet, State, recordAt, RowState, begun, runs, reached, code, checkReleases, given, nextState, four-says, LegalState, next-at, ended-else, Done, Bounded}
 use Rattle.green.specs.Inside.Model.{age, Reached, slot}
-use Rattle.green.specs.Calls.{Done}
-use Rattle.green.specs.Demand.{Bounded}
 use Rattle.green.proofs.Sheets.{rowsOf, ranges, safe}
 use Rattle.green.proofs.Soundness.{slot-within-bound}
 use Rattle.green.proofs.Slots.{momentOf, ran, slot-is, reached-remaining, reached-since, next-since}

@@ -1,11 +1,6 @@
--- What a row's code says of its job in a slot, beside the machine's own laws.
--- Assumes nothing.
+-- What a row's code says of its job in a slot, beside the machine's own laws. Assumes nothing.
 use Rattle.basis.specs.Prelude.{ℕ, _≤_, _≡_, refl, _∙_, Bool, true, false, _⊎_, inl, inr, ⊎-elim, arith, lt-ltb, le-ltb}
-use Rattle.basis.specs.Words.{pick}
-use Rattle.sheet.specs.declared.row.Row.{Row}
-use Rattle.records.specs.declared.record.Job.{Job}
-use Rattle.records.specs.Steps.{codeOf}
-use Rattle.records.proofs.Inside.Codes.{code-is, goes-on}
+use Rattle.green.proofs.Names.{pick, Row, Job, codeOf, code-is, goes-on}
 
 module _ (row : Row) (ran : Bool) (before after : Job) where
   -- nothing is left: 3

@@ -1,15 +1,6 @@
--- Where the first n rows of a sheet have bounds, a chain of accepted slots from a moment that slots lead to finishes each of their jobs within its row's bound and misses none of their deadlines.
--- Assumes nothing.
+-- Where the first n rows of a sheet have bounds, a chain of accepted slots from a moment that slots lead to finishes each of their jobs within its row's bound and misses none of their deadlines. Assumes nothing.
 use Rattle.basis.specs.Prelude.{ℕ, zero, suc, _+_, _-_, _≤_, _<_, _≡_, refl, sym, ap, subst, _∙_, _⊎_, inl, inr, ⊎-elim, List, [], _∷_, arith, zero-add, length, getD}
-use Rattle.sheet.specs.Legal.{Legal}
-use Rattle.sheet.specs.declared.row.Sheet.{Sheet}
-use Rattle.bound.specs.Test.{passes}
-use Rattle.bound.specs.Bound.{Word, bound, valueOf, resultOf}
-use Rattle.machine.specs.States.{State, recordAt}
-use Rattle.machine.specs.Answers.{nextState}
-use Rattle.green.specs.Inside.Model.{owed, age, Reached}
-use Rattle.green.specs.Calls.{Done}
-use Rattle.green.specs.Demand.{Bounded, releaseIn, codeIn, FinishedWithin, InTime}
+use Rattle.green.proofs.Names.{Legal, Sheet, passes, Word, bound, valueOf, resultOf, State, recordAt, nextState, owed, age, Reached, Done, Bounded, releaseIn, codeIn, FinishedWithin, InTime}
 use Rattle.green.proofs.Sheets.{rowsOf, ranges, safe}
 use Rattle.green.proofs.Soundness.{within-bound}
 use Rattle.green.proofs.Slots.{momentOf, begin-remaining, released-so}

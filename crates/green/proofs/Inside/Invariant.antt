@@ -1,8 +1,6 @@
--- The invariant of a moment that slots lead to: each job has waited in slots that would make an interference if they were more, and a slot keeps this.
--- Assumes nothing.
+-- The invariant of a moment that slots lead to: each job has waited in slots that would make an interference if they were more, and a slot keeps this. Assumes nothing.
 use Rattle.basis.specs.Prelude.{_≡_, refl, List, [], _∷_, ℕ, zero, suc, _+_, _-_, _≤_, _<_, min, sub-zero, arith, length}
-use Rattle.basis.specs.Words.{Each}
-use Rattle.green.specs.Inside.Model.{Rows, Moment, owed, age, tally, Ranges, q, g, W, X, Slot, Busy, Safe}
+use Rattle.green.proofs.Names.{Each, Rows, Moment, owed, age, tally, Ranges, q, g, W, X, Slot, Busy, Safe}
 use Rattle.green.proofs.Inside.Tallies.{sum-cap}
 use Rattle.green.proofs.Inside.Potential.{Φ, Φ-slot, Φ-release, Φ-start, split}
 

@@ -1,5 +1,4 @@
--- The potential of a row: the most that it runs in the next slots, which falls by what it runs in each.
--- Assumes nothing.
+-- The potential of a row: the most that it runs in the next slots, which falls by what it runs in each. Assumes nothing.
 use Rattle.basis.specs.Prelude.{ℕ, zero, suc, _+_, _-_, _≤_, _<_, min, lt-of-not-le, arith}
 use native.Mathlib.Decide.{decLe}
 use Rattle.basis.specs.Workload.{ω}

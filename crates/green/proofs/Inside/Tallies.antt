@@ -1,8 +1,6 @@
--- Sums over the rows above, lists of slots, and how often each row runs in one.
--- Assumes nothing.
+-- Sums over the rows above, lists of slots, and how often each row runs in one. Assumes nothing.
 use Rattle.basis.specs.Prelude.{_≡_, refl, List, [], _∷_, ℕ, zero, suc, _+_, _*_, _≤_, min, arith, length}
-use Rattle.basis.specs.Words.{sum, Each}
-use Rattle.green.specs.Inside.Model.{tally}
+use Rattle.green.proofs.Names.{sum, Each, tally}
 
 -- the sum of (a + b) c is that of a c and that of b c
 pub sum-add-mul : (k : ℕ) (a b c : ℕ → ℕ) → sum k (λ i. (a i + b i) * c i) ≡ sum k (λ i. a i * c i) + sum k (λ i. b i * c i)

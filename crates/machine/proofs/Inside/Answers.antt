@@ -1,17 +1,6 @@
--- Each call's answer, from the answers of what it calls.
--- Assumes nothing.
+-- Each call's answer, from the answers of what it calls. Assumes nothing.
 use Rattle.basis.specs.Prelude.{ℕ, _*_, _/_, _%_, _≤_, _<_, _≡_, refl, sym, ap, _∙_, true, List, length, leb, eqb, arith, div-add-mod', leb-true, eqb-true}
-use Rattle.basis.specs.Limits.{mostRows}
-use Rattle.basis.specs.Refusals.{accepted, refused, outcome, needed}
-use Rattle.basis.specs.declared.refusal.Refusal.{Refusal}
-use Rattle.basis.specs.declared.refusal.Refusal.the-variants.{Accepted, Refused}
-use Rattle.basis.proofs.Inside.FirstRefusal.{both-accepted}
-use Rattle.basis.proofs.Refusals.{needed-holds}
-use Rattle.sheet.specs.Legal.{legal}
-use Rattle.sheet.specs.declared.row.Sheet.{Sheet}
-use Rattle.machine.specs.States.{State, legalState}
-use Rattle.machine.specs.Checks.{checkReleases, checkState, checkRoom, checkSlot, checkRun}
-use Rattle.machine.specs.Answers.{SlotAnswer, RunAnswer, slotAnswer, runAnswer, nextState, nextCodes, slot, course, run}
+use Rattle.machine.proofs.Names.{mostRows, accepted, refused, outcome, needed, Refusal, Accepted, Refused, both-accepted, needed-holds, legal, Sheet, State, legalState, checkReleases, checkState, checkRoom, checkSlot, checkRun, SlotAnswer, RunAnswer, slotAnswer, runAnswer, nextState, nextCodes, slot, course, run}
 use Rattle.machine.proofs.Inside.Checks.{Ready, ready}
 use Rattle.machine.proofs.Inside.Courses.{stopped}
 

@@ -1,17 +1,6 @@
--- What a check that was answered says: of the sheet and the state, of the list and the buffer, and of the rows.
--- Assumes nothing.
+-- What a check that was answered says: of the sheet and the state, of the list and the buffer, and of the rows. Assumes nothing.
 use Rattle.basis.specs.Prelude.{ℕ, _%_, _≤_, _<_, _≡_, sym, ap, _∙_, true, List, length, arith, lt-ltb, le-ltb, le-leb, lt-leb, eq-eqb, ne-eqb}
-use Rattle.basis.specs.Limits.{mostRows}
-use Rattle.basis.specs.Refusals.{accepted, refused, outcome, needed}
-use Rattle.basis.specs.declared.refusal.Refusal.{Refusal}
-use Rattle.basis.specs.declared.refusal.Refusal.the-variants.{Accepted, Refused}
-use Rattle.basis.proofs.Inside.FirstRefusal.{both-accepted}
-use Rattle.basis.proofs.Refusals.{needed-holds}
-use Rattle.sheet.specs.Legal.{legal}
-use Rattle.sheet.specs.declared.row.Sheet.{Sheet}
-use Rattle.sheet.proofs.Legality.{legal-is}
-use Rattle.machine.specs.States.{State, legalState}
-use Rattle.machine.specs.Checks.{checkReleases, checkState, checkRoom, checkSlot, checkRun, checkMargin}
+use Rattle.machine.proofs.Names.{mostRows, accepted, refused, outcome, needed, Refusal, Accepted, Refused, both-accepted, needed-holds, legal, Sheet, legal-is, State, legalState, checkReleases, checkState, checkRoom, checkSlot, checkRun, checkMargin}
 
 -- a sheet and a state that are in order
 pub record Ready (h : Sheet) (t : State) : Type 0 where

@@ -1,20 +1,8 @@
--- The checks in place: of a sheet and a state, and of the releases, in the words of the loop over them.
--- Assumes nothing.
+-- The checks in place: of a sheet and a state, and of the releases, in the words of the loop over them. Assumes nothing.
 use Rattle.basis.specs.Prelude.{ℕ, _+_, _≤_, _<_, _≡_, sym, ap, _∙_, Bool, true, false, List, getD, arith}
-use Rattle.basis.specs.Refusals.{Outcome, accepted, refused, outcome, firstOf}
-use Rattle.basis.specs.declared.refusal.Refusal.{Refusal}
-use Rattle.basis.specs.declared.refusal.Refusal.the-variants.{Accepted, Refused}
-use Rattle.sheet.specs.Legal.{rowAt, legal}
-use Rattle.sheet.specs.declared.row.Row.{Row}
-use Rattle.sheet.specs.declared.row.Sheet.{Sheet}
-use Rattle.records.specs.declared.record.RowState.{RowState}
-use Rattle.machine.specs.States.{State, recordAt, legalState}
-use Rattle.records.specs.Checks.{checkRow}
-use Rattle.machine.specs.Checks.{checkAt, checkReleases, checkState}
-use Rattle.machine.specs.Lists.{recordIn, stateIn}
+use Rattle.machine.proofs.Names.{Outcome, accepted, refused, outcome, firstOf, Refusal, Accepted, Refused, rowAt, legal, Row, Sheet, RowState, State, recordAt, legalState, checkRow, checkAt, checkReleases, checkState, recordIn, stateIn, first-more, first-found}
 use Rattle.machine.proofs.Inside.Checks.{ready}
 use Rattle.machine.proofs.LegalLists.{kept-record}
-use Rattle.basis.proofs.Inside.FirstRefusal.{first-more, first-found}
 
 -- the loop over the releases: its end
 pub check-done : (h : Sheet) (t : State) (rel : List ℕ) (i n : ℕ) → firstOf i (checkAt h t rel) ≡ accepted → n ≡ h .count → i ≤ n → n ≤ i → accepted ≡ checkReleases h t rel

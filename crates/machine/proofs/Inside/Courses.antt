@@ -1,16 +1,7 @@
--- A run's course: slot j of a list on parts of the list and the buffer, one slot more, and a course that has stopped.
--- Assumes nothing.
+-- A run's course: slot j of a list on parts of the list and the buffer, one slot more, and a course that has stopped. Assumes nothing.
 use Rattle.basis.specs.Prelude.{ℕ, zero, suc, _+_, _*_, _-_, _≤_, _<_, _≡_, sym, ap, ap₂, _∙_, true, List, _++_, append-nil, length, take, drop, length-drop, take-append-drop, drop-of-length-le, length-take-le, take-all, arith, mul-le-mul-right, add-zero, zero-add, add-suc, add-one, le-leb, eq-eqb}
 use borrow.Rule.Slice.PartMut.{putMid}
-use Rattle.basis.specs.Words.{pick}
-use Rattle.basis.specs.Refusals.{Outcome, accepted, refused, outcome, isAccepted}
-use Rattle.basis.specs.declared.refusal.Refusal.{Refusal}
-use Rattle.basis.specs.declared.refusal.Refusal.the-variants.{Accepted, Refused}
-use Rattle.sheet.specs.Legal.{legal}
-use Rattle.sheet.specs.declared.row.Sheet.{Sheet}
-use Rattle.machine.specs.States.{State, legalState}
-use Rattle.machine.specs.Checks.{checkReleases, checkState, checkRoom, checkSlot}
-use Rattle.machine.specs.Answers.{SlotAnswer, RunAnswer, slotAnswer, runAnswer, nextState, nextCodes, slot, entriesOf, slotAt, onward, course}
+use Rattle.machine.proofs.Names.{pick, Outcome, accepted, refused, outcome, isAccepted, Refusal, Accepted, Refused, legal, Sheet, State, legalState, checkReleases, checkState, checkRoom, checkSlot, SlotAnswer, RunAnswer, slotAnswer, runAnswer, nextState, nextCodes, slot, entriesOf, slotAt, onward, course}
 
 -- slot j of a list
 module _ (h : Sheet) (t : State) (rel cs : List ℕ) (j n : ℕ) (en : n ≡ h .count) (fine : legal h ≡ true) (kept : legalState h t ≡ true)

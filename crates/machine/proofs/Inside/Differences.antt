@@ -1,5 +1,4 @@
--- Signed differences of numbers that are small beside the width: what the code computes is the difference itself.
--- Assumes nothing.
+-- Signed differences of numbers that are small beside the width: what the code computes is the difference itself. Assumes nothing.
 use Rattle.basis.specs.Prelude.{ℕ, zero, suc, _+_, _-_, _*_, _≤_, _<_, _^_, _≡_, refl, sym, ap, ap₂, _∙_, Bool, true, false, cond, arith, ltb, lt-ltb, le-ltb, w64}
 use lib.IntN.{ℤ, pos, negsuc, negℤ, subℕ, _+ℤ_, _-ℤ_, +ℤ-assoc, negℤ-+ℤ}
 use lib.Signed.{mag}

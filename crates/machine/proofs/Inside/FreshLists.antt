@@ -1,21 +1,7 @@
--- The fresh state in a list: a turn of the loop that writes it, and each way out.
--- Assumes nothing.
+-- The fresh state in a list: a turn of the loop that writes it, and each way out. Assumes nothing.
 use Rattle.basis.specs.Prelude.{ℕ, _+_, _*_, _≤_, _<_, _≡_, refl, sym, ap, ap₂, _∙_, Bool, true, false, List, length, length-replicate, arith, le-leb, lt-leb, w64, Fits}
-use Rattle.basis.specs.Limits.{mostRows}
-use Rattle.basis.specs.Refusals.{accepted, refused}
-use Rattle.basis.proofs.Inside.Upto.{upto-none, upto-below}
-use Rattle.sheet.specs.Legal.{rowAt, legal}
-use Rattle.sheet.specs.declared.row.Row.{Row}
-use Rattle.sheet.specs.declared.row.Sheet.{Sheet}
-use Rattle.sheet.proofs.Legality.{legal-is}
-use Rattle.sheet.specs.Lists.{filled, clearedCell}
+use Rattle.machine.proofs.Names.{mostRows, accepted, refused, upto-none, upto-below, rowAt, legal, Row, Sheet, legal-is, filled, clearedCell, length-filled, RowState, recordOf, noRecord, noState, recordAt, freshAt, freshState, freshAnswer, fresh, recordWide, stateLong, putRecord, putTo, putState, cleared, freshOn}
 use Rattle.sheet.proofs.Inside.ClearedLists.{cleared-is-filled}
-use Rattle.sheet.proofs.Inside.FilledLists.{length-filled}
-use Rattle.records.specs.declared.record.RowState.{RowState}
-use Rattle.records.specs.Records.{recordOf, noRecord}
-use Rattle.machine.specs.States.{noState, recordAt, freshAt, freshState}
-use Rattle.machine.specs.Answers.{freshAnswer, fresh}
-use Rattle.machine.specs.Lists.{recordWide, stateLong, putRecord, putTo, putState, cleared, freshOn}
 use Rattle.machine.proofs.Inside.RecordLists.{put-more, put-agree}
 
 -- the fresh records are those of the fresh state

@@ -1,19 +1,6 @@
--- The check in place that the state in a list is legal: a turn of its loop, and each way out.
--- Assumes nothing.
+-- The check in place that the state in a list is legal: a turn of its loop, and each way out. Assumes nothing.
 use Rattle.basis.specs.Prelude.{ℕ, _+_, _*_, _≤_, _<_, _≡_, sym, ap, ap₂, _∙_, Bool, true, false, List, ⊎-elim, length, List·getD-eq-default, arith, lt-ltb, le-ltb, eq-eqb, eqb-true, w64, Fits}
-use Rattle.basis.specs.Limits.{mostRows}
-use Rattle.basis.specs.Words.{allOf}
-use Rattle.basis.proofs.Inside.Words.{lt-or-le, all-one-more, all-at, all-true, true-not-false}
-use Rattle.sheet.specs.Legal.{rowAt, legal}
-use Rattle.sheet.specs.declared.row.Row.{Row}
-use Rattle.sheet.specs.declared.row.Sheet.{Sheet}
-use Rattle.sheet.proofs.Legality.{legal-is}
-use Rattle.sheet.specs.Lists.{numberAt}
-use Rattle.sheet.proofs.Ranges.{not-so}
-use Rattle.records.specs.declared.record.RowState.{RowState}
-use Rattle.machine.specs.States.{recordAt, legalState}
-use Rattle.records.specs.Records.{isZero, isZeroJob, legalRecord}
-use Rattle.machine.specs.Lists.{recordWide, recordIn, stateLong, zeroAt, zeroFrom, spareIsZero, stateIn}
+use Rattle.machine.proofs.Names.{mostRows, allOf, lt-or-le, all-one-more, all-at, all-true, true-not-false, rowAt, legal, Row, Sheet, legal-is, numberAt, not-so, RowState, recordAt, legalState, isZero, isZeroJob, legalRecord, recordWide, recordIn, stateLong, zeroAt, zeroFrom, spareIsZero, stateIn}
 use Rattle.machine.proofs.Inside.Legals.{legal-job-is, legal-job-says, legal-state-is, legal-state-says}
 use Rattle.machine.proofs.Inside.RecordLists.{record-in-state}
 use Rattle.machine.proofs.LegalLists.{few, kept-record, kept-zeros, missing-records-are-refused}

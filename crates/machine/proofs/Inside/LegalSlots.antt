@@ -1,25 +1,7 @@
--- Legal states are kept: fresh is legal, and from a legal state an accepted slot gives a legal state.
--- Assumes nothing.
+-- Legal states are kept: fresh is legal, and from a legal state an accepted slot gives a legal state. Assumes nothing.
 use Rattle.basis.specs.Prelude.{ℕ, zero, suc, _≤_, _<_, _≡_, refl, _∙_, Bool, List, ⊎-elim, getD, replicate, length-replicate, getD-replicate, arith, le-refl}
-use Rattle.basis.specs.Limits.{mostRows}
-use Rattle.basis.specs.Refusals.{accepted}
-use Rattle.basis.proofs.Inside.Words.{lt-or-le}
-use Rattle.basis.proofs.Inside.FirstRefusal.{first-at}
-use Rattle.basis.proofs.Inside.Upto.{upto-below, upto-past}
-use Rattle.sheet.specs.Legal.{rowAt, Legal, LegalRow}
-use Rattle.sheet.specs.declared.row.Row.{Row}
-use Rattle.sheet.specs.declared.row.Sheet.{Sheet}
-use Rattle.records.specs.declared.record.Job.{Job}
-use Rattle.records.specs.declared.record.RowState.{RowState}
-use Rattle.machine.specs.States.{State, recordAt, freshAt, freshState}
-use Rattle.records.specs.Records.{noRecord, isZeroJob}
-use Rattle.records.specs.Steps.{released, worked, older, aged, ended}
-use Rattle.machine.specs.Slot.{begun, runs, next}
-use Rattle.records.specs.Checks.{checkRow}
-use Rattle.machine.specs.Checks.{checkAt, checkReleases}
-use Rattle.machine.specs.Answers.{given, nextState}
+use Rattle.machine.proofs.Names.{mostRows, accepted, lt-or-le, first-at, upto-below, upto-past, rowAt, Legal, LegalRow, Row, Sheet, Job, RowState, State, recordAt, freshAt, freshState, noRecord, isZeroJob, released, worked, older, aged, ended, begun, runs, next, checkRow, checkAt, checkReleases, given, nextState, released-none, released-some, release-allowed, worked-near, older-below, older-within, ended-at, ended-less, ended-since}
 use Rattle.machine.proofs.Inside.Legals.{LegalJob, LegalState, legal-state-long}
-use Rattle.records.proofs.Inside.Records.{released-none, released-some, release-allowed, worked-near, older-below, older-within, ended-at, ended-less, ended-since}
 
 -- a job after step 1
 record BegunJob (row : Row) (s : Job) : Type 0 where

@@ -1,16 +1,6 @@
--- Legal jobs and states as facts, and back.
--- Assumes nothing.
+-- Legal jobs and states as facts, and back. Assumes nothing.
 use Rattle.basis.specs.Prelude.{ℕ, _≤_, _<_, _≡_, refl, sym, ap, Bool, true, false, length, List·getD-eq-default, ltb, leb, ⊎-elim, arith, lt-ltb, le-ltb, le-leb, leb-true, ltb-true}
-use Rattle.basis.specs.Limits.{mostRows}
-use Rattle.basis.specs.Words.{pick, within}
-use Rattle.basis.proofs.Inside.Words.{both-left, both-right, both-true, at-least, at-most, within-true, all-at, all-true, lt-or-le, true-not-false}
-use Rattle.sheet.specs.Legal.{rowAt}
-use Rattle.sheet.specs.declared.row.Row.{Row}
-use Rattle.sheet.specs.declared.row.Sheet.{Sheet}
-use Rattle.records.specs.declared.record.Job.{Job}
-use Rattle.records.specs.declared.record.RowState.{RowState}
-use Rattle.machine.specs.States.{State, recordAt, legalRecordAt, legalState}
-use Rattle.records.specs.Records.{noRecord, hasJob, legalJob, isZero}
+use Rattle.machine.proofs.Names.{mostRows, pick, within, both-left, both-right, both-true, at-least, at-most, within-true, all-at, all-true, lt-or-le, true-not-false, rowAt, Row, Sheet, Job, RowState, State, recordAt, legalRecordAt, legalState, noRecord, hasJob, legalJob, isZero}
 
 -- a job that is legal for its row
 pub record LegalJob (row : Row) (j : Job) : Type 0 where

@@ -1,26 +1,9 @@
--- What is told of a margin, from the answers of what `margin` calls.
--- Assumes nothing.
+-- What is told of a margin, from the answers of what `margin` calls. Assumes nothing.
 use Rattle.basis.specs.Prelude.{ℕ, _+_, _≤_, _<_, _≡_, refl, sym, ap, ap₂, _∙_, List, length, arith, lt-ltb, le-ltb, ltb-true, w64}
 use lib.IntN.{_-ℤ_}
 use mir.Val.{SFits, toZ, ofZ}
 use mir.ValLaws.{toZ-ofZ}
-use Rattle.basis.specs.Limits.{mostRows, mostSeparation}
-use Rattle.basis.specs.Refusals.{outcome}
-use Rattle.basis.specs.declared.refusal.Refusal.{Refusal}
-use Rattle.basis.specs.declared.refusal.Refusal.the-variants.{Accepted, Refused}
-use Rattle.basis.proofs.Inside.FirstRefusal.{both-accepted}
-use Rattle.basis.proofs.Refusals.{needed-holds}
-use Rattle.sheet.specs.Legal.{rowAt, LegalRow}
-use Rattle.sheet.specs.declared.row.Row.{Row}
-use Rattle.sheet.proofs.Legality.{legal-is}
-use Rattle.records.specs.declared.record.Job.{Job}
-use Rattle.records.specs.declared.record.RowState.{RowState}
-use Rattle.machine.specs.States.{recordAt}
-use Rattle.machine.specs.Checks.{checkState, checkMargin}
-use Rattle.machine.specs.Answers.{MarginAnswer, no-job, margin-is, refused-by, marginOf, marginAt, margin}
-use Rattle.machine.specs.Lists.{recordIn, stateLong, stateIn}
-use Rattle.sheet.specs.Lists.{sheetIn, sheetLong}
-use Rattle.sheet.proofs.Ranges.{legal-sheet-long}
+use Rattle.machine.proofs.Names.{mostRows, mostSeparation, outcome, Refusal, Accepted, Refused, both-accepted, needed-holds, rowAt, LegalRow, Row, legal-is, Job, RowState, recordAt, checkState, checkMargin, MarginAnswer, no-job, margin-is, refused-by, marginOf, marginAt, margin, recordIn, stateLong, stateIn, sheetIn, sheetLong, legal-sheet-long}
 use Rattle.machine.proofs.LegalLists.{kept-long, kept-record}
 use Rattle.machine.proofs.Inside.Checks.{Ready, ready}
 use Rattle.machine.proofs.Inside.Differences.{themselves, difference-fits, less-twice}

@@ -1,17 +1,6 @@
--- Records of a state's list, as they are read and written in place.
--- Assumes nothing.
+-- Records of a state's list, as they are read and written in place. Assumes nothing.
 use Rattle.basis.specs.Prelude.{ℕ, zero, suc, _+_, _*_, _≤_, _<_, _≡_, refl, sym, ap, ap₂, _∙_, true, false, List, ⊎-elim, length, getD, set, length-set, getD-set-same, getD-set-other, ext-getD, arith, le-refl, eq-or-lt-of-le, add-one, lt-ltb, le-ltb, eq-eqb}
-use Rattle.basis.specs.Limits.{mostRows}
-use Rattle.basis.specs.Upto.{upto}
-use Rattle.basis.proofs.Inside.Words.{lt-or-le, all-same, all-true}
-use Rattle.basis.proofs.Inside.Upto.{upto-below, upto-past, length-upto}
-use Rattle.basis.proofs.Inside.Lists.{getD-all}
-use Rattle.sheet.specs.Lists.{numberAt}
-use Rattle.sheet.proofs.Inside.FilledLists.{filled-read}
-use Rattle.records.specs.declared.record.RowState.{RowState}
-use Rattle.records.specs.Records.{recordOf, noRecord}
-use Rattle.machine.specs.States.{noState, stateOf, recordAt}
-use Rattle.machine.specs.Lists.{recordWide, recordIn, stateLong, zeroAt, zeroFrom, spareIsZero, stateIn, putRecord, putTo, cleared}
+use Rattle.machine.proofs.Names.{mostRows, upto, lt-or-le, all-same, all-true, upto-below, upto-past, length-upto, getD-all, numberAt, filled-read, RowState, recordOf, noRecord, noState, stateOf, recordAt, recordWide, recordIn, stateLong, zeroAt, zeroFrom, spareIsZero, stateIn, putRecord, putTo, cleared}
 
 -- `record_in`
 pub record-read : (l : List ℕ) (k : ℕ) → recordOf (record { remaining = numberAt l (k * recordWide); since = numberAt l (k * recordWide + 1) }) ≡ recordIn l k

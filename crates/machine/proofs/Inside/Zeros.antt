@@ -1,10 +1,6 @@
--- The loop that looks whether every number of a list is zero from a place on.
--- Assumes nothing.
+-- The loop that looks whether every number of a list is zero from a place on. Assumes nothing.
 use Rattle.basis.specs.Prelude.{ℕ, _+_, _≤_, _<_, _≡_, sym, ap, _∙_, true, false, List, length, arith, lt-ltb, le-ltb, eq-eqb, ne-eqb}
-use Rattle.basis.specs.Words.{allOf}
-use Rattle.basis.proofs.Inside.Words.{all-one-more, all-true, all-fails, both-true}
-use Rattle.sheet.specs.Lists.{numberAt}
-use Rattle.machine.specs.Lists.{zeroAt, zeroFrom}
+use Rattle.machine.proofs.Names.{allOf, all-one-more, all-true, all-fails, both-true, numberAt, zeroAt, zeroFrom}
 
 -- `is_zero_from`
 pub zero-none : (from : ℕ) (l : List ℕ) → true ≡ allOf from (zeroAt from l)

@@ -1,11 +1,7 @@
 -- What is known of a number that was read: its bounds, and the places.
 use Rattle.basis.specs.Prelude.{ℕ, zero, suc, _+_, _-_, _*_, _≤_, _<_, _≡_, refl, sym, _∙_, ⊎-elim, List, arith, zero-lt-suc, length, getD, eqb, leb, eqb-false, leb-true}
-use Rattle.basis.specs.Readers.{Step, ok, refuse, after, give}
-use Rattle.basis.specs.Limits.{mostGroups}
-use Rattle.numbers.specs.Numbers.{groups, number, upToBy, upTo}
+use Rattle.numbers.proofs.Names.{Step, ok, refuse, after, give, mostGroups, groups, number, upToBy, upTo, lt-or-le, never-ok, after-ok, ok-same, passed, not-stopped}
 use Rattle.numbers.proofs.Inside.Groups.{one-less, ends, over, low, last, more}
-use Rattle.basis.proofs.Inside.Words.{lt-or-le}
-use Rattle.basis.proofs.Inside.Steps.{never-ok, after-ok, ok-same, passed, not-stopped}
 
 -- a number that was read ends within the bytes
 pub inside : (g first least : ℕ) (s : List ℕ) (at v n : ℕ) → groups g first least s at ≡ ok v n → (at < n) × (n ≤ length s)

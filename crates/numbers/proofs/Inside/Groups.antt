@@ -1,7 +1,6 @@
 -- Laws of `groups`: a turn of it, by the tests that a reader makes; what a value scaled and added to is.
 use Rattle.basis.specs.Prelude.{ℕ, zero, suc, _+_, _-_, _*_, _^_, _≤_, _<_, _≡_, refl, ap, _∙_, List, arith, not-suc-le-zero, mul-assoc, add-mul, mul-le-mul-left, mul-le-mul-right, one-le-pow, pow-succ', length, getD, lt-ltb, le-ltb}
-use Rattle.basis.specs.Readers.{Step, ok, refuse, after}
-use Rattle.numbers.specs.Numbers.{groups}
+use Rattle.numbers.proofs.Names.{Step, ok, refuse, after, groups}
 
 pub one-less : (g : ℕ) → suc g - 1 ≡ g
 one-less g = omega arith

@@ -1,13 +1,7 @@
--- A number is tame: it takes no more bytes than its limit, its refusals are 2 and 3 and the two of its range, and no other byte counts.
--- Assumes nothing.
+-- A number is tame: it takes no more bytes than its limit, its refusals are 2 and 3 and the two of its range, and no other byte counts. Assumes nothing.
 use Rattle.basis.specs.Prelude.{ℕ, zero, suc, _+_, _-_, _*_, _/_, _≤_, _<_, _≡_, refl, sym, ap, _∙_, ⊎-elim, Bool, true, false, List, arith, zero-lt-suc, length, getD, ltb, eqb, leb, lt-ltb}
-use Rattle.basis.specs.Limits.{mostGroups}
-use Rattle.basis.specs.Words.{pick}
-use Rattle.basis.specs.Readers.{Step, ok, refuse, Reader, after, _>>=_, byte, refuse-at, give}
-use Rattle.basis.proofs.Inside.Steps.{never-ok, ok-same, refuse-same}
+use Rattle.numbers.proofs.Names.{mostGroups, pick, Step, ok, refuse, Reader, after, _>>=_, byte, refuse-at, give, never-ok, ok-same, refuse-same, lt-or-le, groups, number, upToBy, upTo, spelt, width}
 use Rattle.basis.proofs.Tame.{BytesRefusal, Agree, Tame, bytes-refusal, bytes-end-refusal, bytes-refusal-as, pick-alike}
-use Rattle.basis.proofs.Inside.Words.{lt-or-le}
-use Rattle.numbers.specs.Numbers.{groups, number, upToBy, upTo, spelt, width}
 use Rattle.numbers.proofs.Inside.Groups.{one-less, ends, over, low, last, more}
 use Rattle.numbers.proofs.OneSpelling.{spelt-one, spelt-more}
 use Rattle.numbers.proofs.Inside.Bounds.{bounded}

@@ -1,5 +1,4 @@
--- One text said after another, the loop over bytes, and what the buffer is at last.
--- Assumes nothing.
+-- One text said after another, the loop over bytes, and what the buffer is at last. Assumes nothing.
 use Rattle.basis.specs.Prelude.{ℕ, _+_, _≤_, _<_, min, _≡_, refl, sym, ap, _∙_, List, [], _∷_, _++_, append-nil, append-assoc, arith, add-one, length, getD, take, drop, set, length-append, take-suc, take-all, set-append-seam, append-snoc, take-nil, drop-nil, lt-ltb, le-ltb}
 use Rattle.page.specs.Pages.{Page, written, putOne, said}
 

@@ -1,17 +1,6 @@
--- A row: each way out of the functions that read its numbers, and its label before them.
--- Assumes nothing.
+-- A row: each way out of the functions that read its numbers, and its label before them. Assumes nothing.
 use Rattle.basis.specs.Prelude.{ℕ, _≡_, refl, sym, subst, _∙_, List, length}
-use Rattle.basis.specs.Limits.{longestLabel, mostSeparation}
-use Rattle.basis.specs.Readers.{Step, ok, refuse, after, mapStep}
-use Rattle.basis.proofs.Inside.Steps.{got, map-step-ok, map-step-no}
-use Rattle.numbers.specs.Numbers.{step, upTo}
-use Rattle.numbers.specs.declared.number.Number.{Number}
-use Rattle.numbers.specs.declared.number.Number.the-variants.{Is, Refused}
-use Rattle.sheet.specs.declared.row.Row.{Row}
-use Rattle.reader.specs.Form.{entryRow, label, entryBy, entry}
-use Rattle.reader.specs.Answers.{partAfter}
-use Rattle.reader.specs.Inside.Steps.{labelStep, LabelAt, numbers, rowStep}
-use Rattle.reader.specs.declared.row.Part.{Part}
+use Rattle.reader.proofs.Names.{longestLabel, mostSeparation, Step, ok, refuse, after, mapStep, got, map-step-ok, map-step-no, step, upTo, Number, Is, Refused, Row, entryRow, label, entryBy, entry, partAfter, labelStep, LabelAt, numbers, rowStep, Part}
 use Rattle.reader.specs.declared.row.LabelRead.{LabelRead}
 use Rattle.reader.specs.declared.row.LabelRead.the-variants as label-variants
 use Rattle.reader.specs.declared.row.RowRead.{RowRead}

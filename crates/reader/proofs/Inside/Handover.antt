@@ -1,25 +1,8 @@
--- Reading into lent lists: each way out of the functions that read and hand over.
--- Assumes nothing.
+-- Reading into lent lists: each way out of the functions that read and hand over. Assumes nothing.
 use Rattle.basis.specs.Prelude.{ℕ, _≤_, _<_, _≡_, sym, ap, subst, _∙_, List, arith, length, lt-ltb, le-ltb, le-leb, lt-leb}
-use Rattle.basis.specs.Limits.{mostRows}
-use Rattle.basis.specs.Upto.{upto}
-use Rattle.basis.specs.Readers.{Step, ok, mapStep}
-use Rattle.basis.specs.Refusals.{Outcome, accepted, refused, orElse, roomFor, handed}
-use Rattle.basis.proofs.Inside.Pairs.{pairs-agree}
-use Rattle.basis.proofs.Inside.Steps.{got, map-step-ok, map-step-no}
-use Rattle.basis.proofs.Inside.Upto.{upto-agree, upto-below}
-use Rattle.numbers.proofs.Inside.Bounds.{bounded}
-use Rattle.sheet.specs.Legal.{rowAt}
-use Rattle.sheet.specs.Lists.{numberAt, listCell, sheetCell, sheetLong}
-use Rattle.sheet.proofs.Inside.Stores.{rows-agree}
-use Rattle.reader.specs.Form.{Entry, Held, entries, bodyBy, head, sheetBy, sheet, labelHead}
-use Rattle.reader.specs.Answers.{sheetHeld, readingOf, labelIn}
-use Rattle.reader.specs.Lists.{labelsLong, labelCell, intoLists, readInto}
-use Rattle.reader.specs.Inside.Steps.{passedStep, nothing, headOf, headStep, rowAfter, labelFrom, labelAfter, rowsIn, partsIn, Took, handedOver}
+use Rattle.reader.proofs.Names.{mostRows, upto, Step, ok, mapStep, Outcome, accepted, refused, orElse, roomFor, handed, pairs-agree, got, map-step-ok, map-step-no, upto-agree, upto-below, bounded, rowAt, numberAt, listCell, sheetCell, sheetLong, rows-agree, Entry, Held, entries, bodyBy, head, sheetBy, sheet, labelHead, sheetHeld, readingOf, labelIn, labelsLong, labelCell, intoLists, readInto, passedStep, nothing, headOf, headStep, rowAfter, labelFrom, labelAfter, rowsIn, partsIn, Took, handedOver, Part, Passed}
 use Rattle.reader.specs.declared.head.HeadRead.{HeadRead}
 use Rattle.reader.specs.declared.head.HeadRead.the-variants as head-variants
-use Rattle.reader.specs.declared.row.Part.{Part}
-use Rattle.reader.specs.declared.row.Passed.{Passed}
 use Rattle.reader.specs.declared.row.Passed.the-variants as passed-variants
 use Rattle.reader.proofs.LegalSheets.{row-held}
 use Rattle.reader.proofs.Inside.LabelPlaces.{entries-length, row-was-read}

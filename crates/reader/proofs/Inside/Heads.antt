@@ -1,13 +1,6 @@
--- What stands before the rows: each way out of the function that reads it, and what is known where it is accepted.
--- Assumes nothing.
+-- What stands before the rows: each way out of the function that reads it, and what is known where it is accepted. Assumes nothing.
 use Rattle.basis.specs.Prelude.{ℕ, _≡_, sym, ap, ap₂, _∙_, List, Bool, true, false}
-use Rattle.basis.specs.Limits.{mostProcessors, mostRows}
-use Rattle.basis.specs.Readers.{ok, refuse, begins, marked}
-use Rattle.basis.proofs.Inside.Steps.{got, after-ok, ok-same, marked-ok}
-use Rattle.numbers.specs.Numbers.{step, upTo}
-use Rattle.numbers.specs.declared.number.Number.{Number}
-use Rattle.numbers.specs.declared.number.Number.the-variants.{Is, Refused}
-use Rattle.reader.specs.Form.{Head, markBytes, headBy, head}
+use Rattle.reader.proofs.Names.{mostProcessors, mostRows, ok, refuse, begins, marked, got, after-ok, ok-same, marked-ok, step, upTo, Number, Is, Refused, Head, markBytes, headBy, head}
 
 -- the ways out of `read_head`
 module _ (s : List ℕ) (b : Bool) (e : b ≡ begins markBytes s) where

@@ -1,13 +1,6 @@
--- A label of an accepted sheet: where its bytes are, and what the function that looks for it has shown.
--- Assumes nothing.
+-- A label of an accepted sheet: where its bytes are, and what the function that looks for it has shown. Assumes nothing.
 use Rattle.basis.specs.Prelude.{ℕ, zero, suc, _+_, _≤_, _<_, _≡_, refl, sym, ap, ap₂, _∙_, List, [], _∷_, map, arith, not-suc-le-zero, le-of-suc-le-suc, length, getD, take, drop, List·getD-map}
-use Rattle.basis.specs.Limits.{longestLabel, mostSeparation}
-use Rattle.basis.specs.Readers.{ok, enough, end}
-use Rattle.basis.proofs.Inside.Steps.{after-ok, ok-same, enough-ok, end-ok, end-stays}
-use Rattle.numbers.specs.Numbers.{upTo}
-use Rattle.sheet.specs.Legal.{noRow}
-use Rattle.reader.specs.Form.{Entry, Held, entryRow, entryLabel, plain, labelBy, label, entryBy, entry, entriesBy, entries, bodyBy, Head, head, sheetBy, sheet, labelHead}
-use Rattle.reader.specs.Inside.Steps.{rowFrom, rowAfter}
+use Rattle.reader.proofs.Names.{longestLabel, mostSeparation, ok, enough, end, after-ok, ok-same, enough-ok, end-ok, end-stays, upTo, noRow, Entry, Held, entryRow, entryLabel, plain, labelBy, label, entryBy, entry, entriesBy, entries, bodyBy, Head, head, sheetBy, sheet, labelHead, rowFrom, rowAfter}
 use Rattle.reader.proofs.Inside.Plain.{plain-ok}
 
 -- a label's length was read first, and its bytes are a part of the sheet's

@@ -1,17 +1,6 @@
--- A label: each way out of the function that reads one.
--- Assumes nothing.
+-- A label: each way out of the function that reads one. Assumes nothing.
 use Rattle.basis.specs.Prelude.{ℕ, _+_, _-_, _*_, _^_, _≤_, _<_, _≡_, sym, ap, List, arith, add-sub-cancel-left, length, le-leb, lt-leb, w64, Fits}
-use Rattle.basis.specs.Limits.{longestLabel}
-use Rattle.basis.specs.Readers.{ok, refuse, mapStep}
-use Rattle.basis.proofs.Inside.Steps.{got, map-step-ok, map-step-no}
-use Rattle.numbers.specs.Numbers.{step, upTo}
-use Rattle.numbers.specs.declared.number.Number.{Number}
-use Rattle.numbers.specs.declared.number.Number.the-variants.{Is, Refused}
-use Rattle.numbers.proofs.Inside.Bounds.{bounded}
-use Rattle.reader.specs.Form.{plain, labelBy, label}
-use Rattle.reader.specs.Answers.{partAfter}
-use Rattle.reader.specs.Inside.Steps.{passedStep, nothing}
-use Rattle.reader.specs.declared.row.Passed.{Passed}
+use Rattle.reader.proofs.Names.{longestLabel, ok, refuse, mapStep, got, map-step-ok, map-step-no, step, upTo, Number, Is, Refused, bounded, plain, labelBy, label, partAfter, passedStep, nothing, Passed}
 use Rattle.reader.specs.declared.row.Passed.the-variants as passed-variants
 use Rattle.reader.proofs.Inside.Plain.{plain-ok}
 

@@ -1,11 +1,7 @@
--- What a part of the bytes shows.
--- Assumes nothing.
+-- What a part of the bytes shows. Assumes nothing.
 use Rattle.basis.specs.Prelude.{ℕ, _+_, _-_, _^_, _≤_, _<_, _≡_, ap, ⊎-elim, List, arith, add-sub-cancel-left, length, take, drop, w64, Fits}
 use denote.Ref.{RefT}
-use Rattle.basis.proofs.Inside.Words.{lt-or-le}
-use Rattle.reader.specs.Form.{sheet}
-use Rattle.reader.specs.Answers.{rowsRead, labelIn, part}
-use Rattle.reader.specs.declared.row.Part.{Part}
+use Rattle.reader.proofs.Names.{lt-or-le, sheet, rowsRead, labelIn, part, Part}
 use Rattle.reader.proofs.RowLabels.{label-of-row, no-label}
 
 -- a label lies within the bytes

@@ -1,13 +1,6 @@
--- Where labels lie, read from a list.
--- Assumes nothing.
+-- Where labels lie, read from a list. Assumes nothing.
 use Rattle.basis.specs.Prelude.{ℕ, _+_, _*_, _≤_, _<_, _≡_, refl, ap, ap₂, _∙_, List, length}
-use Rattle.basis.specs.Upto.{upto}
-use Rattle.basis.proofs.Inside.Pairs.{first-read, second-read}
-use Rattle.sheet.specs.Lists.{numberAt}
-use Rattle.reader.specs.Answers.{labelIn}
-use Rattle.reader.specs.Lists.{labelsLong, labelCell}
-use Rattle.reader.specs.Inside.Steps.{partIn}
-use Rattle.reader.specs.declared.row.Part.{Part}
+use Rattle.reader.proofs.Names.{upto, first-read, second-read, numberAt, labelIn, labelsLong, labelCell, partIn, Part}
 
 -- `part_in`
 pub part-read : (b : List ℕ) (k : ℕ) → _≡_ {A = Part} (record { start = numberAt b (k * 2); long = numberAt b (k * 2 + 1) }) (partIn b k)

@@ -1,9 +1,6 @@
 -- Laws of a label's bytes: a turn of `plain` by the tests that the code makes, and what was read where it accepts.
 use Rattle.basis.specs.Prelude.{ℕ, zero, suc, _+_, _-_, _≤_, _<_, _≡_, sym, ap, ap₂, _∙_, List, [], _∷_, arith, add-one, length, getD, take, drop, drop-cons, lt-ltb, le-leb, lt-leb}
-use Rattle.basis.specs.Readers.{ok, refuse, mapStep, byte}
-use Rattle.basis.proofs.Inside.Steps.{map-step-after, after-ok, ok-same, passed, byte-ok}
-use Rattle.reader.specs.Form.{plain, isPlain}
-use Rattle.reader.specs.Inside.Steps.{nothing}
+use Rattle.reader.proofs.Names.{ok, refuse, mapStep, byte, map-step-after, after-ok, ok-same, passed, byte-ok, plain, isPlain, nothing}
 
 -- the loop over a label's bytes, which has come from at to i: a turn by the tests that it makes, and its end
 module _ (s : List ℕ) (at end i : ℕ) (long : end ≤ length s) (so-far : mapStep nothing (plain (end - at) s at) ≡ mapStep nothing (plain (end - i) s i)) where

@@ -1,18 +1,6 @@
--- The loop over the rows: what its lists have, a row more, and its ends.
--- Assumes nothing.
+-- The loop over the rows: what its lists have, a row more, and its ends. Assumes nothing.
 use Rattle.basis.specs.Prelude.{ℕ, zero, suc, _+_, _*_, _-_, _≤_, _<_, _≡_, refl, sym, ap, subst, _∙_, List, _∷_, arith, le-antisymm, length, set, length-set}
-use Rattle.basis.specs.Upto.{upto}
-use Rattle.basis.specs.Readers.{ok, refuse, mapStep}
-use Rattle.basis.proofs.Inside.Pairs.{pair-stored}
-use Rattle.basis.proofs.Inside.Steps.{got, ok-same, after-ok, map-step-ok, map-step-no, map-step-after}
-use Rattle.basis.proofs.Inside.Upto.{length-upto, upto-over}
-use Rattle.sheet.specs.Lists.{listCell, sheetLong}
-use Rattle.sheet.specs.declared.row.Row.{Row}
-use Rattle.sheet.proofs.Inside.Stores.{head-stored, row-stored}
-use Rattle.reader.specs.Form.{Entry, entryRow, entry, entriesBy, entries}
-use Rattle.reader.specs.Lists.{labelsLong}
-use Rattle.reader.specs.Inside.Steps.{entryStep, EntryAt, nothing, rowFrom, rowAfter, labelFrom, labelAfter, putRow, putPart, rowsIn, partsIn}
-use Rattle.reader.specs.declared.row.Part.{Part}
+use Rattle.reader.proofs.Names.{upto, ok, refuse, mapStep, pair-stored, got, ok-same, after-ok, map-step-ok, map-step-no, map-step-after, length-upto, upto-over, listCell, sheetLong, Row, head-stored, row-stored, Entry, entryRow, entry, entriesBy, entries, labelsLong, entryStep, EntryAt, nothing, rowFrom, rowAfter, labelFrom, labelAfter, putRow, putPart, rowsIn, partsIn, Part}
 use Rattle.reader.specs.declared.row.EntryRead.{EntryRead}
 use Rattle.reader.specs.declared.row.EntryRead.the-variants as entry-variants
 

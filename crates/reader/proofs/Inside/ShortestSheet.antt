@@ -1,14 +1,6 @@
--- How short an accepted sheet can be: six bytes before its rows, and six for each.
--- Assumes nothing.
+-- How short an accepted sheet can be: six bytes before its rows, and six for each. Assumes nothing.
 use Rattle.basis.specs.Prelude.{ℕ, zero, suc, _+_, _*_, _≤_, _≡_, refl, List, arith, length}
-use Rattle.basis.specs.Limits.{longestLabel, mostProcessors, mostRows, mostSeparation}
-use Rattle.basis.specs.Refusals.{accepted}
-use Rattle.basis.specs.Readers.{Step, ok, refuse, enough}
-use Rattle.basis.proofs.Inside.Steps.{after-ok, ok-same, enough-ok}
-use Rattle.numbers.specs.Numbers.{upTo}
-use Rattle.numbers.proofs.Inside.Bounds.{bounded}
-use Rattle.reader.specs.Form.{Entry, Held, labelBy, label, entryBy, entry, entriesBy, entries, sheet}
-use Rattle.reader.specs.Answers.{readingOf, reading}
+use Rattle.reader.proofs.Names.{longestLabel, mostProcessors, mostRows, mostSeparation, accepted, Step, ok, refuse, enough, after-ok, ok-same, enough-ok, upTo, bounded, Entry, Held, labelBy, label, entryBy, entry, entriesBy, entries, sheet, readingOf, reading}
 use Rattle.reader.proofs.Inside.LabelPlaces.{whole}
 use Rattle.reader.proofs.Inside.Heads.{headed}
 use Rattle.reader.proofs.Inside.Plain.{plain-ok}

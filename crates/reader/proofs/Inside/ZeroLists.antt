@@ -1,24 +1,8 @@
--- What is read into lists of zeros that have room for every row.
--- Assumes nothing.
+-- What is read into lists of zeros that have room for every row. Assumes nothing.
 use Rattle.basis.specs.Prelude.{ℕ, _+_, _*_, _-_, _≤_, _<_, _≡_, refl, sym, ap, ap₂, _∙_, List, map, arith, length, set, length-append, length-map, length-replicate, le-leb}
-use Rattle.basis.specs.Limits.{mostRows}
-use Rattle.basis.specs.Upto.{upto}
-use Rattle.basis.specs.Readers.{Step, ok, refuse}
-use Rattle.basis.specs.Refusals.{Outcome, accepted, refused}
-use Rattle.basis.proofs.Inside.Pairs.{first-cell, second-cell, pair-zero}
-use Rattle.basis.proofs.Inside.Upto.{upto-set, upto-whole}
-use Rattle.sheet.specs.Legal.{noRow}
-use Rattle.sheet.specs.Values.{noSheet}
-use Rattle.sheet.specs.Lists.{numberAt, filled, sheetIn, sheetCell, sheetLong}
-use Rattle.sheet.specs.declared.row.Sheet.{Sheet}
-use Rattle.sheet.proofs.RoundTrip.{whole-sheet-comes-back}
+use Rattle.reader.proofs.Names.{mostRows, upto, Step, ok, refuse, Outcome, accepted, refused, first-cell, second-cell, pair-zero, upto-set, upto-whole, noRow, noSheet, numberAt, filled, sheetIn, sheetCell, sheetLong, Sheet, whole-sheet-comes-back, Held, entryRow, sheet, sheetHeld, readingOf, reading, nowhere, rowsRead, labelIn, noParts, labelsIn, labelsLong, labelCell, intoLists, readInto, partIn, Part}
 use Rattle.sheet.proofs.Inside.Cells.{cell-past, no-sheet-cell}
 use Rattle.sheet.proofs.Inside.FilledLists.{zeros, zeros-long, filled-read, zeros-filled}
-use Rattle.reader.specs.Form.{Held, entryRow, sheet}
-use Rattle.reader.specs.Answers.{sheetHeld, readingOf, reading, nowhere, rowsRead, labelIn, noParts, labelsIn}
-use Rattle.reader.specs.Lists.{labelsLong, labelCell, intoLists, readInto}
-use Rattle.reader.specs.Inside.Steps.{partIn}
-use Rattle.reader.specs.declared.row.Part.{Part}
 use Rattle.reader.proofs.LegalSheets.{zero-past, read-is-legal}
 use Rattle.reader.proofs.RowLabels.{no-label}
 

@@ -1,11 +1,6 @@
--- Codes, as facts: the tests that they are made of, what a code 4 says of the row, and which code a job has that goes on.
--- Assumes nothing.
+-- Codes, as facts: the tests that they are made of, what a code 4 says of the row, and which code a job has that goes on. Assumes nothing.
 use Rattle.basis.specs.Prelude.{ℕ, _≤_, _≡_, refl, sym, _∙_, Bool, true, false, eqb, arith, lt-ltb, ne-eqb, ltb-true, eqb-true}
-use Rattle.basis.specs.Words.{pick}
-use Rattle.sheet.specs.declared.row.Row.{Row}
-use Rattle.records.specs.declared.record.Job.{Job}
-use Rattle.records.specs.Records.{hasJob}
-use Rattle.records.specs.Steps.{codeOf}
+use Rattle.records.proofs.Names.{pick, Row, Job, hasJob, codeOf}
 
 -- a code by the tests that it is made of: j a job, w something is left, d at the deadline, r it ran
 abbrev pub byTests : Bool → Bool → Bool → Bool → ℕ

@@ -1,17 +1,7 @@
--- What each step of a slot does to a row's job, as facts.
--- Assumes nothing.
+-- What each step of a slot does to a row's job, as facts. Assumes nothing.
 use Rattle.basis.specs.Prelude.{ℕ, _+_, _-_, _≤_, _<_, _≡_, refl, sym, _∙_, Bool, true, false, ltb, eqb, _⊎_, inl, inr, ⊎-elim, arith, lt-ltb, le-ltb, eq-eqb, ne-eqb, ltb-false, eqb-true, eqb-false}
-use Rattle.basis.specs.Words.{pick, both}
-use Rattle.basis.specs.Refusals.{accepted, refused}
+use Rattle.records.proofs.Names.{pick, both, accepted, refused, Row, Job, RowState, Aged, hasJob, released, worked, older, aged, missed, ended, codeAtEnd, checkRow, agedRow}
 use Rattle.basis.proofs.Inside.Words.{lt-or-le}
-use Rattle.sheet.specs.declared.row.Row.{Row}
-use Rattle.records.specs.declared.record.Job.{Job}
-use Rattle.records.specs.declared.record.RowState.{RowState}
-use Rattle.records.specs.declared.steps.Aged.{Aged}
-use Rattle.records.specs.Records.{hasJob}
-use Rattle.records.specs.Steps.{released, worked, older, aged, missed, ended, codeAtEnd}
-use Rattle.records.specs.Checks.{checkRow}
-use Rattle.records.specs.Methods.{agedRow}
 
 same-or-not : (a b : ℕ) → (a ≡ b) ⊎ (a ≡ b → ⊥)
 same-or-not a b = go (eqb a b) refl

@@ -1,10 +1,9 @@
 -- `main` meets its contract: the part that it prints is in the buffer. Assumes nothing.
 use Rattle.basis.specs.Prelude.{needs}
 use Rattle.dashboard.proofs.Buffers.{written-in-room, written-part}
-use Rattle.reference.proofs.main.Statement.{statement}
-use Rattle.reference.proofs.main.Tie as tie
+use Rattle.reference.proofs.main as this
 
-pub main-spec : {M : Type 1} → statement M
+pub main-spec : {M : Type 1} → this.Statement.statement M
 main-spec =
-    tie.close (tie.spec (λ c κs. search needs) (λ c. search needs) (λ c κs. search needs) (λ c. search written-in-room) (λ c. search written-part)
-    (λ c κs. search needs) (λ c. search needs))
+    this.Tie.close (this.Tie.spec (λ c κs. search needs) (λ c. search needs) (λ c κs. search needs) (λ c. search written-in-room)
+    (λ c. search written-part) (λ c κs. search needs) (λ c. search needs))

@@ -1,17 +1,7 @@
--- The numbers at the places of a sheet's list, as the code finds them.
--- Assumes nothing.
+-- The numbers at the places of a sheet's list, as the code finds them. Assumes nothing.
 use Rattle.basis.specs.Prelude.{ℕ, _+_, _-_, _*_, _/_, _%_, _≤_, _<_, _≡_, sym, ap, _∙_, List, map, ⊎-elim, length, set, length-map, List·getD-eq-default, arith, mod-lt, div-add-mod', lt-ltb, le-ltb, le-leb, lt-leb, eq-eqb, ne-eqb}
 use lib.Arith.{digits-div, digits-mod}
-use Rattle.basis.specs.Limits.{mostRows}
-use Rattle.basis.specs.Upto.{upto}
-use Rattle.basis.proofs.Inside.Lists.{getD-all}
-use Rattle.basis.proofs.Inside.Upto.{upto-set}
-use Rattle.basis.proofs.Inside.Words.{lt-or-le}
-use Rattle.sheet.specs.Legal.{noRow, rowAt}
-use Rattle.sheet.specs.Values.{noSheet}
-use Rattle.sheet.specs.declared.row.Row.{Row}
-use Rattle.sheet.specs.declared.row.Sheet.{Sheet}
-use Rattle.sheet.specs.Lists.{rowCell, listCell, sheetCell, sheetLong, rowOf, cellBy}
+use Rattle.sheet.proofs.Names.{mostRows, upto, getD-all, upto-set, lt-or-le, noRow, rowAt, noSheet, Row, Sheet, rowCell, listCell, sheetCell, sheetLong, rowOf, cellBy}
 
 -- number j of row k of a list
 pub cell-of : (m n : ℕ) (rows : ℕ → Row) (i k j : ℕ) → i ≡ k * 4 + j + 2 → j < 4 → listCell m n rows i ≡ rowCell (rows k) j

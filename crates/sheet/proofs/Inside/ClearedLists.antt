@@ -1,10 +1,6 @@
--- A list that is made zero from a place on.
--- Assumes nothing.
+-- A list that is made zero from a place on. Assumes nothing.
 use Rattle.basis.specs.Prelude.{ℕ, zero, suc, _+_, _≤_, _<_, _≡_, refl, sym, ap, _∙_, List, ⊎-elim, arith, le-refl, length, set, ext-getD, set-getD, set-out, lt-ltb, le-ltb}
-use Rattle.basis.specs.Upto.{upto}
-use Rattle.basis.proofs.Inside.Upto.{upto-set, upto-below, length-upto}
-use Rattle.basis.proofs.Inside.Words.{lt-or-le}
-use Rattle.sheet.specs.Lists.{numberAt, filled, clearedCell}
+use Rattle.sheet.proofs.Names.{upto, upto-set, upto-below, length-upto, lt-or-le, numberAt, filled, clearedCell}
 use Rattle.sheet.proofs.Inside.FilledLists.{length-filled}
 
 -- `clear_from`

@@ -1,11 +1,6 @@
--- A list whose every place i is made f i: the end of the loop that fills it, what is read of it, and a list of zeros.
--- Assumes nothing.
+-- A list whose every place i is made f i: the end of the loop that fills it, what is read of it, and a list of zeros. Assumes nothing.
 use Rattle.basis.specs.Prelude.{ℕ, _≤_, _<_, _≡_, sym, ap, _∙_, List, ⊎-elim, length, replicate, length-replicate, List·getD-eq-default, ext-getD, arith, le-refl}
-use Rattle.basis.specs.Upto.{upto}
-use Rattle.basis.proofs.Inside.Lists.{getD-all}
-use Rattle.basis.proofs.Inside.Upto.{upto-below, upto-past, length-upto}
-use Rattle.basis.proofs.Inside.Words.{lt-or-le}
-use Rattle.sheet.specs.Lists.{numberAt, filled}
+use Rattle.sheet.proofs.Names.{upto, getD-all, upto-below, upto-past, length-upto, lt-or-le, numberAt, filled}
 
 -- every place is filled
 pub fill-done : (f : ℕ → ℕ) (l₀ l : List ℕ) (i : ℕ) → l ≡ upto i f l₀ → i ≤ length l₀ → length l ≤ i → l ≡ filled f l₀

@@ -1,13 +1,6 @@
--- Numbers, rows and sheets of a list, as the code reads them.
--- Assumes nothing.
+-- Numbers, rows and sheets of a list, as the code reads them. Assumes nothing.
 use Rattle.basis.specs.Prelude.{ℕ, _+_, _*_, _≤_, _<_, _≡_, sym, List, length, set, List·getD-eq-default, arith, le-refl}
-use Rattle.basis.specs.Limits.{mostRows}
-use Rattle.basis.specs.Upto.{upto}
-use Rattle.basis.proofs.Inside.Upto.{upto-set, upto-below}
-use Rattle.sheet.specs.Legal.{noRow, rowAt}
-use Rattle.sheet.specs.Values.{noRows}
-use Rattle.sheet.specs.declared.row.Row.{Row}
-use Rattle.sheet.specs.Lists.{numberAt, rowIn, sheetIn}
+use Rattle.sheet.proofs.Names.{mostRows, upto, upto-set, upto-below, noRow, rowAt, noRows, Row, numberAt, rowIn, sheetIn}
 
 -- past the end of a list there are zeros
 pub number-past : (l : List ℕ) (i : ℕ) → length l ≤ i → 0 ≡ numberAt l i

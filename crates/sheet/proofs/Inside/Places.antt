@@ -1,10 +1,6 @@
--- The numbers and rows of a list with room for every row, as the code reads them.
--- Assumes nothing.
+-- The numbers and rows of a list with room for every row, as the code reads them. Assumes nothing.
 use Rattle.basis.specs.Prelude.{ℕ, _+_, _*_, _<_, _≡_, List}
-use Rattle.basis.specs.Limits.{mostRows}
-use Rattle.sheet.specs.Legal.{rowAt}
-use Rattle.sheet.specs.declared.row.Row.{Row}
-use Rattle.sheet.specs.Lists.{numberAt, rowIn, sheetIn}
+use Rattle.sheet.proofs.Names.{mostRows, rowAt, Row, numberAt, rowIn, sheetIn}
 use Rattle.sheet.proofs.Inside.ListRows.{row-handed}
 
 -- `processors`

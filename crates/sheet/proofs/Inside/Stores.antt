@@ -1,11 +1,6 @@
--- Rows that are stored one after another into a list: what stands before them, a row more, and two lists of the same rows.
--- Assumes nothing.
+-- Rows that are stored one after another into a list: what stands before them, a row more, and two lists of the same rows. Assumes nothing.
 use Rattle.basis.specs.Prelude.{ℕ, _+_, _-_, _*_, _/_, _%_, _<_, _≡_, refl, sym, ap, _∙_, List, ⊎-elim, set, arith, div-add-mod', eq-eqb, ne-eqb}
-use Rattle.basis.specs.Upto.{upto}
-use Rattle.basis.proofs.Inside.Upto.{upto-set}
-use Rattle.basis.proofs.Inside.Words.{lt-or-le}
-use Rattle.sheet.specs.declared.row.Row.{Row}
-use Rattle.sheet.specs.Lists.{rowCell, listCell, sheetLong}
+use Rattle.sheet.proofs.Names.{upto, upto-set, lt-or-le, Row, rowCell, listCell, sheetLong}
 use Rattle.sheet.proofs.Inside.Cells.{cell-of}
 
 module _ (m n : ℕ) (rows : ℕ → Row) where

@@ -1,22 +1,8 @@
--- What each loop's turn and end shows, in the words of its invariant and of what it calls.
--- Assumes nothing.
+-- What each loop's turn and end shows, in the words of its invariant and of what it calls. Assumes nothing.
 use Rattle.basis.specs.Prelude.{ℕ, _+_, _≤_, _≡_, ap, _∙_, List, getD, set, add-one}
-use Rattle.basis.specs.Upto.{upto}
-use Rattle.basis.proofs.Inside.Upto.{upto-read, upto-set, upto-whole}
-use Rattle.sheet.specs.Legal.{rowAt}
-use Rattle.sheet.specs.declared.row.Sheet.{Sheet}
+use Rattle.states.proofs.Names.{upto, upto-read, upto-set, upto-whole, rowAt, Sheet, RowState, Placed, Aged, recordOf, noRecord, released, placedRow, agedRow, stateOf, freeAt, held, jobAt, releasedAt, placedAt, placedRecord, placedCode, agedAt, agedRecord, agedCode}
 use Rattle.records.specs.declared.record.Job.{Job}
-use Rattle.records.specs.declared.record.RowState.{RowState}
-use Rattle.records.specs.declared.steps.Placed.{Placed}
-use Rattle.records.specs.declared.steps.Aged.{Aged}
-use Rattle.records.specs.Records.{recordOf, noRecord}
-use Rattle.records.specs.Steps.{released}
-use Rattle.records.specs.Methods.{placedRow, agedRow}
-use Rattle.machine.specs.States.{stateOf}
-use Rattle.machine.specs.Slot.{freeAt}
 use Rattle.states.specs.declared.state.State.{State as Value}
-use Rattle.states.specs.Values.{held}
-use Rattle.states.specs.Inside.Methods.{jobAt, releasedAt, placedAt, placedRecord, placedCode, agedAt, agedRecord, agedCode}
 
 -- `released`
 module _ (rel : List ℕ) (t₀ t : Value) (i : ℕ) (so-far : t .rows ≡ upto i (releasedAt (held t₀) rel) (t₀ .rows)) where

@@ -1,23 +1,10 @@
--- A sheet that is put into a list, and what is answered of the sheet in a list.
--- Assumes nothing.
+-- A sheet that is put into a list, and what is answered of the sheet in a list. Assumes nothing.
 use Rattle.basis.specs.Prelude.{ℕ, _+_, _*_, _≤_, _≡_, refl, ap, ap₂, _∙_, List, length, set, replicate, length-set, arith, le-refl}
-use Rattle.basis.specs.Limits.{mostRows}
-use Rattle.basis.specs.Refusals.{Outcome, outcome}
-use Rattle.basis.specs.declared.refusal.Refusal.{Refusal}
-use Rattle.basis.specs.Upto.{upto}
-use Rattle.basis.proofs.Inside.Upto.{upto-set}
-use Rattle.sheet.specs.declared.row.Sheet.{Sheet}
+use Rattle.states.proofs.Names.{mostRows, Outcome, outcome, Refusal, upto, upto-set, Sheet, RowState, State, noState, stateOf, recordAt, held, recordWide, recordIn, stateLong, stateIn, putRecord, putTo, freshOn, runIn, ranIn, put-more, records-all, state-put, spare-of-full, state-rows-long, checkSlot, checkRun, FreshAnswer, freshAnswer, runAnswer, fresh, run, MarginAnswer, margin}
 use Rattle.sheet.specs.Lists.{filled, sheetIn, sheetCell, sheetLong}
 use Rattle.sheet.proofs.RoundTrip.{whole-sheet-comes-back}
-use Rattle.records.specs.declared.record.RowState.{RowState}
-use Rattle.machine.specs.States.{State, noState, stateOf, recordAt}
 use Rattle.states.specs.declared.state.State.{State as Value}
-use Rattle.states.specs.Values.{held}
 use Rattle.machine.specs.declared.places.Done.{Done}
-use Rattle.machine.specs.Lists.{recordWide, recordIn, stateLong, stateIn, putRecord, putTo, freshOn, runIn, ranIn}
-use Rattle.machine.proofs.Inside.RecordLists.{put-more, records-all, state-put, spare-of-full, state-rows-long}
-use Rattle.machine.specs.Checks.{checkSlot, checkRun}
-use Rattle.machine.specs.Answers.{FreshAnswer, freshAnswer, runAnswer, fresh, run, MarginAnswer, margin}
 use Rattle.machine.proofs.StatesAfter.{fresh-of-zeros, run-listed-back}
 
 -- `listed`

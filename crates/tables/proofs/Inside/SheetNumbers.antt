@@ -1,5 +1,4 @@
--- The fixed sheets by their number: each way out of the function that hands them out.
--- Assumes nothing.
+-- The fixed sheets by their number: each way out of the function that hands them out. Assumes nothing.
 use Rattle.basis.specs.Prelude.{ℕ, suc, _≤_, _≡_, sym, ap, _∙_, ⊎-elim, eq-or-lt-of-le, arith, getD, List·getD-eq-default}
 use Rattle.sheet.specs.Values.{noSheet}
 use Rattle.sheet.specs.declared.row.Sheet.{Sheet}

@@ -1,5 +1,4 @@
--- The part of the buffer that was read.
--- Assumes nothing.
+-- The part of the buffer that was read. Assumes nothing.
 use Rattle.basis.specs.Prelude.{ℕ, _≤_, _≡_, sym, subst, List, length, take, length-take-le}
 use Rattle.verdict.specs.Input.{InBuffer}
 use Rattle.verdict.specs.declared.input.Input.{Input}

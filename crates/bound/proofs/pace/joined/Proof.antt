@@ -1,9 +1,9 @@
 -- `joined` is a pace with a row more. Assumes nothing.
 use Rattle.basis.specs.Prelude.{needs}
 use Rattle.bound.proofs.Paces.{join-fits, join-more}
-use Rattle.bound.proofs.pace.joined.Statement.{statement}
-use Rattle.bound.proofs.pace.joined.Tie as tie
+use Rattle.bound.proofs.pace.joined as this
 
-pub joined-spec : {M : Type 1} → statement M
+pub joined-spec : {M : Type 1} → this.Statement.statement M
 joined-spec =
-    tie.close (tie.spec (λ c κs. search needs) (λ c. search join-fits) (λ c κs. search needs) (λ c κs. search needs) (λ c. search join-more))
+    this.Tie.close (this.Tie.spec (λ c κs. search needs) (λ c. search join-fits) (λ c κs. search needs) (λ c κs. search needs)
+    (λ c. search join-more))

@@ -2,10 +2,9 @@
 use Rattle.basis.specs.Prelude.{needs}
 use Rattle.sheet.proofs.Inside.Cells.{unmapped}
 use Rattle.bound.proofs.Inside.Rows.{answered}
-use Rattle.bound.proofs.results.bounds.Statement.{statement}
-use Rattle.bound.proofs.results.bounds.Tie as tie
+use Rattle.bound.proofs.results.bounds as this
 
-pub bounds-spec : {M : Type 1} → statement M
+pub bounds-spec : {M : Type 1} → this.Statement.statement M
 bounds-spec =
-    tie.close (tie.spec (λ c. search needs) (λ c κs. search needs) (λ c. search needs) (λ c. search needs) (λ c κs. search needs)
+    this.Tie.close (this.Tie.spec (λ c. search needs) (λ c κs. search needs) (λ c. search needs) (λ c. search needs) (λ c κs. search needs)
     (λ c. search needs) (λ c κs. search needs) (λ c. search (answered, unmapped, needs)))

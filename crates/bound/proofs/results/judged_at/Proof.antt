@@ -2,11 +2,10 @@
 use Rattle.basis.specs.Prelude.{needs}
 use Rattle.basis.proofs.Inside.Tests.{tests}
 use Rattle.bound.specs.Lists.{wordAt}
-use Rattle.bound.proofs.results.judged_at.Statement.{statement}
-use Rattle.bound.proofs.results.judged_at.Tie as tie
+use Rattle.bound.proofs.results.judged_at as this
 
-pub judged-at-spec : {M : Type 1} → statement M
+pub judged-at-spec : {M : Type 1} → this.Statement.statement M
 unfolding wordAt
 judged-at-spec =
-    tie.close (tie.spec (λ c. search needs) (λ c. search needs) (λ c. search needs) (λ c. search tests) (λ c. search needs)
+    this.Tie.close (this.Tie.spec (λ c. search needs) (λ c. search needs) (λ c. search needs) (λ c. search tests) (λ c. search needs)
     (λ c. search needs) (λ c. search needs) (λ c. search needs) (λ c. search tests) (λ c. search tests))

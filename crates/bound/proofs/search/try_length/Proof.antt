@@ -1,11 +1,10 @@
 -- `try_length` tells whether a length passes, and if not which may be next. Assumes nothing.
 use Rattle.basis.specs.Prelude.{needs}
 use Rattle.bound.proofs.Steps.{trial-is, spare-fits}
-use Rattle.bound.proofs.search.try_length.Statement.{statement}
-use Rattle.bound.proofs.search.try_length.Tie as tie
+use Rattle.bound.proofs.search.try_length as this
 
-pub try-length-spec : {M : Type 1} → statement M
+pub try-length-spec : {M : Type 1} → this.Statement.statement M
 try-length-spec =
-    tie.close (tie.spec (λ c κs. search needs) (λ c κs. search needs) (λ c κs. search needs) (λ c. search trial-is)
+    this.Tie.close (this.Tie.spec (λ c κs. search needs) (λ c κs. search needs) (λ c κs. search needs) (λ c. search trial-is)
     (λ c κs. (search needs, search needs, search needs, search needs, search trial-is)) (λ c κs. search needs) (λ c κs. search spare-fits)
     (λ c. search needs))

@@ -2,9 +2,9 @@
 use Rattle.basis.specs.Prelude.{needs}
 use Rattle.bound.proofs.Amounts.{fine-room-fits}
 use Rattle.bound.proofs.Shares.{room-told}
-use Rattle.bound.proofs.share.no_room.Statement.{statement}
-use Rattle.bound.proofs.share.no_room.Tie as tie
+use Rattle.bound.proofs.share.no_room as this
 
-pub no-room-spec : {M : Type 1} → statement M
+pub no-room-spec : {M : Type 1} → this.Statement.statement M
 no-room-spec =
-    tie.close (tie.spec (λ c κs. search needs) (λ c κs. search needs) (λ c κs. (search needs, search fine-room-fits)) (λ c. search room-told))
+    this.Tie.close (this.Tie.spec (λ c κs. search needs) (λ c κs. search needs) (λ c κs. (search needs, search fine-room-fits))
+    (λ c. search room-told))

@@ -2,10 +2,10 @@
 use Rattle.basis.specs.Prelude.{needs}
 use Rattle.bound.proofs.Durations.{span-small, part-fits, fine-fits}
 use Rattle.bound.proofs.Shares.{share-amount-is}
-use Rattle.bound.proofs.share.share_above.Statement.{statement}
-use Rattle.bound.proofs.share.share_above.Tie as tie
+use Rattle.bound.proofs.share.share_above as this
 
-pub share-above-spec : {M : Type 1} → statement M
+pub share-above-spec : {M : Type 1} → this.Statement.statement M
 share-above-spec =
-    tie.close (tie.spec (λ c κs. search needs) (λ c κs. (part-fits _ _ (search span-small) (search needs), search needs)) (λ c κs. search needs)
-    (λ c κs. search needs) (λ c κs. search needs) (λ c κs. fine-fits _ _ (search needs) (search needs)) (λ c. search share-amount-is))
+    this.Tie.close (this.Tie.spec (λ c κs. search needs) (λ c κs. (part-fits _ _ (search span-small) (search needs), search needs))
+    (λ c κs. search needs) (λ c κs. search needs) (λ c κs. search needs) (λ c κs. fine-fits _ _ (search needs) (search needs))
+    (λ c. search share-amount-is))

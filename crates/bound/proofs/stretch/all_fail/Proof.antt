@@ -2,11 +2,10 @@
 use Rattle.basis.specs.Prelude.{needs}
 use Rattle.bound.proofs.Amounts.{fine-room-fits}
 use Rattle.bound.proofs.Stretches.{then-rounds, stretch-told}
-use Rattle.bound.proofs.stretch.all_fail.Statement.{statement}
-use Rattle.bound.proofs.stretch.all_fail.Tie as tie
+use Rattle.bound.proofs.stretch.all_fail as this
 
-pub all-fail-spec : {M : Type 1} → statement M
+pub all-fail-spec : {M : Type 1} → this.Statement.statement M
 all-fail-spec =
-    tie.close (tie.spec (λ c κs. search needs) (λ c κs. search needs) (λ c κs. search needs) (λ c κs. search needs)
+    this.Tie.close (this.Tie.spec (λ c κs. search needs) (λ c κs. search needs) (λ c κs. search needs) (λ c κs. search needs)
     (λ c κs. (search needs, search fine-room-fits)) (λ c κs. (search then-rounds, search fine-room-fits)) (λ c. search stretch-told)
     (λ c. search needs))

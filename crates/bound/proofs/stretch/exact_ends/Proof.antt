@@ -2,10 +2,9 @@
 use Rattle.basis.specs.Prelude.{needs}
 use Rattle.bound.proofs.Durations.{amount-most}
 use Rattle.bound.proofs.RowLines.{exact-meets}
-use Rattle.bound.proofs.stretch.exact_ends.Statement.{statement}
-use Rattle.bound.proofs.stretch.exact_ends.Tie as tie
+use Rattle.bound.proofs.stretch.exact_ends as this
 
-pub exact-ends-spec : {M : Type 1} → statement M
+pub exact-ends-spec : {M : Type 1} → this.Statement.statement M
 exact-ends-spec =
-    tie.close (tie.spec (λ c κs. search needs) (λ c κs. search needs) (λ c κs. search amount-most) (λ c κs. search amount-most)
+    this.Tie.close (this.Tie.spec (λ c κs. search needs) (λ c κs. search needs) (λ c κs. search amount-most) (λ c κs. search amount-most)
     (λ c. search (exact-meets, amount-most)))

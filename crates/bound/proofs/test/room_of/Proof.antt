@@ -2,9 +2,9 @@
 use Rattle.basis.specs.Prelude.{needs}
 use Rattle.bound.proofs.Durations.{amount-fits}
 use Rattle.bound.proofs.Amounts.{window-small, q-of-small, room-is}
-use Rattle.bound.proofs.test.room_of.Statement.{statement}
-use Rattle.bound.proofs.test.room_of.Tie as tie
+use Rattle.bound.proofs.test.room_of as this
 
-pub room-of-spec : {M : Type 1} → statement M
+pub room-of-spec : {M : Type 1} → this.Statement.statement M
 room-of-spec =
-    tie.close (tie.spec (λ c κs. search needs) (λ c κs. search needs) (λ c κs. search (amount-fits, window-small, q-of-small)) (λ c. search room-is))
+    this.Tie.close (this.Tie.spec (λ c κs. search needs) (λ c κs. search needs) (λ c κs. search (amount-fits, window-small, q-of-small))
+    (λ c. search room-is))

@@ -1,11 +1,8 @@
 -- `input_buffer` meets its promise: its size is computed from the limits. Assumes nothing.
 use Rattle.basis.specs.Prelude.{refl}
-use Rattle.numbers.specs.Numbers.{spelt, width}
-use Rattle.reader.specs.Longest.{longestRow, longestSheet}
-use Rattle.dashboard.specs.Longest.{inputSize}
-use Rattle.dashboard.proofs.room.input_buffer.Statement.{statement}
-use Rattle.dashboard.proofs.room.input_buffer.Tie as tie
+use Rattle.dashboard.proofs.Names.{spelt, width, longestRow, longestSheet, inputSize}
+use Rattle.dashboard.proofs.room.input_buffer as this
 
-pub input-buffer-spec : {M : Type 1} → statement M
+pub input-buffer-spec : {M : Type 1} → this.Statement.statement M
 unfolding inputSize longestSheet longestRow width spelt
-input-buffer-spec = tie.close (tie.spec (λ c. refl))
+input-buffer-spec = this.Tie.close (this.Tie.spec (λ c. refl))

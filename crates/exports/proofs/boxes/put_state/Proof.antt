@@ -1,21 +1,14 @@
 -- `put_state` meets its promise: the places so far are filled. Assumes nothing.
 use Rattle.basis.specs.Prelude.{needs, _≤_, _-_, _≡_, length}
-use Rattle.basis.specs.Upto.{upto}
+use Rattle.exports.proofs.Names.{upto, fill-done, held, stateCell}
 use Rattle.basis.proofs.Inside.Upto.{upto-none, upto-set}
-use Rattle.sheet.proofs.Inside.FilledLists.{fill-done}
-use Rattle.states.specs.Values.{held}
-use Rattle.exports.specs.Further.{stateCell}
-use Rattle.exports.proofs.boxes.put_state.Statement.{statement}
-use Rattle.exports.proofs.boxes.put_state.Tie as tie
+use Rattle.exports.proofs.boxes.put_state as this
 
-abbrev Inv-loop : tie.InvT-loop
+abbrev Inv-loop : this.Tie.InvT-loop
 Inv-loop list₀ state i₀ list i = (i ≤ length list₀) × (length list ≡ length list₀) × (list ≡ upto i (stateCell (held state)) list₀)
 
-abbrev μ-loop : tie.MeasureT-loop
-μ-loop list₀ state i₀ list i = length list₀ - i
-
-pub put-state-spec : {M : Type 1} → statement M
+pub put-state-spec : {M : Type 1} → this.Statement.statement M
 put-state-spec =
-    tie.close (tie.spec Inv-loop μ-loop (λ c. (search needs, search needs, search upto-none)) (λ c κs. search needs) (λ c. search needs)
-    (λ c. search needs) (λ c. search needs) (λ c. search needs) (λ c. (search needs, search needs, search upto-set)) (λ c. search needs)
-    (λ c. search fill-done))
+    this.Tie.close (this.Tie.spec Inv-loop (λ list₀ state i₀ list i. length list₀ - i) (λ c. (search needs, search needs, search upto-none))
+    (λ c κs. search needs) (λ c. search needs) (λ c. search needs) (λ c. search needs) (λ c. search needs)
+    (λ c. (search needs, search needs, search upto-set)) (λ c. search needs) (λ c. search fill-done))

@@ -2,8 +2,7 @@
 use Rattle.basis.specs.Prelude.{needs}
 use Rattle.sheet.proofs.Inside.Cells.{unmapped}
 use Rattle.exports.proofs.Inside.BoxAnswers.{record-past}
-use Rattle.exports.proofs.boxes.record_at.Statement.{statement}
-use Rattle.exports.proofs.boxes.record_at.Tie as tie
+use Rattle.exports.proofs.boxes.record_at as this
 
-pub record-at-spec : {M : Type 1} → statement M
-record-at-spec = tie.close (tie.spec (λ c. search needs) (λ c. search needs) (λ c. search needs) (λ c. search (record-past, unmapped)))
+pub record-at-spec : {M : Type 1} → this.Statement.statement M
+record-at-spec = this.Tie.close (this.Tie.spec (λ c. search needs) (λ c. search needs) (λ c. search needs) (λ c. search (record-past, unmapped)))

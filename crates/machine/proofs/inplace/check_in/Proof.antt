@@ -3,12 +3,12 @@ use Rattle.basis.specs.Prelude.{needs}
 use Rattle.basis.proofs.Inside.Tests.{tests}
 use Rattle.records.specs.Checks.{checkRow}
 use Rattle.machine.proofs.Inside.ChecksInPlace.{check-in-there}
-use Rattle.machine.proofs.inplace.check_in.Statement.{statement}
-use Rattle.machine.proofs.inplace.check_in.Tie as tie
+use Rattle.machine.proofs.inplace.check_in as this
 
-returns : tie.Need-returns
+returns : this.Tie.Need-returns
 unfolding checkRow
 returns c = search tests
 
-pub check-in-spec : {M : Type 1} → statement M
-check-in-spec = tie.close (tie.spec returns (λ c κs. search needs) (λ c κs. search needs) (λ c κs. search needs) (λ c. search check-in-there))
+pub check-in-spec : {M : Type 1} → this.Statement.statement M
+check-in-spec =
+    this.Tie.close (this.Tie.spec returns (λ c κs. search needs) (λ c κs. search needs) (λ c κs. search needs) (λ c. search check-in-there))

@@ -1,21 +1,13 @@
 -- `check_releases_in` meets its promise. Assumes nothing.
 use Rattle.basis.specs.Prelude.{needs, _≤_, _-_, _≡_, refl, true, length}
-use Rattle.basis.specs.Limits.{mostRows}
-use Rattle.basis.specs.Refusals.{accepted, firstOf}
-use Rattle.sheet.specs.Legal.{legal}
-use Rattle.sheet.specs.Lists.{sheetIn, sheetLong}
-use Rattle.sheet.proofs.Ranges.{legal-sheet-long}
-use Rattle.machine.specs.States.{legalState}
-use Rattle.machine.specs.Checks.{checkAt}
-use Rattle.machine.specs.Lists.{stateLong, stateIn}
+use Rattle.machine.proofs.Names.{mostRows, accepted, firstOf, legal, sheetIn, sheetLong, legal-sheet-long, legalState, checkAt, stateLong, stateIn}
 use Rattle.machine.proofs.Inside.LegalChecks.{legal-in-fits}
 use Rattle.machine.proofs.LegalLists.{kept-long}
 use Rattle.machine.proofs.Inside.ChecksInPlace.{check-done}
 use Rattle.machine.proofs.Inside.ChecksInPlace.{check-in-more, check-in-found}
-use Rattle.machine.proofs.inplace.check_releases_in.Statement.{statement}
-use Rattle.machine.proofs.inplace.check_releases_in.Tie as tie
+use Rattle.machine.proofs.inplace.check_releases_in as this
 
-abbrev Inv-loop : tie.InvT-loop
+abbrev Inv-loop : this.Tie.InvT-loop
 Inv-loop sheet list n releases i₀ i =
     (n ≡ sheetIn sheet .count)
     × (i ≤ n)
@@ -27,17 +19,18 @@ Inv-loop sheet list n releases i₀ i =
     × (n ≤ length releases)
     × (firstOf i (checkAt (sheetIn sheet) (stateIn list) releases) ≡ accepted)
 
-abbrev μ-loop : tie.MeasureT-loop
+abbrev μ-loop : this.Tie.MeasureT-loop
 μ-loop sheet list n releases i₀ i = n - i
 
-loop-holds : tie.Need-loop-holds Inv-loop μ-loop
+loop-holds : this.Tie.Need-loop-holds Inv-loop μ-loop
 unfolding firstOf
 loop-holds c = (search needs, search needs, search legal-in-fits, search legal-sheet-long, search kept-long, search needs, search needs, search needs, refl)
 
-loop-again : tie.Need-loop-again Inv-loop μ-loop
+loop-again : this.Tie.Need-loop-again Inv-loop μ-loop
 loop-again c = (search needs, search needs, search needs, search needs, search needs, search needs, search needs, search needs, search check-in-more)
 
-pub check-releases-in-spec : {M : Type 1} → statement M
+pub check-releases-in-spec : {M : Type 1} → this.Statement.statement M
 check-releases-in-spec =
-    tie.close (tie.spec Inv-loop μ-loop loop-holds (λ c. search needs) (λ c. search needs) (λ c κs. (search needs, search needs, search needs))
-    (λ c. search needs) (λ c. search check-in-found) (λ c. search needs) (λ c. search needs) (λ c. search needs) loop-again (λ c. search check-done))
+    this.Tie.close (this.Tie.spec Inv-loop μ-loop loop-holds (λ c. search needs) (λ c. search needs)
+    (λ c κs. (search needs, search needs, search needs)) (λ c. search needs) (λ c. search check-in-found) (λ c. search needs) (λ c. search needs)
+    (λ c. search needs) loop-again (λ c. search check-done))

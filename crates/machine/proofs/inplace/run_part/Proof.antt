@@ -1,16 +1,10 @@
 -- `run_part` meets its promise. Assumes nothing.
 use Rattle.basis.specs.Prelude.{needs, _*_, _-_, _≤_, _≡_, refl, true, length}
-use Rattle.basis.specs.Refusals.{accepted}
-use Rattle.sheet.specs.Legal.{legal}
-use Rattle.sheet.specs.Lists.{sheetIn}
-use Rattle.machine.specs.States.{legalState}
-use Rattle.machine.specs.Answers.{runAnswer, course}
-use Rattle.machine.specs.Lists.{stateIn}
+use Rattle.machine.proofs.Names.{accepted, legal, sheetIn, legalState, runAnswer, course, stateIn}
 use Rattle.machine.proofs.Inside.Courses.{room-for, goes-on, stops, ends}
-use Rattle.machine.proofs.inplace.run_part.Statement.{statement}
-use Rattle.machine.proofs.inplace.run_part.Tie as tie
+use Rattle.machine.proofs.inplace.run_part as this
 
-abbrev Inv-loop : tie.InvT-loop
+abbrev Inv-loop : this.Tie.InvT-loop
 Inv-loop sheet list₀ n releases codes₀ slots done₀ list codes done =
     (done ≤ slots)
     × (n ≡ sheetIn sheet .count)
@@ -22,18 +16,18 @@ Inv-loop sheet list₀ n releases codes₀ slots done₀ list codes done =
     × (length codes ≡ length codes₀)
     × (course (sheetIn sheet) releases (runAnswer 0 accepted (stateIn list₀) codes₀) done ≡ runAnswer done accepted (stateIn list) codes)
 
-abbrev μ-loop : tie.MeasureT-loop
+abbrev μ-loop : this.Tie.MeasureT-loop
 μ-loop sheet list₀ n releases codes₀ slots done₀ list codes done = slots - done
 
-loop-holds : tie.Need-loop-holds Inv-loop μ-loop
+loop-holds : this.Tie.Need-loop-holds Inv-loop μ-loop
 unfolding course
 loop-holds c = (search needs, search needs, search needs, search needs, search needs, search needs, refl, refl, refl)
 
-loop-again : tie.Need-loop-again Inv-loop μ-loop
+loop-again : this.Tie.Need-loop-again Inv-loop μ-loop
 loop-again c = (search needs, search needs, search needs, search needs, search needs, search needs, search needs, search needs, search goes-on)
 
-pub run-part-spec : {M : Type 1} → statement M
+pub run-part-spec : {M : Type 1} → this.Statement.statement M
 run-part-spec =
-    tie.close (tie.spec Inv-loop μ-loop loop-holds (λ c κs. (search needs, search needs, search needs, search room-for, search room-for))
+    this.Tie.close (this.Tie.spec Inv-loop μ-loop loop-holds (λ c κs. (search needs, search needs, search needs, search room-for, search room-for))
     (λ c. search needs) (λ c. search needs) (λ c. search needs) (λ c. (search stops, search needs)) (λ c. search needs) (λ c. search needs)
     (λ c. search needs) loop-again (λ c. search needs) (λ c. search needs) (λ c. (search ends, search needs)))

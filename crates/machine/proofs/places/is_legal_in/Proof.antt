@@ -1,16 +1,10 @@
 -- `is_legal_in` meets its promise. Assumes nothing.
 use Rattle.basis.specs.Prelude.{needs, _≤_, _-_, _≡_, refl, true, length}
-use Rattle.basis.specs.Limits.{mostRows}
-use Rattle.basis.specs.Words.{allOf}
-use Rattle.sheet.specs.Legal.{legal}
-use Rattle.sheet.specs.Lists.{sheetIn, sheetLong}
-use Rattle.sheet.proofs.Ranges.{legal-sheet-long}
-use Rattle.machine.specs.Lists.{stateLong}
+use Rattle.machine.proofs.Names.{mostRows, allOf, legal, sheetIn, sheetLong, legal-sheet-long, stateLong}
 use Rattle.machine.proofs.Inside.LegalChecks.{legalIn, record-scaled, legal-in-short, legal-in-fits, legal-in-more, legal-in-fails, legal-in-done}
-use Rattle.machine.proofs.places.is_legal_in.Statement.{statement}
-use Rattle.machine.proofs.places.is_legal_in.Tie as tie
+use Rattle.machine.proofs.places.is_legal_in as this
 
-abbrev Inv-loop : tie.InvT-loop
+abbrev Inv-loop : this.Tie.InvT-loop
 Inv-loop sheet list n long i₀ i =
     (n ≡ sheetIn sheet .count)
     × (i ≤ n)
@@ -21,18 +15,18 @@ Inv-loop sheet list n long i₀ i =
     × (legal (sheetIn sheet) ≡ true)
     × (true ≡ allOf i (legalIn (sheetIn sheet) list))
 
-abbrev μ-loop : tie.MeasureT-loop
+abbrev μ-loop : this.Tie.MeasureT-loop
 μ-loop sheet list n long i₀ i = n - i
 
-loop-holds : tie.Need-loop-holds Inv-loop μ-loop
+loop-holds : this.Tie.Need-loop-holds Inv-loop μ-loop
 unfolding allOf
 loop-holds c = (search needs, search needs, search legal-in-fits, search legal-sheet-long, search needs, search needs, search needs, refl)
 
-loop-again : tie.Need-loop-again Inv-loop μ-loop
+loop-again : this.Tie.Need-loop-again Inv-loop μ-loop
 loop-again c = (search needs, search needs, search needs, search needs, search needs, search needs, search needs, search legal-in-more)
 
-pub is-legal-in-spec : {M : Type 1} → statement M
+pub is-legal-in-spec : {M : Type 1} → this.Statement.statement M
 is-legal-in-spec =
-    tie.close (tie.spec Inv-loop μ-loop (λ c. search record-scaled) (λ c. search legal-in-short) loop-holds (λ c κs. (search needs, search needs))
-    (λ c κs. (search needs, search needs)) (λ c κs. search needs) (λ c. search needs) (λ c. search needs) loop-again (λ c. search legal-in-fails)
-    (λ c κs. search needs) (λ c. search legal-in-done))
+    this.Tie.close (this.Tie.spec Inv-loop μ-loop (λ c. search record-scaled) (λ c. search legal-in-short) loop-holds
+    (λ c κs. (search needs, search needs)) (λ c κs. (search needs, search needs)) (λ c κs. search needs) (λ c. search needs) (λ c. search needs)
+    loop-again (λ c. search legal-in-fails) (λ c κs. search needs) (λ c. search legal-in-done))

@@ -1,18 +1,13 @@
 -- `put_fresh` meets its promise: the rows so far are fresh. Assumes nothing.
 use Rattle.basis.specs.Prelude.{needs, _≤_, _-_, _≡_, length}
-use Rattle.basis.specs.Limits.{mostRows}
-use Rattle.sheet.specs.Lists.{sheetIn, sheetLong}
-use Rattle.sheet.proofs.Ranges.{legal-sheet-long}
-use Rattle.machine.specs.States.{freshAt}
-use Rattle.machine.specs.Lists.{stateLong, putTo}
+use Rattle.machine.proofs.Names.{mostRows, sheetIn, sheetLong, legal-sheet-long, freshAt, stateLong, putTo}
 use Rattle.machine.proofs.Inside.LegalChecks.{legal-in-fits}
 use Rattle.machine.proofs.Inside.RecordLists.{put-none}
 use Rattle.machine.proofs.SlotsInPlace.{moves-done}
 use Rattle.machine.proofs.Inside.FreshLists.{fresh-more}
-use Rattle.machine.proofs.start.put_fresh.Statement.{statement}
-use Rattle.machine.proofs.start.put_fresh.Tie as tie
+use Rattle.machine.proofs.start.put_fresh as this
 
-abbrev Inv-loop : tie.InvT-loop
+abbrev Inv-loop : this.Tie.InvT-loop
 Inv-loop sheet list₀ n i₀ list i =
     (i ≤ n)
     × (n ≤ mostRows)
@@ -21,12 +16,9 @@ Inv-loop sheet list₀ n i₀ list i =
     × (length list ≡ length list₀)
     × (list ≡ putTo i (freshAt (sheetIn sheet)) list₀)
 
-abbrev μ-loop : tie.MeasureT-loop
-μ-loop sheet list₀ n i₀ list i = n - i
-
-pub put-fresh-spec : {M : Type 1} → statement M
+pub put-fresh-spec : {M : Type 1} → this.Statement.statement M
 put-fresh-spec =
-    tie.close (tie.spec Inv-loop μ-loop
+    this.Tie.close (this.Tie.spec Inv-loop (λ sheet list₀ n i₀ list i. n - i)
     (λ c. (search needs, search legal-in-fits, search legal-sheet-long, search needs, search needs, search put-none))
     (λ c κs. (search needs, search needs)) (λ c κs. (search needs, search needs)) (λ c. search needs) (λ c. search needs)
     (λ c. (search needs, search needs, search needs, search needs, search needs, search fresh-more)) (λ c. search needs) (λ c. search moves-done))

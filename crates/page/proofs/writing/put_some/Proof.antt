@@ -2,16 +2,13 @@
 use Rattle.basis.specs.Prelude.{needs, _-_, _≤_, _≡_, length, take}
 use Rattle.page.specs.Pages.{said}
 use Rattle.page.proofs.Inside.Pages.{none-said, byte-said, all-said}
-use Rattle.page.proofs.writing.put_some.Statement.{statement}
-use Rattle.page.proofs.writing.put_some.Tie as tie
+use Rattle.page.proofs.writing.put_some as this
 
-abbrev Inv-loop : tie.InvT-loop
+abbrev Inv-loop : this.Tie.InvT-loop
 Inv-loop text₀ at bytes next₀ i₀ text next i = (i ≤ length bytes) × (length text ≡ length text₀) × ((text, next) ≡ said (text₀, at) (take i bytes))
 
-abbrev μ-loop : tie.MeasureT-loop
-μ-loop text₀ at bytes next₀ i₀ text next i = length bytes - i
-
-pub put-some-spec : {M : Type 1} → statement M
+pub put-some-spec : {M : Type 1} → this.Statement.statement M
 put-some-spec =
-    tie.close (tie.spec Inv-loop μ-loop (λ c. (search needs, search needs, search none-said)) (λ c. search needs) (λ c κs. search needs)
-    (λ c. search needs) (λ c. search needs) (λ c. (search needs, search needs, search byte-said)) (λ c. search needs) (λ c. search all-said))
+    this.Tie.close (this.Tie.spec Inv-loop (λ text₀ at bytes next₀ i₀ text next i. length bytes - i)
+    (λ c. (search needs, search needs, search none-said)) (λ c. search needs) (λ c κs. search needs) (λ c. search needs) (λ c. search needs)
+    (λ c. (search needs, search needs, search byte-said)) (λ c. search needs) (λ c. search all-said))

@@ -1,24 +1,22 @@
 -- `check_row` meets its promise. Assumes nothing.
-use Rattle.basis.proofs.Inside.Tests.{tests}
-use Rattle.records.specs.Checks.{checkRow}
-use Rattle.records.proofs.release.check_row.Statement.{statement}
-use Rattle.records.proofs.release.check_row.Tie as tie
+use Rattle.records.proofs.Names.{tests, checkRow}
+use Rattle.records.proofs.release.check_row as this
 
-returns : tie.Need-returns
+returns : this.Tie.Need-returns
 unfolding checkRow
 returns c = search tests
 
-returns-2 : tie.Need-returns-2
+returns-2 : this.Tie.Need-returns-2
 unfolding checkRow
 returns-2 c = search tests
 
-returns-3 : tie.Need-returns-3
+returns-3 : this.Tie.Need-returns-3
 unfolding checkRow
 returns-3 c = search tests
 
-returns-4 : tie.Need-returns-4
+returns-4 : this.Tie.Need-returns-4
 unfolding checkRow
 returns-4 c = search tests
 
-pub check-row-spec : {M : Type 1} → statement M
-check-row-spec = tie.close (tie.spec returns returns-2 returns-3 returns-4)
+pub check-row-spec : {M : Type 1} → this.Statement.statement M
+check-row-spec = this.Tie.close (this.Tie.spec returns returns-2 returns-3 returns-4)

@@ -1,7 +1,6 @@
 -- `judge` meets its promise. Assumes nothing.
 use Rattle.basis.proofs.Inside.Tests.{tests}
-use Rattle.records.proofs.steps.judge.Statement.{statement}
-use Rattle.records.proofs.steps.judge.Tie as tie
+use Rattle.records.proofs.steps.judge as this
 
-pub judge-spec : {M : Type 1} → statement M
-judge-spec = tie.close (tie.spec (λ c. search tests) (λ c. search tests) (λ c. search tests) (λ c. search tests))
+pub judge-spec : {M : Type 1} → this.Statement.statement M
+judge-spec = this.Tie.close (this.Tie.spec (λ c. search tests) (λ c. search tests) (λ c. search tests) (λ c. search tests))

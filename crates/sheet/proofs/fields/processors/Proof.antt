@@ -1,8 +1,7 @@
 -- `processors` are those of the sheet. Assumes nothing.
 use Rattle.basis.specs.Prelude.{needs}
 use Rattle.sheet.proofs.Inside.Places.{processors-handed}
-use Rattle.sheet.proofs.fields.processors.Statement.{statement}
-use Rattle.sheet.proofs.fields.processors.Tie as tie
+use Rattle.sheet.proofs.fields.processors as this
 
-pub processors-spec : {M : Type 1} → statement M
-processors-spec = tie.close (tie.spec (λ c κs. search needs) (λ c. search processors-handed))
+pub processors-spec : {M : Type 1} → this.Statement.statement M
+processors-spec = this.Tie.close (this.Tie.spec (λ c κs. search needs) (λ c. search processors-handed))

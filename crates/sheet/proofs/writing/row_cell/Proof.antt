@@ -1,9 +1,7 @@
 -- `row_cell` meets its promise. Assumes nothing.
-use Rattle.basis.proofs.Inside.Tests.{tests}
-use Rattle.sheet.specs.Lists.{rowCell}
-use Rattle.sheet.proofs.writing.row_cell.Statement.{statement}
-use Rattle.sheet.proofs.writing.row_cell.Tie as tie
+use Rattle.sheet.proofs.Names.{tests, rowCell}
+use Rattle.sheet.proofs.writing.row_cell as this
 
-pub row-cell-spec : {M : Type 1} → statement M
+pub row-cell-spec : {M : Type 1} → this.Statement.statement M
 unfolding rowCell
-row-cell-spec = tie.close (tie.spec (λ c. search tests) (λ c. search tests) (λ c. search tests) (λ c. search tests))
+row-cell-spec = this.Tie.close (this.Tie.spec (λ c. search tests) (λ c. search tests) (λ c. search tests) (λ c. search tests))

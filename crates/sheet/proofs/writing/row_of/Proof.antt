@@ -1,9 +1,7 @@
 -- `row_of` meets its promise. Assumes nothing.
-use Rattle.basis.proofs.Inside.Tests.{tests}
-use Rattle.sheet.specs.Lists.{rowOf}
-use Rattle.sheet.proofs.writing.row_of.Statement.{statement}
-use Rattle.sheet.proofs.writing.row_of.Tie as tie
+use Rattle.sheet.proofs.Names.{tests, rowOf}
+use Rattle.sheet.proofs.writing.row_of as this
 
-pub row-of-spec : {M : Type 1} → statement M
+pub row-of-spec : {M : Type 1} → this.Statement.statement M
 unfolding rowOf
-row-of-spec = tie.close (tie.spec (λ c. search tests) (λ c. search tests) (λ c. search tests))
+row-of-spec = this.Tie.close (this.Tie.spec (λ c. search tests) (λ c. search tests) (λ c. search tests))

@@ -2,8 +2,7 @@
 use Rattle.basis.specs.Prelude.{needs}
 use Rattle.sheet.proofs.Inside.Cells.{unmapped}
 use Rattle.states.proofs.Inside.ValueLists.{sheet-in-list}
-use Rattle.states.proofs.lists.listed.Statement.{statement}
-use Rattle.states.proofs.lists.listed.Tie as tie
+use Rattle.states.proofs.lists.listed as this
 
-pub listed-spec : {M : Type 1} → statement M
-listed-spec = tie.close (tie.spec (λ c. search needs) (λ c κs. search needs) (λ c. search (needs, sheet-in-list, unmapped)))
+pub listed-spec : {M : Type 1} → this.Statement.statement M
+listed-spec = this.Tie.close (this.Tie.spec (λ c. search needs) (λ c κs. search needs) (λ c. search (needs, sheet-in-list, unmapped)))

@@ -1,28 +1,25 @@
 -- `state_of` meets its promise. Assumes nothing.
 use Rattle.basis.specs.Prelude.{needs, _≤_, _-_, _≡_, refl, length}
-use Rattle.basis.specs.Limits.{mostRows}
-use Rattle.basis.specs.Upto.{upto}
-use Rattle.machine.specs.Lists.{stateLong, recordIn}
+use Rattle.states.proofs.Names.{mostRows, upto, stateLong, recordIn}
 use Rattle.states.proofs.Inside.ValueLists.{records-more, records-done}
-use Rattle.states.proofs.lists.state_of.Statement.{statement}
-use Rattle.states.proofs.lists.state_of.Tie as tie
+use Rattle.states.proofs.lists.state_of as this
 
-abbrev Inv-loop : tie.InvT-loop
+abbrev Inv-loop : this.Tie.InvT-loop
 Inv-loop list state₀ i₀ state i = (i ≤ mostRows) × (length list ≡ stateLong mostRows) × (state .rows ≡ upto i (recordIn list) (state₀ .rows))
 
-abbrev μ-loop : tie.MeasureT-loop
+abbrev μ-loop : this.Tie.MeasureT-loop
 μ-loop list state₀ i₀ state i = mostRows - i
 
-loop-holds : tie.Need-loop-holds Inv-loop μ-loop
+loop-holds : this.Tie.Need-loop-holds Inv-loop μ-loop
 unfolding upto
 loop-holds c = (search needs, search needs, refl)
 
-loop-again : tie.Need-loop-again Inv-loop μ-loop
+loop-again : this.Tie.Need-loop-again Inv-loop μ-loop
 unfolding recordIn
 loop-again c = (search needs, search needs, search records-more)
 
-pub state-of-spec : {M : Type 1} → statement M
+pub state-of-spec : {M : Type 1} → this.Statement.statement M
 state-of-spec =
-    tie.close (tie.spec Inv-loop μ-loop (λ c κs. search needs) loop-holds (λ c. search needs) (λ c. search needs) (λ c. search needs)
+    this.Tie.close (this.Tie.spec Inv-loop μ-loop (λ c κs. search needs) loop-holds (λ c. search needs) (λ c. search needs) (λ c. search needs)
     (λ c. search needs) (λ c. search needs) (λ c. search needs) (λ c. search needs) (λ c. search needs) (λ c. search needs) (λ c. search needs)
     loop-again (λ c. search records-done))

@@ -1,15 +1,10 @@
 -- `aged` meets its promise: the rows so far are aged. Assumes nothing.
 use Rattle.basis.specs.Prelude.{needs, _≤_, _-_, _≡_, refl, length}
-use Rattle.basis.specs.Limits.{mostRows}
-use Rattle.basis.specs.Upto.{upto}
-use Rattle.basis.proofs.Inside.Upto.{upto-whole}
-use Rattle.states.specs.Values.{held}
-use Rattle.states.specs.Inside.Methods.{agedRecord, agedCode}
+use Rattle.states.proofs.Names.{mostRows, upto, upto-whole, held, agedRecord, agedCode}
 use Rattle.states.proofs.Inside.StepLoops.{aged-rows, aged-codes, rows-done}
-use Rattle.states.proofs.state.State.aged.Statement.{statement}
-use Rattle.states.proofs.state.State.aged.Tie as tie
+use Rattle.states.proofs.state.State.aged as this
 
-abbrev Inv-loop : tie.InvT-loop
+abbrev Inv-loop : this.Tie.InvT-loop
 Inv-loop codes₀ sheet state₀ n i₀ codes state i =
     (i ≤ n)
     × (n ≤ mostRows)
@@ -18,18 +13,18 @@ Inv-loop codes₀ sheet state₀ n i₀ codes state i =
     × (state .rows ≡ upto i (agedRecord sheet (held state₀) codes₀) (state₀ .rows))
     × (codes ≡ upto i (agedCode sheet (held state₀) codes₀) codes₀)
 
-abbrev μ-loop : tie.MeasureT-loop
+abbrev μ-loop : this.Tie.MeasureT-loop
 μ-loop codes₀ sheet state₀ n i₀ codes state i = n - i
 
-loop-holds : tie.Need-loop-holds Inv-loop μ-loop
+loop-holds : this.Tie.Need-loop-holds Inv-loop μ-loop
 unfolding upto
 loop-holds c = (search needs, search needs, search needs, refl, refl, refl)
 
-loop-again : tie.Need-loop-again Inv-loop μ-loop
+loop-again : this.Tie.Need-loop-again Inv-loop μ-loop
 loop-again c = (search needs, search needs, search needs, search needs, search aged-rows, search aged-codes)
 
-pub aged-spec : {M : Type 1} → statement M
+pub aged-spec : {M : Type 1} → this.Statement.statement M
 aged-spec =
-    tie.close (tie.spec Inv-loop μ-loop loop-holds (λ c. search needs) (λ c. search needs) (λ c. search needs) (λ c. search needs)
+    this.Tie.close (this.Tie.spec Inv-loop μ-loop loop-holds (λ c. search needs) (λ c. search needs) (λ c. search needs) (λ c. search needs)
     (λ c. search needs) (λ c κs. search needs) (λ c. search needs) (λ c. search needs) (λ c. search needs) (λ c. search needs) (λ c. search needs)
     loop-again (λ c. search needs) (λ c. (search rows-done, search upto-whole)))

@@ -2,10 +2,9 @@
 use Rattle.basis.specs.Prelude.{needs}
 use Rattle.sheet.proofs.Inside.Cells.{unmapped}
 use Rattle.states.proofs.StepsTogether.{next-state, next-codes}
-use Rattle.states.proofs.state.State.next.Statement.{statement}
-use Rattle.states.proofs.state.State.next.Tie as tie
+use Rattle.states.proofs.state.State.next as this
 
-pub next-spec : {M : Type 1} → statement M
+pub next-spec : {M : Type 1} → this.Statement.statement M
 next-spec =
-    tie.close (tie.spec (λ c κs. search needs) (λ c κs. search needs) (λ c κs. search needs) (λ c. search needs)
+    this.Tie.close (this.Tie.spec (λ c κs. search needs) (λ c κs. search needs) (λ c κs. search needs) (λ c. search needs)
     (λ c. (search (next-state, unmapped), search (next-codes, unmapped))))
