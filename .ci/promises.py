@@ -45,8 +45,14 @@ class Sources:
 
     def theory(self, path):
         if path not in self.theories:
-            self.theories[path] = Theory(self.text(path))
+            theory = self.theories[path] = Theory(self.text(path))
+            theory.imports = {name: self.home(*there) for name, there in theory.imports.items()}
         return self.theories[path]
+
+    def home(self, path, name):
+        """(file, name there) of a name, where the file that it is imported from only passes it on."""
+        passed = dict(imports(self.text(path), "pub use")) if name and self.there(path) else {}
+        return self.home(*passed[name]) if name in passed else (path, name)
 
     def below(self, folder, ending):
         for at, _, files in os.walk(os.path.join(self.root, folder)):
@@ -108,9 +114,9 @@ class Theory:
         return name in self.data or self.signature(name) is not None
 
 
-def imports(text):
-    """(name, (file, name there)) of each name that a text imports from the specs or proofs of a crate."""
-    for crate, path, what in re.findall(r"^\s*(?:ghost |pub |unfoldable |abbrev )*use Rattle·(\w+)(?:·\w+)?\.((?:specs|proofs)[\w.]*?)(\.\{[^}]*\}| as [\w-]+)", text, re.M):
+def imports(text, words="use"):
+    """(name, (file, name there)) of each name that a text imports, or passes on, from the specs or proofs of a crate."""
+    for crate, path, what in re.findall(r"^\s*(?:ghost |pub |unfoldable |abbrev )*" + words + r" Rattle·(\w+)(?:·\w+)?\.((?:specs|proofs)[\w.]*?)(\.\{[^}]*\}| as [\w-]+)", text, re.M):
         file = f"crates/{crate}/{path.replace('.', '/')}.antt"
         if what.startswith(" as "):
             yield what[4:], (file, None)

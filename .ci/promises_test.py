@@ -38,6 +38,7 @@ BROKEN = [
     ("no section of exceptions", PAGE, "\n## Exceptions\n", "\n## Others\n", "has no section Exceptions"),
     ("a law that speaks of one answer", SAME, LAW, "pub is-legal-same : (l : List ℕ) (r r′ : Bool) → r ≡ legal (sheetIn l) → r ≡ r", "does not name legal of"),
     ("a law of another definition under its name", SAME, LAW, LAW.replace("legal (sheetIn l)", "other (sheetIn l)"), "the type of is-legal-same does not name legal"),
+    ("a law of another file's definition, passed on", "crates/sheet/proofs/Names.antt", "specs.Legal.{legal, ", "specs.Limits.{legal, ", "the type of is-legal-same does not name legal"),
     ("a law that is no equality of answers", SAME, LAW, LAW + " → r ≡ legal (sheetIn l)", "does not end in the equality"),
     ("a law without a clause", SAME, "\nis-legal-same l = same (legal (sheetIn l))\n", "\n", "no file beside it has is-legal-same"),
     ("another definition of the same name", CODE, "specs.Legal.{legalRow, legal}", "specs.Limits.{legalRow, legal}", "which is not beside it"),
