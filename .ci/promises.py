@@ -45,14 +45,13 @@ class Sources:
 
     def theory(self, path):
         if path not in self.theories:
-            theory = self.theories[path] = Theory(self.text(path))
-            theory.imports = {name: self.home(*there) for name, there in theory.imports.items()}
+            self.theories[path] = Theory(self.text(path))
         return self.theories[path]
 
     def home(self, path, name):
-        """(file, name there) of a name, where the file that it is imported from only passes it on."""
-        passed = dict(imports(self.text(path), "pub use")) if name and self.there(path) else {}
-        return self.home(*passed[name]) if name in passed else (path, name)
+        """The file that a name is of, where the one that it is imported from only passes it on."""
+        passed = dict(imports(self.text(path), "pub use")) if path and self.there(path) else {}
+        return self.home(*passed[name]) if name in passed else path
 
     def below(self, folder, ending):
         for at, _, files in os.walk(os.path.join(self.root, folder)):
@@ -279,6 +278,7 @@ class Page:
             if signature is None:
                 continue
             count, its = named(signature, name, self.theory(path).imports)
+            its = self.sources.home(its, name)
             if path == file:
                 count, its = spaced(signature).count(name), file
             end = signature.rsplit("→", 1)[-1]
