@@ -87,14 +87,18 @@ static void answer_slot(void) {
   put_bytes(room.bytes, room.count);
 }
 
-/* Kind 8: the same; the slots done, and the list and the bytes after them. */
-static void answer_run(void) {
+/* A run from the state of a list, or from the fresh state by the box's own loop. */
+typedef uint64_t run_t(const uint64_t *sheet, size_t sheet_length, uint64_t *state, size_t state_length, const uint64_t *releases, size_t releases_length,
+                       uint8_t *codes, size_t codes_length, uint64_t *done, size_t *place);
+
+/* Kinds 8 and 14: the same; the slots done, and the list and the bytes after them. */
+static void answer_run(run_t *run) {
   uint64_t done = 7;
   size_t place = 7;
   take_list(&sheet);
   take_list(&list);
   take_step();
-  uint64_t number = giachimu_run(sheet.at, sheet.count, list.at, list.count, releases.at, releases.count, room.lent, room.lent_count, &done, &place);
+  uint64_t number = run(sheet.at, sheet.count, list.at, list.count, releases.at, releases.count, room.lent, room.lent_count, &done, &place);
   put_told(number, place);
   put_word(done);
   put_list(&list);
@@ -157,20 +161,6 @@ static void answer_legal(void) {
   put_word(giachimu_legal(sheet.at, sheet.count));
 }
 
-/* Kind 14: a sheet's list, a list, and a step; the slots done by the box's own loop, and the list and the bytes after them. */
-static void answer_box(void) {
-  uint64_t done = 7;
-  size_t place = 7;
-  take_list(&sheet);
-  take_list(&list);
-  take_step();
-  uint64_t number = giachimu_box(sheet.at, sheet.count, list.at, list.count, releases.at, releases.count, room.lent, room.lent_count, &done, &place);
-  put_told(number, place);
-  put_word(done);
-  put_list(&list);
-  put_bytes(room.bytes, room.count);
-}
-
 /* Kind 15: a number and a list; the worked sheet with that number in the list. */
 static void answer_fixed(void) {
   size_t place = 7;
@@ -191,13 +181,13 @@ static void answer(uint64_t kind) {
     case 5: answer_bounds(); break;
     case 6: answer_fresh(); break;
     case 7: answer_slot(); break;
-    case 8: answer_run(); break;
+    case 8: answer_run(giachimu_run); break;
     case 9: answer_margin(); break;
     case 10: answer_verdict(); break;
     case 11: answer_green(); break;
     case 12: answer_sweep(); break;
     case 13: answer_legal(); break;
-    case 14: answer_box(); break;
+    case 14: answer_run(giachimu_box); break;
     case 15: answer_fixed(); break;
     default: stop("a case of no kind");
   }
