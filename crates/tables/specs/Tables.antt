@@ -67,7 +67,3 @@ fixedSheets = sheetA ∷ sheetB ∷ sheetC ∷ sheetD ∷ sheetE ∷ sheetF ∷ 
 -- The fixed sheet of a number; past the six there is none, all zero.
 unfoldable pub fixedSheet : ℕ → Sheet
 fixedSheet n = getD fixedSheets n noSheet
-
--- What follows is how the code makes them, of which no promise of a public function speaks: a sheet of no more than three rows.
-abbrev pub sheetWith : ℕ → ℕ → Row → Row → Row → Sheet
-sheetWith m n a b c = record { processors = m; count = n; rows = padded (a ∷ b ∷ c ∷ []) }

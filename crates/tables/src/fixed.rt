@@ -1,6 +1,7 @@
 // Sheets A to F: constant arrays of row values, each handed out as a sheet.
 ghost use mathlib.Core.Path.{_≡_};
-ghost use Rattle.tables.specs.Tables.{fixedSheet, sheetWith};
+ghost use Rattle.tables.specs.Tables.{fixedSheet};
+ghost use Rattle.tables.specs.Inside.Making.{sheetWith};
 use basis::MOST_ROWS;
 use sheet::NO_ROW;
 use sheet::Row;
