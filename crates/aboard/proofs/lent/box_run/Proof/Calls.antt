@@ -1,4 +1,4 @@
--- The calls of the box's own loop but for the slot: what each asks for, of what the loop has, and what it has comesBack once it has returned. Assumes `Given`.
+-- The calls of the box's own loop but for the slot: what each asks for, of what the loop has, and what comes back once it has returned. Assumes `Given`.
 use Rattle.basis.specs.Prelude.{_≡_, refl, ℕ, _+_, _≤_, _<_, _^_, Bool, List, [], _∷_}
 use lib.ListN.{length, take, drop as drop-list}
 use Rattle.aboard.proofs.Names.{URA, named, w64, Val, vint, SProp, ent, sep, ex, emp, guard, Lft, Share, Fml, ftrue, flft, Memory, Routine, Heap, Atoms, sem, Fun, Given, ‵, _⊛_, _$_, _∵_, !, qed, move, join, fjoin, frame, done, Is, uint-makes, u64, usize, bool, RefT, sliceVal, ShrSlice, owned, nothing, tripleOf, Contract, lasts, says, outcome, isAccepted, Refusal, Sheet, Begun, beginningOf, beginning}

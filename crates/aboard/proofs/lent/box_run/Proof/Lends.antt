@@ -1,4 +1,4 @@
--- The slot of the box's own loop: `slot_in` is called with the state and the codes lent for the lifetimes α and β, and has comesBack what it left in both. Assumes `Given`.
+-- The slot of the box's own loop: `slot_in` is called with the state and the codes lent for the lifetimes α and β, and what it left in both comes back. Assumes `Given`.
 use Rattle.basis.specs.Prelude.{_≡_, ℕ, List, [], _∷_}
 use Rattle.aboard.proofs.Names.{URA, fullShare, named, Val, vptr, SProp, ent, ex, guard, Fml, ftrue, flft, Memory, Routine, Heap, Atoms, sem, Fun, Given, Item, ‵, _⊛_, ⋆, mean, _$_, _∵_, !, qed, move, join, fjoin, frame, done, Is, u8, RefT, MutRef, MutSlice, owned, nothing, tripleOf, Contract, lasts, Refusal, State, slot, held, slottedIn}
 use denote.Struct.Laws as LL

@@ -1,4 +1,4 @@
--- The call of `slot_in`: what `State::slot` asks for, of what the lent slot has, and what it has comesBack once it has returned. Assumes `Given`.
+-- The call of `slot_in`: what `State::slot` asks for, of what the lent slot has, and what comes back once it has returned. Assumes `Given`.
 use Rattle.basis.specs.Prelude.{_≡_, ℕ, List, [], _∷_, length}
 use Rattle.aboard.proofs.Names.{URA, named, Val, SProp, ent, ex, guard, Lft, Share, GName, Fml, ftrue, flft, Memory, Routine, Heap, Atoms, sem, Fun, Given, Item, ‵, _⊛_, ⋆, mean, _$_, _∵_, !, qed, move, join, fjoin, frame, done, owns, u8, u64, RefT, sliceVal, MutSlice, ShrSlice, tripleOf, Contract, lasts, Sheet, State, Slotted, held, slotted}
 use Rattle.sheet.proofs.row.Sheet as Sh
