@@ -16,12 +16,7 @@ pub row-stepped : (h : Sheet) (l : List ℕ) (k release f : ℕ) (row : Row) (s 
     → r ≡ steppedRow (rowAt h k) (recordIn l k .job) release f
 row-stepped h l k release f row s r er es e = rw (er, es) at e
 
--- `step_rows`: every processor is free at the top
-pub all-free : (h : Sheet) (t : State) (rel : List ℕ) (f : ℕ) → f ≡ h .processors → f ≡ free (given h t rel) 0
-unfolding freeAt given
-all-free h t rel f e = e
-
--- a turn
+-- `step_rows`: a turn
 module _ (h : Sheet) (l₀ l rel : List ℕ) (fine : legal h ≡ true) (kept : legalState h (stateIn l₀) ≡ true) (f i n : ℕ) (en : n ≡ h .count) (below : i < n)
     (ef : f ≡ free (given h (stateIn l₀) rel) i) (so-far : l ≡ putTo i (next (given h (stateIn l₀) rel)) l₀)
     (r : Placed) (er : r ≡ steppedRow (rowAt h i) (recordIn l i .job) (getD rel i 0) f) where

@@ -2,19 +2,6 @@
 use Rattle.basis.specs.Prelude.{ℕ, zero, suc, _+_, _*_, _≤_, _<_, _≡_, refl, sym, ap, ap₂, _∙_, true, false, List, ⊎-elim, length, getD, set, length-set, getD-set-same, getD-set-other, ext-getD, arith, le-refl, eq-or-lt-of-le, add-one, lt-ltb, le-ltb, eq-eqb}
 use Rattle.machine.proofs.Names.{mostRows, upto, lt-or-le, all-same, all-true, upto-below, upto-past, length-upto, getD-all, numberAt, filled-read, RowState, recordOf, noRecord, noState, stateOf, recordAt, recordWide, recordIn, stateLong, zeroAt, zeroFrom, spareIsZero, stateIn, putRecord, putTo, cleared}
 
--- `record_in`
-pub record-read : (l : List ℕ) (k : ℕ) → recordOf (record { remaining = numberAt l (k * recordWide); since = numberAt l (k * recordWide + 1) }) ≡ recordIn l k
-unfolding recordIn
-record-read l k = refl
-
--- `put_record`
-pub inside-next : (l : List ℕ) (k v : ℕ) → stateLong (k + 1) ≤ length l → k * recordWide + 1 < length (set l (k * recordWide) v)
-inside-next l k v r = simp length-set (omega arith)
-
-pub record-put : (l : List ℕ) (k : ℕ) (s : RowState) → set (set l (k * recordWide) (s .job .remaining)) (k * recordWide + 1) (s .job .since) ≡ putRecord l k s
-unfolding putRecord
-record-put l k s = refl
-
 -- one record that is written, read
 module _ (l : List ℕ) (k : ℕ) (s : RowState) where
   pub length-put : length (putRecord l k s) ≡ length l
@@ -24,8 +11,7 @@ module _ (l : List ℕ) (k : ℕ) (s : RowState) where
   -- another number is as it was
   put-other : (i : ℕ) → (i ≡ k * recordWide → ⊥) → (i ≡ k * recordWide + 1 → ⊥) → numberAt (putRecord l k s) i ≡ numberAt l i
   unfolding putRecord
-  put-other i a b =
-      getD-set-other (set l (k * recordWide) (s .job .remaining)) (k * recordWide + 1) i (s .job .since) 0 b ∙ getD-set-other l (k * recordWide) i (s .job .remaining) 0 a
+  put-other i a b = rw (getD-set-other, getD-set-other)
 
   put-here : stateLong (k + 1) ≤ length l → recordIn (putRecord l k s) k ≡ s
   unfolding putRecord recordIn
@@ -37,17 +23,10 @@ module _ (l : List ℕ) (k : ℕ) (s : RowState) where
 
   put-elsewhere : (j : ℕ) → (j ≡ k → ⊥) → recordIn (putRecord l k s) j ≡ recordIn l j
   unfolding recordIn
-  put-elsewhere j d =
-      let a = put-other (j * recordWide) (λ e. d (omega arith)) (λ e. omega arith) in
-      let b = put-other (j * recordWide + 1) (λ e. omega arith) (λ e. d (omega arith)) in
-      λ i. recordOf (record { remaining = a i; since = b i })
+  put-elsewhere j d = rw (put-other (j * recordWide) (λ e. d (omega arith)) (λ e. omega arith), put-other (j * recordWide + 1) (λ e. omega arith) (λ e. d (omega arith)))
 
 -- the first n records that are written, read
 module _ (f : ℕ → RowState) (l : List ℕ) where
-  pub put-none : l ≡ putTo 0 f l
-  unfolding putTo
-  put-none = refl
-
   pub length-put-to : (n : ℕ) → length (putTo n f l) ≡ length l
   unfolding putTo
   length-put-to zero = refl
@@ -60,10 +39,7 @@ module _ (f : ℕ → RowState) (l : List ℕ) where
 
   pub put-record-past : (n k : ℕ) → n ≤ k → recordIn (putTo n f l) k ≡ recordIn l k
   unfolding recordIn
-  put-record-past n k h =
-      let a = put-past n (k * recordWide) (omega arith) in
-      let b = put-past n (k * recordWide + 1) (omega arith) in
-      λ i. recordOf (record { remaining = a i; since = b i })
+  put-record-past n k h = rw (put-past n (k * recordWide) (omega arith), put-past n (k * recordWide + 1) (omega arith))
 
   pub put-record-below : (n k : ℕ) → k < n → stateLong n ≤ length l → recordIn (putTo n f l) k ≡ f k
   unfolding putTo
@@ -157,13 +133,9 @@ module _ (l : List ℕ) (none : (i : ℕ) → numberAt l i ≡ 0) where
       all-true (length l) (zeroAt (stateLong mostRows) l)
       (λ i b. ⊎-elim (λ a. rw (lt-ltb i (stateLong mostRows) a)) (λ a. rw (le-ltb i (stateLong mostRows) a, eq-eqb (numberAt l i) 0 (none i))) (lt-or-le i (stateLong mostRows)))
 
-  zeros-record : (k : ℕ) → recordIn l k ≡ noRecord
-  unfolding recordIn
-  zeros-record k = λ i. recordOf (record { remaining = none (k * recordWide) i; since = none (k * recordWide + 1) i })
-
   pub zeros-state : stateIn l ≡ noState
-  unfolding stateIn
-  zeros-state = rw zeros-spare (ap stateOf (records-all (recordIn l) (noState .rows) (noState .rows) refl refl (λ k there. zeros-record k ∙ sym (getD-all mostRows k noRecord))))
+  unfolding stateIn recordIn
+  zeros-state = rw zeros-spare (ap stateOf (records-all (recordIn l) (noState .rows) (noState .rows) refl refl (λ k there. rw (none, none, getD-all))))
 
 pub cleared-none : (l : List ℕ) (i : ℕ) → numberAt (cleared l) i ≡ 0
 cleared-none l i = filled-read (λ i. 0) l i (λ b. refl)
