@@ -64,8 +64,7 @@ module _ (h : Sheet) (rows : List Row) (same : (i : ℕ) → i < h .count → ro
 
   onward-alike : (rel : List ℕ) (j : ℕ) (c : RunAnswer State) → onward h rel j c ≡ onward (withRows h rows) rel j c
   unfolding onward slotAt
-  onward-alike rel j c =
-      rw slot-alike
+  onward-alike rel j c = rw slot-alike
 
   course-alike : (rel : List ℕ) (c : RunAnswer State) (j : ℕ) → course h rel c j ≡ course (withRows h rows) rel c j
   unfolding course

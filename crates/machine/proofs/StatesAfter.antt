@@ -38,8 +38,7 @@ fresh-of-zeros h = go (legal h) refl
     go true e =
         let room : stateLong (h .count) ≤ stateLong mostRows = omega (arith, legal-is h e .most-rows) in
         rw (e, le-leb (stateLong (h .count)) (stateLong mostRows) room) (ap (freshAnswer accepted) (written-fresh h (replicate (stateLong mostRows) 0) e room))
-    go false e =
-        rw e (ap (freshAnswer (refused 10 0)) (zeros-state (replicate (stateLong mostRows) 0) (λ i. getD-all (stateLong mostRows) i 0)))
+    go false e = rw e (ap (freshAnswer (refused 10 0)) (zeros-state (replicate (stateLong mostRows) 0) (λ i. getD-all (stateLong mostRows) i 0)))
 
 -- A slot: the list hands over the state that the slot by value hands back.
 pub slot-in-state : (h : Sheet) (l rel cs : List ℕ) → stateIn (slotIn h l rel cs .state) ≡ slot h (stateIn l) rel cs .state

@@ -10,8 +10,7 @@ record BegunJob (row : Row) (s : Job) : Type 0 where
   pub in-time : 1 ≤ s .remaining → s .since < row .deadline
 
 begun-legal : (m : ℕ) (row : Row) (s : RowState) (r k : ℕ) → LegalRow m row → LegalJob row (s .job) → checkRow row s r k ≡ accepted → BegunJob row (released r (s .job))
-begun-legal m row s zero k w l e =
-    rw released-none (record { most-since = l .most-since; most-remaining = l .most-remaining; in-time = l .in-time })
+begun-legal m row s zero k w l e = rw released-none (record { most-since = l .most-since; most-remaining = l .most-remaining; in-time = l .in-time })
 begun-legal m row s (suc r) k w l e =
     rw (released-some (suc r) (s .job) (omega arith))
     (record { most-since = omega arith; most-remaining = release-allowed row s (suc r) k (omega arith) e .0; in-time = λ j. omega (arith, w .some-deadline) })

@@ -17,7 +17,7 @@ course-none h rel first (suc j) e = go (course h rel first j) (course-none h rel
       where
         at : (o : Outcome) → slotAt h (c .state) rel (c .codes) j .outcome ≡ o → pick (isAccepted o) (c .done + 1) (c .done) ≡ 0 → slotAt h (c .state) rel (c .codes) j .state ≡ first .state
         at accepted g z = absurd (omega arith)
-        at (refused a b) g z = ap (λ (x : SlotAnswer State). x .state) (refused-leaves h (c .state) rel (c .codes) j a b g) ∙ so z
+        at (refused a b) g z = rw (refused-leaves h (c .state) rel (c .codes) j a b g) (so z)
 
         by : (b : Bool) → pick b (followed (c .done) (slotAt h (c .state) rel (c .codes) j)) c .done ≡ 0 → pick b (followed (c .done) (slotAt h (c .state) rel (c .codes) j)) c .state ≡ first .state
         by true = at (slotAt h (c .state) rel (c .codes) j .outcome) refl
@@ -27,7 +27,7 @@ course-none h rel first (suc j) e = go (course h rel first j) (course-none h rel
 module _ (h : Sheet) (l rel cs : List ℕ) (c : Refusal) (e : outcome c ≡ checkRun h (stateIn l) rel (length cs)) where
   pub run-in-refused : (a b : ℕ) → c ≡ Refused a b → runAnswer 0 (refused a b) l cs ≡ runIn h l rel cs
   unfolding runIn
-  run-in-refused a b f = ap (λ (x : RunAnswer State). runListed (h .count) x l) (run-is-refused h (stateIn l) rel cs c e a b f)
+  run-in-refused a b f = rw (sym (run-is-refused h (stateIn l) rel cs c e a b f))
 
   module _ (f : c ≡ Accepted) (n : ℕ) (en : n ≡ h .count) (r : Done) (l′ ds : List ℕ)
       (er : ranIn r (stateIn l′) ds ≡ course h rel (runAnswer 0 accepted (stateIn l) cs) (length rel / n)) (kept′ : legalState h (stateIn l′) ≡ true) (long : length l′ ≡ length l) where
@@ -42,9 +42,8 @@ module _ (h : Sheet) (l rel cs : List ℕ) (c : Refusal) (e : outcome c ≡ chec
 
     none-done : r .done ≡ 0 → l′ ≡ l
     none-done z =
-        let u : stateIn l′ ≡ stateIn l =
-        ap (λ (x : RunAnswer State). x .state) er ∙ course-none h rel (runAnswer 0 accepted (stateIn l) cs) (length rel / n) (sym (ap (λ (x : RunAnswer State). x .done) er) ∙ z) in
-        sym same-list ∙ ap (λ (t : State). putState (h .count) t l) u ∙ list-of-kept h l l fine kept kept refl
+        let u : stateIn l′ ≡ stateIn l = (λ i. er i .state) ∙ course-none h rel (runAnswer 0 accepted (stateIn l) cs) (length rel / n) (sym (λ i. er i .done) ∙ z) in
+        rw u at (sym same-list) ∙ list-of-kept h l l fine kept kept refl
 
     picked : (b : Bool) → eqb (r .done) 0 ≡ b → l′ ≡ pick b l (putState (h .count) (stateIn l′) l)
     picked true g = none-done (eqb-true (r .done) 0 g)
@@ -52,6 +51,4 @@ module _ (h : Sheet) (l rel cs : List ℕ) (c : Refusal) (e : outcome c ≡ chec
 
     pub run-in-done : ranIn r l′ ds ≡ runIn h l rel cs
     unfolding runIn
-    run-in-done =
-        ap (λ (x : List ℕ). ranIn r x ds) (picked (eqb (r .done) 0) refl)
-        ∙ ap (λ (x : RunAnswer State). runListed (h .count) x l) (run-is-done h (stateIn l) rel cs c e f n en (ranIn r (stateIn l′) ds) er)
+    run-in-done = rw (sym (run-is-done h (stateIn l) rel cs c e f n en (ranIn r (stateIn l′) ds) er)) (ap (λ (x : List ℕ). ranIn r x ds) (picked (eqb (r .done) 0) refl))
