@@ -4,7 +4,7 @@ use borrow.Rule.Slice.PartMut.{putMid}
 use Rattle.machine.proofs.Names.{accepted, refused, outcome, Refusal, Accepted, Refused, upto, upto-set, rowAt, legal, Row, Sheet, legal-is, RowState, recordOf, State, stateOf, recordAt, legalState, freeAt, free, next, code, checkReleases, checkSlot, SlotAnswer, slotAnswer, given, nextState, nextCodes, slotAt, recordIn, stateIn, putRecord, putTo, putState, slotListed, slotIn}
 use Rattle.records.specs.declared.steps.Placed.{Placed}
 use Rattle.records.specs.Methods.{begunRow, steppedRow}
-use Rattle.machine.proofs.Inside.Answers.{Accepted-slot, slot-shows, slot-is-refused, slot-is-accepted}
+use Rattle.machine.proofs.Inside.Answers.{slot-sheet, slot-state, slot-is-refused, slot-is-accepted}
 use Rattle.machine.proofs.Inside.Courses.{slot-at-accepted}
 use Rattle.machine.proofs.Inside.LegalSlots.{next-at, next-legal}
 use Rattle.machine.proofs.Inside.Legals.{legal-state-is, legal-state-says}
@@ -93,27 +93,12 @@ module _ (h : Sheet) (l rel cs : List ℕ) (j n : ℕ) (en : n ≡ h .count) (fi
 module _ (h : Sheet) (l rel cs : List ℕ) (c : Refusal) (e : outcome c ≡ checkSlot h (stateIn l) rel (length cs)) where
   pub slot-in-refused : (a b : ℕ) → c ≡ Refused a b → slotAnswer (refused a b) l cs ≡ slotIn h l rel cs
   unfolding slotIn
-  slot-in-refused a b f = ap (λ (x : SlotAnswer State). slotListed (h .count) x l) (slot-is-refused h (stateIn l) rel cs c e a b f)
+  slot-in-refused a b f = rw (sym (slot-is-refused h (stateIn l) rel cs c e a b f))
 
-  module _ (f : c ≡ Accepted) where
-    did : Accepted-slot h (stateIn l) rel (length cs)
-    did = slot-shows h (stateIn l) rel (length cs) (sym e ∙ ap outcome f)
-
-    pub slot-sheet : legal h ≡ true
-    slot-sheet = did .in-order .sheet-legal
-
-    pub slot-state : legalState h (stateIn l) ≡ true
-    slot-state = did .in-order .state-legal
-
-    module _ (n : ℕ) (en : n ≡ h .count) where
-      pub slot-entries : n ≤ length rel
-      slot-entries = omega (arith, did .long)
-
-      pub slot-codes : n ≤ length cs
-      slot-codes = omega (arith, did .long, did .roomy)
-
-      pub slot-in-accepted : (l′ ds : List ℕ) → l′ ≡ putTo n (next (given h (stateIn l) rel)) l → ds ≡ nextCodes h (stateIn l) rel cs → slotAnswer accepted l′ ds ≡ slotIn h l rel cs
-      unfolding slotIn
-      slot-in-accepted l′ ds moved ed =
-          ap (λ (x : List ℕ). slotAnswer accepted x ds) (moved-list h l rel slot-sheet slot-state n en l′ moved)
-          ∙ ap (λ (x : SlotAnswer State). slotListed (h .count) x l) (slot-is-accepted h (stateIn l) rel cs c e f (nextState h (stateIn l) rel) ds refl ed)
+  pub slot-in-accepted : c ≡ Accepted → (n : ℕ) → n ≡ h .count → (l′ ds : List ℕ) → l′ ≡ putTo n (next (given h (stateIn l) rel)) l → ds ≡ nextCodes h (stateIn l) rel cs
+      → slotAnswer accepted l′ ds ≡ slotIn h l rel cs
+  unfolding slotIn
+  slot-in-accepted f n en l′ ds moved ed =
+      let fine = slot-sheet h (stateIn l) rel (length cs) c e f in
+      let kept = slot-state h (stateIn l) rel (length cs) c e f in
+      rw (sym (slot-is-accepted h (stateIn l) rel cs c e f _ ds refl ed)) (ap (λ (x : List ℕ). slotAnswer accepted x ds) (moved-list h l rel fine kept n en l′ moved))
