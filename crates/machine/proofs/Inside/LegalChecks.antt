@@ -9,11 +9,6 @@ use Rattle.machine.proofs.LegalLists.{few, kept-record, kept-zeros, mis
 unfoldable pub legalIn : Sheet → List ℕ → ℕ → Bool
 legalIn h l k = legalRecord (rowAt h k) (recordIn l k)
 
--- a record of zeros
-zero-pair : (l : List ℕ) (k : ℕ) → numberAt l (k * recordWide) ≡ 0 → numberAt l (k * recordWide + 1) ≡ 0 → isZero (recordIn l k) ≡ true
-unfolding isZeroJob recordIn
-zero-pair l k y z = rw (eq-eqb (numberAt l (k * recordWide)) 0 y, eq-eqb (numberAt l (k * recordWide + 1)) 0 z)
-
 -- `is_legal_in`
 pub record-scaled : (h : Sheet) (n : ℕ) → legal h ≡ true → n ≡ h .count → Fits w64 (n * recordWide)
 record-scaled h n fine en = record { fits = omega (arith, legal-is h fine .most-rows) }
@@ -29,24 +24,19 @@ module _ (h : Sheet) (l : List ℕ) (fine : legal h ≡ true) (n : ℕ) (en : n 
     module _ (row : Row) (er : row ≡ rowAt h i) (s : RowState) (es : s ≡ recordIn l i) (b : Bool) (eb : b ≡ legalRecord row s) where
       legal-here : b ≡ legalIn h l i
       unfolding legalIn
-      legal-here = eb ∙ ap₂ legalRecord er es
+      legal-here = rw (er, es) at eb
 
       pub legal-in-more : b ≡ true → true ≡ allOf (i + 1) (legalIn h l)
-      legal-in-more e = sym (all-one-more i (legalIn h l) ∙ rw (sym so-far) (sym legal-here ∙ e))
+      legal-in-more e = rw (all-one-more, sym so-far, sym legal-here, e)
 
       pub legal-in-fails : i < n → b ≡ false → false ≡ legalState h (stateIn l)
       unfolding legalIn
-      legal-in-fails a e = sym (not-so (legalState h (stateIn l)) (λ k. never k))
-        where
-          never : legalState h (stateIn l) ≡ true → ⊥
-          never k =
-              let r = legal-state-is h (stateIn l) (few h l fine) k .rows i (omega arith) in
-              let t = legal-job-says (rowAt h i) (recordAt (stateIn l) i .job) r in
-              let u = ap (legalRecord (rowAt h i)) (kept-record h l fine k i (omega arith)) in
-              true-not-false (sym t ∙ sym u ∙ sym legal-here ∙ e)
+      legal-in-fails a e = sym (not-so (legalState h (stateIn l)) λ k.
+          let t = legal-job-says (rowAt h i) (recordAt (stateIn l) i .job) (legal-state-is h (stateIn l) (few h l fine) k .rows i (omega arith)) in
+          true-not-false (sym t ∙ sym (ap (legalRecord (rowAt h i)) (kept-record h l fine k i (omega arith))) ∙ sym legal-here ∙ e))
 
     zeros-decide : n ≤ i → i ≤ n → (r : Bool) → zeroFrom (stateLong (h .count)) l ≡ r → r ≡ legalState h (stateIn l)
-    unfolding zeroFrom zeroAt isZeroJob legalIn
+    unfolding zeroFrom zeroAt isZeroJob recordIn legalIn
     zeros-decide a b false e = sym (not-so (legalState h (stateIn l)) (λ k. true-not-false (sym (kept-zeros h l fine k) ∙ e)))
     zeros-decide a b true e =
         let zero : (j : ℕ) → stateLong (h .count) ≤ j → numberAt l j ≡ 0 = λ j m. ⊎-elim
@@ -55,10 +45,9 @@ module _ (h : Sheet) (l : List ℕ) (fine : legal h ≡ true) (n : ℕ) (en : n 
         let spare : spareIsZero l ≡ true = all-true (length l) (zeroAt (stateLong mostRows) l)
         (λ j y. ⊎-elim (λ m. rw (lt-ltb j (stateLong mostRows) m)) (λ m. rw (le-ltb j (stateLong mostRows) m, eq-eqb (numberAt l j) 0 (zero j (omega (arith, few h l fine))))) (lt-or-le j (stateLong mostRows))) in
         sym (legal-state-says h (stateIn l) (few h l fine) (record {
-          rows = λ k m. rw (record-in-state l k spare (omega (arith, few h l fine)))
-              (legal-job-is (rowAt h k) (recordIn l k .job) (all-at i (legalIn h l) (sym so-far) k (omega arith)));
-          past = λ k m y. rw (record-in-state l k spare y) (zero-pair l k (zero (k * recordWide) (omega arith)) (zero (k * recordWide + 1) (omega arith)));
+          rows = λ k m. rw (record-in-state l k spare (omega (arith, few h l fine))) (legal-job-is (rowAt h k) (recordIn l k .job) (all-at i (legalIn h l) (sym so-far) k (omega arith)));
+          past = λ k m y. rw (record-in-state l k spare y, zero (k * recordWide) (omega arith), zero (k * recordWide + 1) (omega arith));
         }))
 
     pub legal-in-done : n ≤ i → i ≤ n → (long : ℕ) → long ≡ stateLong n → (r : Bool) → r ≡ zeroFrom long l → r ≡ legalState h (stateIn l)
-    legal-in-done a b long el r e = zeros-decide a b r (sym (e ∙ ap (λ (m : ℕ). zeroFrom m l) (el ∙ ap stateLong en)))
+    legal-in-done a b long el r e = zeros-decide a b r (sym (rw (el, en) at e))
