@@ -90,6 +90,4 @@ fresh-past-is-zero n t l i b = put-past (recordAt t) (cleared l) n i b ∙ clear
 -- and after an accepted slot or run, whose checks have asked for zeros there.
 pub put-past-is-zero : (h : Sheet) (t : State) (l : List ℕ) (i : ℕ) → legal h ≡ true → legalState h (stateIn l) ≡ true → stateLong (h .count) ≤ i → numberAt (putState (h .count) t l) i ≡ 0
 unfolding putState
-put-past-is-zero h t l i fine kept b =
-    put-past (recordAt t) l (h .count) i b
-    ∙ ⊎-elim (λ a. past-is-zero h l fine kept i a b) (λ a. List·getD-eq-default l 0 {n = i} a) (lt-or-le i (length l))
+put-past-is-zero h t l i fine kept b = rw (put-past (recordAt t) l (h .count) i b, past-is-zero h l fine kept i b)

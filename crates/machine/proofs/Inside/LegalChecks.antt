@@ -3,7 +3,8 @@ use Rattle.basis.specs.Prelude.{ℕ, _+_, _*_, _≤_, _<_, _≡_, sym, ap, ap�
 use Rattle.machine.proofs.Names.{mostRows, allOf, lt-or-le, all-one-more, all-at, all-true, true-not-false, rowAt, legal, Row, Sheet, legal-is, numberAt, not-so, RowState, recordAt, legalState, isZero, isZeroJob, legalRecord, recordWide, recordIn, stateLong, zeroAt, zeroFrom, spareIsZero, stateIn}
 use Rattle.machine.proofs.Inside.Legals.{legal-job-is, legal-job-says, legal-state-is, legal-state-says}
 use Rattle.machine.proofs.Inside.RecordLists.{record-in-state}
-use Rattle.machine.proofs.LegalLists.{few, kept-record, kept-zeros, missing-records-are-refused}
+use Rattle.machine.proofs.LegalLists.{few, kept-record, past-is-zero, missing-records-are-refused}
+use Rattle.machine.proofs.Inside.Zeros.{all-zero, each-zero}
 
 -- the records of a list's rows so far are legal
 unfoldable pub legalIn : Sheet → List ℕ → ℕ → Bool
@@ -36,14 +37,11 @@ module _ (h : Sheet) (l : List ℕ) (fine : legal h ≡ true) (n : ℕ) (en : n 
           true-not-false (sym t ∙ sym (ap (legalRecord (rowAt h i)) (kept-record h l fine k i (omega arith))) ∙ sym legal-here ∙ e))
 
     zeros-decide : n ≤ i → i ≤ n → (r : Bool) → zeroFrom (stateLong (h .count)) l ≡ r → r ≡ legalState h (stateIn l)
-    unfolding zeroFrom zeroAt isZeroJob recordIn legalIn
-    zeros-decide a b false e = sym (not-so (legalState h (stateIn l)) (λ k. true-not-false (sym (kept-zeros h l fine k) ∙ e)))
+    unfolding isZeroJob recordIn legalIn
+    zeros-decide a b false e = sym (not-so (legalState h (stateIn l)) (λ k. true-not-false (sym (all-zero (stateLong (h .count)) l (λ j b m. past-is-zero h l fine k j m)) ∙ e)))
     zeros-decide a b true e =
-        let zero : (j : ℕ) → stateLong (h .count) ≤ j → numberAt l j ≡ 0 = λ j m. ⊎-elim
-        (λ y. eqb-true (numberAt l j) 0 (rw (le-ltb j (stateLong (h .count)) m) at (all-at (length l) (zeroAt (stateLong (h .count)) l) e j y)))
-        (λ y. List·getD-eq-default l 0 {n = j} y) (lt-or-le j (length l)) in
-        let spare : spareIsZero l ≡ true = all-true (length l) (zeroAt (stateLong mostRows) l)
-        (λ j y. ⊎-elim (λ m. rw (lt-ltb j (stateLong mostRows) m)) (λ m. rw (le-ltb j (stateLong mostRows) m, eq-eqb (numberAt l j) 0 (zero j (omega (arith, few h l fine))))) (lt-or-le j (stateLong mostRows))) in
+        let zero = each-zero (stateLong (h .count)) l e in
+        let spare : spareIsZero l ≡ true = all-zero (stateLong mostRows) l (λ j y m. zero j (omega (arith, few h l fine))) in
         sym (legal-state-says h (stateIn l) (few h l fine) (record {
           rows = λ k m. rw (record-in-state l k spare (omega (arith, few h l fine))) (legal-job-is (rowAt h k) (recordIn l k .job) (all-at i (legalIn h l) (sym so-far) k (omega arith)));
           past = λ k m y. rw (record-in-state l k spare y, zero (k * recordWide) (omega arith), zero (k * recordWide + 1) (omega arith));

@@ -1,6 +1,7 @@
 -- Records of a state's list, as they are read and written in place. Assumes nothing.
 use Rattle.basis.specs.Prelude.{ℕ, zero, suc, _+_, _*_, _≤_, _<_, _≡_, refl, sym, ap, ap₂, _∙_, true, false, List, ⊎-elim, length, getD, set, length-set, getD-set-same, getD-set-other, ext-getD, arith, le-refl, eq-or-lt-of-le, add-one, lt-ltb, le-ltb, eq-eqb}
-use Rattle.machine.proofs.Names.{mostRows, upto, lt-or-le, all-same, all-true, upto-below, upto-past, length-upto, getD-all, numberAt, filled-read, RowState, recordOf, noRecord, noState, stateOf, recordAt, recordWide, recordIn, stateLong, zeroAt, zeroFrom, spareIsZero, stateIn, putRecord, putTo, cleared}
+use Rattle.machine.proofs.Names.{mostRows, upto, lt-or-le, upto-below, upto-past, length-upto, getD-all, numberAt, filled-read, RowState, recordOf, noRecord, noState, stateOf, recordAt, recordWide, recordIn, stateLong, spareIsZero, stateIn, putRecord, putTo, cleared}
+use Rattle.machine.proofs.Inside.Zeros.{all-zero, each-zero}
 
 -- one record that is written, read
 module _ (l : List ℕ) (k : ℕ) (s : RowState) where
@@ -66,8 +67,7 @@ record-of-none l k e = rw e (getD-all mostRows k noRecord)
 
 -- a list with room for every record and no more has no spare number
 pub spare-of-full : (l : List ℕ) → length l ≡ stateLong mostRows → spareIsZero l ≡ true
-unfolding zeroFrom zeroAt
-spare-of-full l long = all-true (length l) (zeroAt (stateLong mostRows) l) (λ i b. rw (lt-ltb i (stateLong mostRows) (omega (arith, long))))
+spare-of-full l long = all-zero (stateLong mostRows) l (λ i b a. absurd (omega arith))
 
 pub state-rows-long : (l : List ℕ) → spareIsZero l ≡ true → length (stateIn l .rows) ≡ mostRows
 unfolding stateIn
@@ -82,12 +82,7 @@ records-all f l m a b e =
 -- the state of a list whose first n records are written
 module _ (n : ℕ) (f : ℕ → RowState) (l : List ℕ) (spare : spareIsZero l ≡ true) (few : n ≤ mostRows) (room : stateLong n ≤ length l) where
   spare-put : spareIsZero (putTo n f l) ≡ true
-  unfolding zeroFrom zeroAt
-  spare-put =
-      rw (length-put-to f l n)
-      (all-same (length l) (zeroAt (stateLong mostRows) (putTo n f l)) (zeroAt (stateLong mostRows) l)
-      (λ i b. ⊎-elim (λ a. rw (lt-ltb i (stateLong mostRows) a)) (λ a. rw (put-past f l n i (omega arith))) (lt-or-le i (stateLong mostRows)))
-      ∙ spare)
+  spare-put = all-zero (stateLong mostRows) (putTo n f l) (λ i b a. rw (put-past f l n i (omega arith)) (each-zero (stateLong mostRows) l spare i a))
 
   pub state-put : stateIn (putTo n f l) ≡ stateOf (upto n f (stateIn l .rows))
   unfolding stateIn
@@ -128,10 +123,7 @@ put-own l l₀ (suc n) i b r = ⊎-elim (λ a. below a (put-own l l₀ n i a (om
 -- a list of zeros hands over the state of zeros
 module _ (l : List ℕ) (none : (i : ℕ) → numberAt l i ≡ 0) where
   pub zeros-spare : spareIsZero l ≡ true
-  unfolding zeroFrom zeroAt
-  zeros-spare =
-      all-true (length l) (zeroAt (stateLong mostRows) l)
-      (λ i b. ⊎-elim (λ a. rw (lt-ltb i (stateLong mostRows) a)) (λ a. rw (le-ltb i (stateLong mostRows) a, eq-eqb (numberAt l i) 0 (none i))) (lt-or-le i (stateLong mostRows)))
+  zeros-spare = all-zero (stateLong mostRows) l (λ i b a. none i)
 
   pub zeros-state : stateIn l ≡ noState
   unfolding stateIn recordIn
