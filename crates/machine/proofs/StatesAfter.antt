@@ -15,16 +15,14 @@ use Rattle.machine.proofs.Inside.RunsInPlace.{course-none}
 written-fresh : (h : Sheet) (l : List ℕ) → legal h ≡ true → stateLong (h .count) ≤ length l → stateIn (putState (h .count) (freshState h) (cleared l)) ≡ freshState h
 unfolding freshState
 written-fresh h l fine room =
-    ap stateIn (sym (fresh-put h (cleared l) fine))
-    ∙ state-put (h .count) (freshAt h) (cleared l) (zeros-spare (cleared l) (cleared-none l)) (legal-is h fine .most-rows) (omega (arith, length-filled (λ i. 0) l))
-    ∙ ap (λ (t : State). stateOf (upto (h .count) (freshAt h) (t .rows))) (zeros-state (cleared l) (cleared-none l))
+    let put = state-put (h .count) (freshAt h) (cleared l) (zeros-spare (cleared l) (cleared-none l)) (legal-is h fine .most-rows) (omega (arith, length-filled (λ i. 0) l)) in
+    rw (sym (fresh-put h (cleared l) fine), put, zeros-state (cleared l) (cleared-none l))
 
 -- An accepted fresh: the list hands over the fresh state.
 pub fresh-on-state : (h : Sheet) (l : List ℕ) → freshOn h l .outcome ≡ accepted → stateIn (freshOn h l .state) ≡ fresh h .state
 unfolding freshOn fresh
 fresh-on-state h l e =
-    let o : orElse (needed (legal h) 10) (needed (leb (stateLong (h .count)) (length l)) 15) ≡ accepted = e in
-    let (a, b) = both-accepted (needed (legal h) 10) _ o in
+    let (a, b) = both-accepted (needed (legal h) 10) (needed (leb (stateLong (h .count)) (length l)) 15) e in
     let fine = needed-holds (legal h) 10 a in
     let room = leb-true (stateLong (h .count)) (length l) (needed-holds _ 15 b) in
     rw (fine, le-leb (stateLong (h .count)) (length l) room) (written-fresh h l fine room)
@@ -37,8 +35,8 @@ fresh-of-zeros h = go (legal h) refl
     go : (b : Bool) → legal h ≡ b → freshAnswer (freshOn h (replicate (stateLong mostRows) 0) .outcome) (stateIn (freshOn h (replicate (stateLong mostRows) 0) .state)) ≡ fresh h
     go true e =
         let room : stateLong (h .count) ≤ stateLong mostRows = omega (arith, legal-is h e .most-rows) in
-        rw (e, le-leb (stateLong (h .count)) (stateLong mostRows) room) (ap (freshAnswer accepted) (written-fresh h (replicate (stateLong mostRows) 0) e room))
-    go false e = rw e (ap (freshAnswer (refused 10 0)) (zeros-state (replicate (stateLong mostRows) 0) (λ i. getD-all (stateLong mostRows) i 0)))
+        rw (e, le-leb (stateLong (h .count)) (stateLong mostRows) room, written-fresh h (replicate (stateLong mostRows) 0) e room)
+    go false e = rw (e, zeros-state (replicate (stateLong mostRows) 0) (λ i. getD-all (stateLong mostRows) i 0))
 
 -- A slot: the list hands over the state that the slot by value hands back.
 pub slot-in-state : (h : Sheet) (l rel cs : List ℕ) → stateIn (slotIn h l rel cs .state) ≡ slot h (stateIn l) rel cs .state
@@ -62,7 +60,7 @@ run-in-state h l rel cs = go (checkRun h (stateIn l) rel (length cs)) refl
 
     go : (o : Outcome) → checkRun h (stateIn l) rel (length cs) ≡ o → stateIn (runIn h l rel cs .state) ≡ run h (stateIn l) rel cs .state
     go (refused a b) e =
-        let z : run h (stateIn l) rel cs .done ≡ 0 = ap (λ (x : RunAnswer State). x .done) (run-not-begun h (stateIn l) rel cs a b e) in
+        let z : run h (stateIn l) rel cs .done ≡ 0 = λ i. run-not-begun h (stateIn l) rel cs a b e i .done in
         rw (eq-eqb (run h (stateIn l) rel cs .done) 0 z) (sym (none z))
     go accepted e = by (eqb (run h (stateIn l) rel cs .done) 0) refl
       where
@@ -85,7 +83,7 @@ run-listed-back h l rel cs r l′ ds e =
 -- Past the records of the rows every number is zero: after an accepted fresh, which has cleared the list,
 pub fresh-past-is-zero : (n : ℕ) (t : State) (l : List ℕ) (i : ℕ) → stateLong n ≤ i → numberAt (putState n t (cleared l)) i ≡ 0
 unfolding putState
-fresh-past-is-zero n t l i b = put-past (recordAt t) (cleared l) n i b ∙ cleared-none l i
+fresh-past-is-zero n t l i b = rw (put-past, cleared-none)
 
 -- and after an accepted slot or run, whose checks have asked for zeros there.
 pub put-past-is-zero : (h : Sheet) (t : State) (l : List ℕ) (i : ℕ) → legal h ≡ true → legalState h (stateIn l) ≡ true → stateLong (h .count) ≤ i → numberAt (putState (h .count) t l) i ≡ 0

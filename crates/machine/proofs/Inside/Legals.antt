@@ -9,10 +9,6 @@ pub record LegalJob (row : Row) (j : Job) : Type 0 where
   pub most-remaining : j .remaining ≤ row .budget
   pub in-time : 1 ≤ j .remaining → j .since < row .deadline
 
-pick-true : (t a : Bool) → pick t a true ≡ true → t ≡ true → a ≡ true
-pick-true true a e f = e
-pick-true false a e f = true-not-false (sym f)
-
 pub legal-job-is : (row : Row) (j : Job) → legalJob row j ≡ true → LegalJob row j
 unfolding legalJob
 legal-job-is row j e =
@@ -23,7 +19,7 @@ legal-job-is row j e =
       some-since = at-least 1 (row .separation) (j .since) since;
       most-since = at-most 1 (row .separation) (j .since) since;
       most-remaining = leb-true _ _ (both-left (leb (j .remaining) (row .budget)) _ rest);
-      in-time = λ l. ltb-true _ _ (pick-true (hasJob j) (ltb (j .since) (row .deadline)) late (lt-ltb 0 (j .remaining) l));
+      in-time = λ l. ltb-true _ _ (rw (lt-ltb 0 (j .remaining) l) at late);
     }
 
 pub legal-job-says : (row : Row) (j : Job) → LegalJob row j → legalJob row j ≡ true
@@ -57,9 +53,6 @@ module _ (h : Sheet) (t : State) (fit : h .count ≤ mostRows) where
 
 -- a legal state has a record for each row
 pub legal-state-long : (h : Sheet) (t : State) → LegalState h t → h .count ≤ length (t .rows)
-legal-state-long h t r = ⊎-elim (λ l. absurd (never l)) (λ l. l) (lt-or-le (length (t .rows)) (h .count))
-  where
-    never : length (t .rows) < h .count → ⊥
-    never l =
-        let e = List·getD-eq-default (t .rows) noRecord {n = length (t .rows)} (omega arith) in
-        omega (arith, r .rows (length (t .rows)) l .some-since, ap (λ (s : RowState). s .job .since) e)
+legal-state-long h t r =
+    let e = List·getD-eq-default (t .rows) noRecord {n = length (t .rows)} (omega arith) in
+    ⊎-elim (λ l. absurd (omega (arith, rw e at (r .rows (length (t .rows)) l .some-since)))) (λ l. l) (lt-or-le (length (t .rows)) (h .count))
