@@ -1,7 +1,6 @@
 -- The state that a list hands over after each call on it: the fresh state, and the state after a slot and after a run by value. Assumes nothing.
 use Rattle.basis.specs.Prelude.{ℕ, _/_, _≤_, _≡_, refl, sym, ap, _∙_, Bool, true, false, List, ⊎-elim, length, replicate, List·getD-eq-default, leb, eqb, arith, le-leb, eq-eqb, leb-true, eqb-true}
-use Rattle.machine.proofs.Names.{mostRows, pick, Outcome, accepted, refused, outcome, orElse, needed, upto, both-accepted, getD-all, lt-or-le, needed-holds, legal, Sheet, legal-is, numberAt, length-filled, State, stateOf, recordAt, freshAt, freshState, legalState, Done, checkSlot, checkRun, RunAnswer, freshAnswer, runAnswer, fresh, nextState, nextCodes, slotBy, slot, run, stateLong, stateIn, putState, cleared, freshOn, slotListed, slotIn, runIn, ranIn}
-use Rattle.machine.proofs.Inside.Checks.{Ready}
+use Rattle.machine.proofs.Names.{mostRows, pick, Outcome, accepted, refused, outcome, orElse, needed, upto, both-accepted, getD-all, true-not-false, needed-holds, legal, Sheet, legal-is, numberAt, length-filled, State, stateOf, recordAt, freshAt, freshState, legalState, Done, checkSlot, checkRun, RunAnswer, freshAnswer, runAnswer, fresh, nextState, nextCodes, slotBy, slot, run, stateLong, stateIn, putState, cleared, freshOn, slotListed, slotIn, runIn, ranIn}
 use Rattle.machine.proofs.Inside.Answers.{slot-shows, run-in-order-shows}
 use Rattle.machine.proofs.SlotsDone.{run-not-begun}
 use Rattle.machine.proofs.LegalRuns.{run-keeps-legal, run-keeps-long}
@@ -53,25 +52,16 @@ slot-in-state h l rel cs = go (checkSlot h (stateIn l) rel (length cs)) refl
 -- A run: the list hands over the state after the run by value.
 pub run-in-state : (h : Sheet) (l rel cs : List ℕ) → stateIn (runIn h l rel cs .state) ≡ run h (stateIn l) rel cs .state
 unfolding runIn run
-run-in-state h l rel cs = go (checkRun h (stateIn l) rel (length cs)) refl
+run-in-state h l rel cs = go (eqb (run h (stateIn l) rel cs .done) 0) (checkRun h (stateIn l) rel (length cs)) refl refl
   where
-    none : run h (stateIn l) rel cs .done ≡ 0 → run h (stateIn l) rel cs .state ≡ stateIn l
-    none z = course-none h rel (runAnswer 0 (checkRun h (stateIn l) rel (length cs)) (stateIn l) cs) (length rel / h .count) z
-
-    go : (o : Outcome) → checkRun h (stateIn l) rel (length cs) ≡ o → stateIn (runIn h l rel cs .state) ≡ run h (stateIn l) rel cs .state
-    go (refused a b) e =
-        let z : run h (stateIn l) rel cs .done ≡ 0 = λ i. run-not-begun h (stateIn l) rel cs a b e i .done in
-        rw (eq-eqb (run h (stateIn l) rel cs .done) 0 z) (sym (none z))
-    go accepted e = by (eqb (run h (stateIn l) rel cs .done) 0) refl
-      where
-        shown : Ready h (stateIn l)
-        shown = run-in-order-shows h (stateIn l) rel (length cs) e
-
-        by : (b : Bool) → eqb (run h (stateIn l) rel cs .done) 0 ≡ b → stateIn (pick b l (putState (h .count) (run h (stateIn l) rel cs .state) l)) ≡ run h (stateIn l) rel cs .state
-        by true z = sym (none (eqb-true (run h (stateIn l) rel cs .done) 0 z))
-        by false z =
-            state-comes-back h l (run h (stateIn l) rel cs .state) (shown .sheet-legal) (shown .state-legal) (run-keeps-legal h (stateIn l) rel cs (shown .state-legal))
-            (run-keeps-long h (stateIn l) rel cs (state-rows-long l (kept-spare h l (shown .sheet-legal) (shown .state-legal))))
+    go : (b : Bool) (o : Outcome) → eqb (run h (stateIn l) rel cs .done) 0 ≡ b → checkRun h (stateIn l) rel (length cs) ≡ o
+        → stateIn (pick b l (putState (h .count) (run h (stateIn l) rel cs .state) l)) ≡ run h (stateIn l) rel cs .state
+    go true o z e = sym (course-none h rel (runAnswer 0 (checkRun h (stateIn l) rel (length cs)) (stateIn l) cs) (length rel / h .count) (eqb-true _ 0 z))
+    go false (refused a b) z e = true-not-false (sym (eq-eqb _ 0 (λ i. run-not-begun h (stateIn l) rel cs a b e i .done)) ∙ z)
+    go false accepted z e =
+        let shown = run-in-order-shows h (stateIn l) rel (length cs) e in
+        state-comes-back h l (run h (stateIn l) rel cs .state) (shown .sheet-legal) (shown .state-legal) (run-keeps-legal h (stateIn l) rel cs (shown .state-legal))
+        (run-keeps-long h (stateIn l) rel cs (state-rows-long l (kept-spare h l (shown .sheet-legal) (shown .state-legal))))
 
 -- so a run on a list is the run by value
 pub run-listed-back : (h : Sheet) (l rel cs : List ℕ) (r : Done) (l′ ds : List ℕ) → ranIn r l′ ds ≡ runIn h l rel cs → ranIn r (stateIn l′) ds ≡ run h (stateIn l) rel cs
