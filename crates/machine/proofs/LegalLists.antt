@@ -32,9 +32,7 @@ module _ (h : Sheet) (l : List ℕ) (fine : legal h ≡ true) where
   missing-records-are-refused b = by-spare λ e.
       let r = legal-is h fine in
       let k : ℕ = h .count - 1 in
-      let there : k < mostRows = omega (arith, r .some-rows, r .most-rows) in
-      no-since k (omega (arith, r .some-rows))
-      (ap (λ (s : RowState). s .job .since) (record-in-state l k e there) ∙ List·getD-eq-default l 0 {n = k * recordWide + 1} (omega (arith, r .some-rows)))
+      no-since k (omega arith) (rw (record-in-state l k e (omega arith)) (List·getD-eq-default l 0 {n = k * recordWide + 1} (omega arith)))
 
   -- what a legal state shows of its list
   module _ (kept : legalState h (stateIn l) ≡ true) where
@@ -86,9 +84,8 @@ list-of-kept h l l₀ fine kept kept₀ long =
 zero-record : (s : RowState) → isZero s ≡ true → s ≡ noRecord
 unfolding isZeroJob
 zero-record s e =
-    let a : s .job .remaining ≡ 0 = eqb-true _ 0 (both-left (eqb (s .job .remaining) 0) _ e) in
-    let b : s .job .since ≡ 0 = eqb-true _ 0 (both-right (eqb (s .job .remaining) 0) _ e) in
-    λ i. recordOf (record { remaining = a i; since = b i })
+    let a = eqb-true _ 0 (both-left (eqb (s .job .remaining) 0) _ e) in
+    let b = eqb-true _ 0 (both-right (eqb (s .job .remaining) 0) _ e) in λ i. recordOf (record { remaining = a i; since = b i })
 
 -- A legal state that is put into a list that holds a legal state is the state that the list hands over.
 pub state-comes-back : (h : Sheet) (l : List ℕ) (t : State) → legal h ≡ true → legalState h (stateIn l) ≡ true → legalState h t ≡ true → length (t .rows) ≡ mostRows
@@ -100,9 +97,8 @@ state-comes-back h l t fine kept also long =
     (ext-getD noRecord (upto (h .count) (recordAt t) (stateIn l .rows)) (t .rows) (whole ∙ sym long)
     (λ k b. let there : k < mostRows = omega (arith, whole) in
     ⊎-elim (λ a. upto-below (h .count) (recordAt t) (stateIn l .rows) noRecord k a (omega (arith, state-rows-long l spare, most)))
-    (λ a. upto-past (h .count) (recordAt t) (stateIn l .rows) noRecord k a
-    ∙ zero-record (recordAt (stateIn l) k) (legal-state-is h (stateIn l) most kept .past k a there)
-    ∙ sym (zero-record (recordAt t k) (legal-state-is h t most also .past k a there)))
+    (λ a. rw (upto-past (h .count) (recordAt t) (stateIn l .rows) noRecord k a, zero-record (recordAt (stateIn l) k) (legal-state-is h (stateIn l) most kept .past k a there))
+    (sym (zero-record (recordAt t k) (legal-state-is h t most also .past k a there))))
     (lt-or-le k (h .count)))) where
       most : h .count ≤ mostRows
       most = legal-is h fine .most-rows
