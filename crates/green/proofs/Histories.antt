@@ -86,8 +86,7 @@ module _ (h : Sheet) (t : State) (rel : List ℕ) (j : ℕ) (u : State) (cs : Li
 -- by the outcome of the slots so far
 going-on : (h : Sheet) (t : State) (rel : List ℕ) (j : ℕ) (c : RunAnswer State) → Going h t rel j c → (o : Outcome) → c .outcome ≡ o → Going h t rel (suc j) (onward h rel j c)
 unfolding onward slotAt slot
-going-on h t rel j c g accepted e =
-    let d : c .done ≡ j = g .counted e in rw (e, d) (followed-so h t rel j (c .state) (c .codes) (rw d at (g .chain)) _ refl)
+going-on h t rel j c g accepted e = let d : c .done ≡ j = g .counted e in rw (e, d) (followed-so h t rel j (c .state) (c .codes) (rw d at (g .chain)) _ refl)
 going-on h t rel j c g (refused number place) e = rw e (record { counted = λ x. let z : _≡_ {A = ℕ} 0 1 = cc in absurd (omega arith); chain = g .chain })
 
 run-going : (h : Sheet) (t : State) (rel cs : List ℕ) (o : Outcome) (j : ℕ) → Going h t rel j (course h rel (runAnswer 0 o t cs) j)
