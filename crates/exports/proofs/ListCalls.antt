@@ -1,5 +1,5 @@
 -- Demand 3 for a machine kept in a list: its accepted slots since fresh are those of a history by value. Assumes nothing.
-use Rattle.basis.specs.Prelude.{ℕ, _≡_, refl, sym, ap, ap₂, subst, _∙_, Bool, true, false, List, [], _∷_, _++_, append-nil, append-assoc, arith, length, take, leb, eqb, ne-eqb, eqb-true, eqb-false}
+use Rattle.basis.specs.Prelude.{ℕ, _≡_, refl, sym, subst, Bool, true, false, List, [], _∷_, _++_, append-nil, append-assoc, arith, length, take, leb, eqb, ne-eqb, eqb-true, eqb-false}
 use Rattle.exports.proofs.Names.{pick, Outcome, accepted, refused, isAccepted, orElse, needed, reading, legal, sheetIn, Sheet, State, fresh, slot, stateLong, stateIn, freshOn, slotIn, runIn, InTime, NoJobIsLate, told, readIn, freshIn, slotOn, runOn}
 use Rattle.machine.proofs.RefusalTable.{InTable, sheet-not-legal, list-not-whole, over-budget, too-soon, no-such-row, short-buffer, state-not-legal, Listed, slot-refusals}
 use Rattle.machine.proofs.StatesAfter.{fresh-on-state, slot-in-state, run-in-state}

@@ -1,6 +1,6 @@
 -- The accepted slots of any calls are a chain: of one slot, of a run, and of calls one after another. Assumes nothing.
-use Rattle.basis.specs.Prelude.{ℕ, zero, suc, _+_, _*_, _-_, _/_, _≤_, _<_, _≡_, refl, sym, ap, ap₂, subst, _∙_, List, [], _∷_, _++_, arith, mul-le-mul-right, add-one, length, take, drop, length-drop, take-append-drop, getD-take, length-take-le, take-append-le, drop-append-le, drop-at}
-use Rattle.green.proofs.Names.{Outcome, accepted, refused, upto-below, Sheet, State, code, checkSlot, checkRun, SlotAnswer, RunAnswer, slotAnswer, runAnswer, given, nextState, nextCodes, slotBy, slot, entriesOf, slotAt, onward, course, run, legal-state-is, Call, one-slot, a-run, Done, slotDone, runDone, slotsOf, stateAfter, history, stateAfterAll}
+use Rattle.basis.specs.Prelude.{ℕ, zero, suc, _+_, _*_, _-_, _/_, _≤_, _<_, _≡_, refl, sym, _∙_, List, [], _∷_, _++_, arith, mul-le-mul-right, add-one, length, take, drop, length-drop, take-append-drop, getD-take, length-take-le, take-append-le, drop-append-le, drop-at}
+use Rattle.green.proofs.Names.{Outcome, accepted, refused, upto-below, Sheet, State, code, checkSlot, checkRun, SlotAnswer, RunAnswer, slotAnswer, runAnswer, given, nextState, nextCodes, slotBy, slot, entriesOf, slotAt, onward, course, run, legal-state-is, Call, one-slot, a-run, slotDone, runDone, slotsOf, stateAfter, history, stateAfterAll}
 use Rattle.machine.proofs.Inside.Answers.{Accepted-slot, slot-shows}
 use Rattle.machine.proofs.Inside.Courses.{followed}
 use Rattle.green.proofs.Inside.Chains.{Slotted, Chain, none, more, chain-append}

@@ -1,6 +1,6 @@
 -- From the machine's own slot to what the argument for green needs of a slot. Assumes nothing.
-use Rattle.basis.specs.Prelude.{ℕ, zero, suc, _+_, _*_, _-_, _≤_, _<_, min, _≡_, refl, sym, ap, subst, _∙_, Bool, true, false, ⊎-elim, List, arith, getD, ltb, leb, ltb-true, lt-ltb, ne-eqb}
-use Rattle.green.proofs.Names.{pick, both, accepted, sum-same, lt-or-le, rowAt, Row, Sheet, Job, RowState, State, recordAt, begun, free, runs, reached, released, fits, worked, older, aged, ended, checkAt, checkReleases, given, nextState, LegalState, next-at, release-allowed, older-below, older-full, ended-less, Moment, owed, age, Slot}
+use Rattle.basis.specs.Prelude.{ℕ, zero, suc, _+_, _*_, _-_, _≤_, _<_, min, _≡_, refl, _∙_, Bool, true, false, ⊎-elim, List, arith, getD, ltb, leb, ltb-true, lt-ltb, ne-eqb}
+use Rattle.green.proofs.Names.{pick, both, accepted, sum-same, lt-or-le, rowAt, Row, Sheet, Job, State, recordAt, begun, free, runs, reached, released, fits, worked, older, aged, ended, checkAt, checkReleases, given, nextState, LegalState, next-at, release-allowed, older-below, older-full, ended-less, Moment, owed, age, Slot}
 use Rattle.basis.proofs.Inside.FirstRefusal.{first-at}
 use Rattle.machine.proofs.Placement.{takenBy, processors-are-kept, waits-unfit}
 use Rattle.green.proofs.Sheets.{rowsOf}

@@ -1,8 +1,8 @@
 -- Demand 3: on a legal sheet whose first n rows have bounds, from a fresh machine, whatever calls follow, each of their jobs is finished within its row's bound and
 -- none of their deadlines is missed; all rows have bounds where the sheet holds. Assumes nothing.
-use Rattle.basis.specs.Prelude.{ℕ, _+_, _-_, _≤_, _<_, _≡_, sym, ap, _∙_, true, List, arith, replicate, length-replicate, le-ltb}
+use Rattle.basis.specs.Prelude.{ℕ, _+_, _-_, _≤_, _<_, _≡_, sym, _∙_, true, List, arith, replicate, length-replicate, le-ltb}
 use lib.IntN.{pos}
-use Rattle.green.proofs.Names.{mostRows, upto-below, rowAt, legal, Sheet, passes, isBound, valueOf, resultOf, holds, passes-local, bound-all, State, recordAt, freshAt, freshState, Job, RowState, noRecord, fresh, marginOf, Reached, Call, freshOf, history, stateAfterAll, NoJobIsLateTo, NoJobIsLate, Bounded}
+use Rattle.green.proofs.Names.{mostRows, upto-below, rowAt, legal, Sheet, passes, isBound, valueOf, resultOf, holds, passes-local, bound-all, recordAt, freshAt, freshState, Job, noRecord, fresh, marginOf, Reached, Call, freshOf, history, stateAfterAll, NoJobIsLateTo, NoJobIsLate, Bounded}
 use Rattle.sheet.proofs.Legality.{legal-is}
 use Rattle.machine.proofs.Inside.Differences.{less-twice}
 use Rattle.green.specs.Inside.Model as model

@@ -1,6 +1,6 @@
 -- A list that holds a legal state: what it shows of its numbers, and the lists that are refused. Assumes nothing.
-use Rattle.basis.specs.Prelude.{ℕ, _+_, _-_, _*_, _/_, _%_, _≤_, _<_, _≡_, refl, sym, ap, _∙_, Bool, true, false, List, ⊎-elim, length, List·getD-eq-default, ext-getD, eqb, arith, mod-lt, div-add-mod', lt-ltb, le-ltb, eq-eqb, eqb-true}
-use Rattle.machine.proofs.Names.{mostRows, upto, lt-or-le, all-at, all-true, both-left, both-right, true-not-false, upto-below, upto-past, length-upto, legal, Sheet, legal-is, numberAt, not-so, RowState, State, stateOf, recordAt, legalState, recordOf, noRecord, isZero, isZeroJob, recordWide, recordIn, stateLong, zeroAt, zeroFrom, spareIsZero, stateIn, putTo, putState}
+use Rattle.basis.specs.Prelude.{ℕ, _+_, _-_, _*_, _/_, _%_, _≤_, _<_, _≡_, refl, sym, ap, _∙_, Bool, true, false, List, ⊎-elim, length, List·getD-eq-default, ext-getD, eqb, arith, mod-lt, div-add-mod', eqb-true}
+use Rattle.machine.proofs.Names.{mostRows, upto, lt-or-le, both-left, both-right, true-not-false, upto-below, upto-past, length-upto, legal, Sheet, legal-is, numberAt, not-so, RowState, State, stateOf, recordAt, legalState, recordOf, noRecord, isZero, isZeroJob, recordWide, recordIn, stateLong, spareIsZero, stateIn, putTo, putState}
 use Rattle.machine.proofs.Inside.Legals.{legal-state-is}
 use Rattle.machine.proofs.Inside.RecordLists.{record-in-state, record-of-none, length-put-to, put-past, put-agree, put-own, state-rows-long, state-put}
 use Rattle.machine.proofs.Inside.Zeros.{each-zero}

@@ -1,7 +1,6 @@
 -- Sheets that are equal in m, n and rows 0 to n - 1 get equal answers of every function: rows past n are not looked at. Assumes nothing.
-use Rattle.basis.specs.Prelude.{ℕ, zero, suc, _*_, _/_, _%_, _<_, _≡_, refl, ap, ap₂, _∙_, Bool, List, _++_, ⊎-elim, length, getD, take, drop, replicate, ltb, eqb, arith, le-refl, lt-ltb, le-ltb}
-use Rattle.machine.proofs.Names.{mostRows, mostProcessors, pick, both, within, Outcome, accepted, refused, isAccepted, orElse, needed, all-same, lt-or-le, first-same, noRow, rowAt, legalRow, legal, legalAt, Row, Sheet, RowState, State, noState, recordAt, stateOf, freshAt, freshState, legalRecordAt, legalState, recordOf, noRecord, legalRecord, next, code, checkRow, checkAt, checkReleases, checkState, checkRoom, checkSlot, checkRun, checkMargin, SlotAnswer, RunAnswer, freshAnswer, slotAnswer, runAnswer, fresh, given, nextState, nextCodes, slotBy, slot, entriesOf, slotAt, onward, course, run, MarginAnswer, marginAt, marginBy, margin, upto-agree}
-use Rattle.machine.proofs.Inside.Courses.{followed}
+use Rattle.basis.specs.Prelude.{ℕ, zero, suc, _<_, _≡_, refl, ap, _∙_, List, ⊎-elim, getD, replicate, arith, le-refl, lt-ltb, le-ltb}
+use Rattle.machine.proofs.Names.{mostRows, Outcome, accepted, refused, orElse, all-same, lt-or-le, first-same, noRow, rowAt, legalRow, legal, legalAt, Row, Sheet, State, recordAt, freshAt, freshState, legalRecordAt, legalState, noRecord, next, code, checkRow, checkAt, checkReleases, checkState, checkSlot, checkRun, checkMargin, RunAnswer, fresh, given, nextState, nextCodes, slot, slotAt, onward, course, run, MarginAnswer, marginBy, margin, upto-agree}
 use Rattle.machine.proofs.Agree.{AgreeTo, next-agrees, code-agrees}
 
 -- equal in m, n and rows 0 to n - 1

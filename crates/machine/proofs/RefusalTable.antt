@@ -1,5 +1,5 @@
 -- Every refusal is the table's: its number, and its place. Assumes nothing.
-use Rattle.basis.specs.Prelude.{ℕ, zero, suc, _*_, _/_, _%_, _<_, _≡_, sym, Bool, true, false, List, length, getD, drop, ltb, leb, eqb, arith}
+use Rattle.basis.specs.Prelude.{ℕ, zero, suc, _*_, _/_, _%_, _<_, _≡_, Bool, true, false, List, length, getD, drop, ltb, leb, eqb, arith}
 use Rattle.machine.proofs.Names.{pick, Outcome, accepted, refused, isAccepted, orElse, firstOf, needed, rowAt, legal, Row, Sheet, RowState, State, recordAt, legalState, hasJob, checkRow, checkAt, checkReleases, checkState, checkRoom, checkSlot, checkRun, checkMargin, RunAnswer, fresh, slot, entriesOf, slotAt, onward, course, run, no-job, margin-is, refused-by, marginOf, marginAt, marginBy, margin}
 use Rattle.machine.proofs.Inside.Courses.{followed}
 

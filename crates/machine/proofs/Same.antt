@@ -1,6 +1,7 @@
 -- Equal answers: what an answer stands for is one value of the code, and any two answers that a promise allows are equal. Assumes nothing.
-use Rattle.basis.specs.Prelude.{ℕ, _≡_, refl, sym, ap, _∙_, List, arith}
-use Rattle.machine.proofs.Names.{outcome, Refusal, outcome-one-to-one, sheetIn, Done, stateIn, freshOn, slotIn, runIn, ranIn, checkSlot, checkRun, FreshAnswer, SlotAnswer, RunAnswer, freshAnswer, slotAnswer, marginAnswer, margin}
+use Rattle.basis.specs.Prelude.{ℕ, _≡_, refl, sym, _∙_, List, arith}
+use Rattle.basis.proofs.Same.{same-by}
+use Rattle.machine.proofs.Names.{outcome, Refusal, outcome-one-to-one, sheetIn, Done, stateIn, freshOn, slotIn, runIn, ranIn, checkSlot, checkRun, freshAnswer, slotAnswer, marginAnswer, margin}
 use Rattle.machine.specs.declared.margins.Margin.{Margin}
 use Rattle.machine.specs.declared.margins.Margin.the-variants.{NoJob, Is, Refused}
 
@@ -40,11 +41,11 @@ margin-one-to-one (Refused k p) (Refused j q) e = let ek : k ≡ j = cc in let e
 
 -- `margin_on`
 pub margin-on-same : (sheet list : List ℕ) (k : ℕ) (a b : Margin) → marginAnswer a ≡ margin (sheetIn sheet) (stateIn list) k → marginAnswer b ≡ margin (sheetIn sheet) (stateIn list) k → a ≡ b
-margin-on-same sheet list k a b e f = margin-one-to-one a b (e ∙ sym f)
+margin-on-same sheet list k = same-by marginAnswer margin-one-to-one (margin (sheetIn sheet) (stateIn list) k)
 
 -- the checks of a slot and of a run
 pub check-slot-in-same : (sheet list rel : List ℕ) (room : ℕ) (a b : Refusal) → outcome a ≡ checkSlot (sheetIn sheet) (stateIn list) rel room → outcome b ≡ checkSlot (sheetIn sheet) (stateIn list) rel room → a ≡ b
-check-slot-in-same sheet list rel room a b e f = outcome-one-to-one a b (e ∙ sym f)
+check-slot-in-same sheet list rel room = same-by outcome outcome-one-to-one (checkSlot (sheetIn sheet) (stateIn list) rel room)
 
 pub check-run-in-same : (sheet list rel : List ℕ) (room : ℕ) (a b : Refusal) → outcome a ≡ checkRun (sheetIn sheet) (stateIn list) rel room → outcome b ≡ checkRun (sheetIn sheet) (stateIn list) rel room → a ≡ b
-check-run-in-same sheet list rel room a b e f = outcome-one-to-one a b (e ∙ sym f)
+check-run-in-same sheet list rel room = same-by outcome outcome-one-to-one (checkRun (sheetIn sheet) (stateIn list) rel room)

@@ -1,7 +1,7 @@
 -- The slot in place: what each turn and each way out shows, in the words of its invariant and of what it calls. Assumes nothing.
 use Rattle.basis.specs.Prelude.{ℕ, _+_, _*_, _-_, _≤_, _<_, _≡_, refl, sym, ap, _∙_, true, List, length, getD, set, take, drop, arith, le-refl, add-one}
 use borrow.Rule.Slice.PartMut.{putMid}
-use Rattle.machine.proofs.Names.{accepted, refused, outcome, Refusal, Accepted, Refused, upto, upto-set, rowAt, legal, Row, Sheet, legal-is, RowState, recordOf, State, stateOf, recordAt, legalState, freeAt, free, next, code, checkReleases, checkSlot, SlotAnswer, slotAnswer, given, nextState, nextCodes, slotAt, recordIn, stateIn, putRecord, putTo, putState, slotListed, slotIn}
+use Rattle.machine.proofs.Names.{accepted, refused, outcome, Refusal, Accepted, Refused, upto, upto-set, rowAt, legal, Row, Sheet, legal-is, RowState, recordOf, State, recordAt, legalState, freeAt, free, next, code, checkReleases, checkSlot, slotAnswer, given, nextState, nextCodes, slotAt, recordIn, stateIn, putRecord, putTo, putState, slotIn}
 use Rattle.records.specs.declared.steps.Placed.{Placed}
 use Rattle.records.specs.Methods.{begunRow, steppedRow}
 use Rattle.machine.proofs.Inside.Answers.{slot-sheet, slot-state, slot-is-refused, slot-is-accepted}

@@ -1,6 +1,6 @@
 -- The state that a list hands over after each call on it: the fresh state, and the state after a slot and after a run by value. Assumes nothing.
-use Rattle.basis.specs.Prelude.{ℕ, _/_, _≤_, _≡_, refl, sym, ap, _∙_, Bool, true, false, List, ⊎-elim, length, replicate, List·getD-eq-default, leb, eqb, arith, le-leb, eq-eqb, leb-true, eqb-true}
-use Rattle.machine.proofs.Names.{mostRows, pick, Outcome, accepted, refused, outcome, orElse, needed, upto, both-accepted, getD-all, true-not-false, needed-holds, legal, Sheet, legal-is, numberAt, length-filled, State, stateOf, recordAt, freshAt, freshState, legalState, Done, checkSlot, checkRun, RunAnswer, freshAnswer, runAnswer, fresh, nextState, nextCodes, slotBy, slot, run, stateLong, stateIn, putState, cleared, freshOn, slotListed, slotIn, runIn, ranIn}
+use Rattle.basis.specs.Prelude.{ℕ, _/_, _≤_, _≡_, refl, sym, ap, _∙_, Bool, true, false, List, length, replicate, leb, eqb, arith, le-leb, eq-eqb, leb-true, eqb-true}
+use Rattle.machine.proofs.Names.{mostRows, pick, Outcome, accepted, refused, outcome, needed, both-accepted, getD-all, true-not-false, needed-holds, legal, Sheet, legal-is, numberAt, length-filled, State, recordAt, freshAt, freshState, legalState, Done, checkSlot, checkRun, RunAnswer, freshAnswer, runAnswer, fresh, nextState, nextCodes, slotBy, slot, run, stateLong, stateIn, putState, cleared, freshOn, slotListed, slotIn, runIn, ranIn}
 use Rattle.machine.proofs.Inside.Answers.{slot-shows, run-in-order-shows}
 use Rattle.machine.proofs.SlotsDone.{run-not-begun}
 use Rattle.machine.proofs.LegalRuns.{run-keeps-legal, run-keeps-long}

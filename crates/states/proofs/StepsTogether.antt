@@ -1,6 +1,6 @@
 -- Releases, placement and ageing are the slot: of all rows one step after another. Assumes nothing.
 use Rattle.basis.specs.Prelude.{ℕ, _≤_, _<_, _≡_, refl, ap, ap₂, _∙_, List, length, getD, le-refl, arith}
-use Rattle.states.proofs.Names.{mostRows, length-upto, upto-below, upto-agree, upto-over, rowAt, Sheet, State, stateOf, RowState, Placed, Aged, recordOf, noRecord, worked, begun, free, runs, next, code, given, nextState, nextCodes, jobAt, releasedAt, releasedState, placedAt, placedRecord, placedCode, placedState, placedCodes, agedAt, agedRecord, agedCode, agedState, agedCodes, placedRow, agedRow}
+use Rattle.states.proofs.Names.{mostRows, length-upto, upto-below, upto-agree, upto-over, rowAt, Sheet, State, stateOf, RowState, Aged, recordOf, noRecord, worked, begun, free, runs, next, code, given, nextState, nextCodes, jobAt, releasedAt, releasedState, placedAt, placedRecord, placedCode, placedState, placedCodes, agedAt, agedRecord, agedCode, agedState, agedCodes, placedRow, agedRow}
 use Rattle.records.proofs.RowSlots.{row-code}
 use Rattle.machine.proofs.Placement.{free-agrees}
 

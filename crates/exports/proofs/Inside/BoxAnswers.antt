@@ -1,6 +1,6 @@
 -- What the call of the box's own loop answers at each way out, and the list of a state that it writes. Assumes nothing.
-use Rattle.basis.specs.Prelude.{ℕ, _*_, _/_, _%_, _≤_, _<_, _≡_, sym, ap, _∙_, Bool, true, false, List, arith, length, List·getD-eq-default, lt-leb, le-leb, eq-eqb, ne-eqb, w64, Fits}
-use Rattle.exports.proofs.Names.{mostRows, outcome, pairCell, legal, filled, sheetIn, Sheet, held, ran, noRecord, State, recordAt, stateLong, RunAnswer, fresh, run, told, stateCell, courseTold, boxOf, boxOn}
+use Rattle.basis.specs.Prelude.{ℕ, _*_, _/_, _%_, _≤_, _<_, _≡_, sym, _∙_, Bool, true, false, List, arith, length, List·getD-eq-default, lt-leb, le-leb, ne-eqb, w64, Fits}
+use Rattle.exports.proofs.Names.{mostRows, outcome, pairCell, legal, filled, sheetIn, Sheet, held, ran, noRecord, State, recordAt, stateLong, fresh, run, told, stateCell, boxOf, boxOn}
 use Rattle.sheet.proofs.Legality.{legal-is}
 use Rattle.records.specs.declared.record.RowState.{RowState}
 use Rattle.states.specs.declared.runs.Ran.{Ran}

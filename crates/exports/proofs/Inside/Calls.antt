@@ -3,7 +3,7 @@ use Rattle.basis.specs.Prelude.{ℕ, _≡_, sym, List, w64}
 use lib.IntN.{ℤ}
 use mir.Val.{SFits, toZ, ofZ}
 use mir.ValLaws.{toZ-ofZ}
-use Rattle.exports.proofs.Names.{accepted, refused, outcome, Refusal, freshAnswer, slotAnswer, MarginAnswer, marginAnswer, margin, sheetIn, stateIn, freshOn, slotIn, ranIn, runIn, told, freshTold, freshIn, slotTold, slotOn, runTold, runOn, marginGiven, marginIn}
+use Rattle.exports.proofs.Names.{accepted, refused, outcome, Refusal, freshAnswer, slotAnswer, marginAnswer, margin, sheetIn, stateIn, freshOn, slotIn, ranIn, runIn, told, freshIn, slotOn, runOn, marginGiven, marginIn}
 use Rattle.machine.specs.declared.places.Done.{Done}
 use Rattle.machine.specs.declared.margins.Margin.{Margin}
 use Rattle.machine.specs.declared.margins.Margin.the-variants as margin-variants

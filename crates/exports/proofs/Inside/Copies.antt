@@ -1,5 +1,5 @@
 -- A text that is copied byte by byte to the start of a buffer. Assumes nothing.
-use Rattle.basis.specs.Prelude.{ℕ, suc, _+_, _≤_, _<_, _≡_, sym, ap, _∙_, List, _++_, add-one, arith, length, getD, set, take, drop, append-snoc, drop-cons, length-take-le, set-at, take-length, take-suc}
+use Rattle.basis.specs.Prelude.{ℕ, suc, _+_, _≤_, _<_, _≡_, sym, _∙_, List, _++_, add-one, arith, length, getD, set, take, drop, append-snoc, drop-cons, length-take-le, set-at, take-length, take-suc}
 
 -- the first i bytes are copied
 module _ (text buffer : List ℕ) (i : ℕ) (after : List ℕ) (e : after ≡ take i text ++ drop i buffer) where

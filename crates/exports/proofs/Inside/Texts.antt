@@ -1,7 +1,7 @@
 -- What `giachimu_verdict` answers at each way out: the text is whole in a buffer that has room for any, be it lent or the call's own, and is copied from its own where it fits. Assumes nothing.
 use Rattle.basis.specs.Prelude.{ℕ, _≤_, _<_, min, _≡_, sym, ap, _∙_, List, _++_, arith, length, take, drop, take-all, le-leb, lt-leb}
 use Rattle.dashboard.specs.Longest.{textSize, textBuffer}
-use Rattle.exports.proofs.Names.{Page, written, verdictText, written-part, verdict-is-printed, verdictIn}
+use Rattle.exports.proofs.Names.{written, verdictText, written-part, verdict-is-printed, verdictIn}
 use Rattle.dashboard.proofs.TextLengths.{verdict-is-short, longest-fits}
 
 -- a text that fits is written whole

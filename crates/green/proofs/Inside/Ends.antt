@@ -1,5 +1,5 @@
 -- Where the first n rows of a sheet have bounds, a chain of accepted slots from a moment that slots lead to finishes each of their jobs within its row's bound and misses none of their deadlines. Assumes nothing.
-use Rattle.basis.specs.Prelude.{ℕ, zero, suc, _+_, _-_, _≤_, _<_, _≡_, refl, sym, ap, subst, _∙_, _⊎_, inl, inr, ⊎-elim, List, [], _∷_, arith, zero-add, length, getD}
+use Rattle.basis.specs.Prelude.{ℕ, zero, suc, _+_, _-_, _≤_, _<_, _≡_, refl, sym, ap, subst, _⊎_, ⊎-elim, List, [], _∷_, arith, zero-add, length, getD}
 use Rattle.green.proofs.Names.{Legal, Sheet, passes, Word, bound, valueOf, resultOf, State, recordAt, nextState, owed, age, Reached, Done, Bounded, releaseIn, codeIn, FinishedWithin, InTime}
 use Rattle.green.proofs.Sheets.{rowsOf, ranges, safe}
 use Rattle.green.proofs.Soundness.{within-bound}

@@ -1,6 +1,6 @@
 -- Each call's answer, from the answers of what it calls. Assumes nothing.
 use Rattle.basis.specs.Prelude.{ℕ, _*_, _/_, _%_, _≤_, _<_, _≡_, refl, sym, ap, _∙_, true, List, length, leb, eqb, arith, div-add-mod', leb-true, eqb-true}
-use Rattle.machine.proofs.Names.{mostRows, accepted, refused, outcome, needed, Refusal, Accepted, Refused, both-accepted, needed-holds, legal, Sheet, State, legalState, checkReleases, checkState, checkRoom, checkSlot, checkRun, SlotAnswer, RunAnswer, slotAnswer, runAnswer, nextState, nextCodes, slot, course, run}
+use Rattle.machine.proofs.Names.{mostRows, accepted, refused, outcome, needed, Refusal, Accepted, Refused, both-accepted, needed-holds, legal, Sheet, State, legalState, checkReleases, checkState, checkRoom, checkSlot, checkRun, RunAnswer, slotAnswer, runAnswer, nextState, nextCodes, slot, course, run}
 use Rattle.machine.proofs.Inside.Checks.{Ready, ready}
 use Rattle.machine.proofs.Inside.Courses.{stopped}
 

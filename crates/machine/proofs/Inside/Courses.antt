@@ -1,5 +1,5 @@
 -- A run's course: slot j of a list on parts of the list and the buffer, one slot more, and a course that has stopped. Assumes nothing.
-use Rattle.basis.specs.Prelude.{ℕ, zero, suc, _+_, _*_, _-_, _≤_, _<_, _≡_, sym, ap, ap₂, _∙_, true, List, _++_, append-nil, length, take, drop, length-drop, take-append-drop, drop-of-length-le, length-take-le, take-all, arith, mul-le-mul-right, add-zero, zero-add, add-suc, add-one, le-leb, eq-eqb}
+use Rattle.basis.specs.Prelude.{ℕ, zero, suc, _+_, _*_, _-_, _≤_, _<_, _≡_, sym, ap, _∙_, true, List, _++_, append-nil, length, take, drop, length-drop, take-append-drop, drop-of-length-le, length-take-le, take-all, arith, mul-le-mul-right, add-zero, zero-add, add-suc, add-one, le-leb, eq-eqb}
 use borrow.Rule.Slice.PartMut.{putMid}
 use Rattle.machine.proofs.Names.{pick, Outcome, accepted, refused, outcome, isAccepted, Refusal, Accepted, Refused, legal, Sheet, State, legalState, checkReleases, checkState, checkRoom, checkSlot, SlotAnswer, RunAnswer, slotAnswer, runAnswer, nextState, nextCodes, slot, entriesOf, slotAt, onward, course}
 

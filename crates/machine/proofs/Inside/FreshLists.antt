@@ -1,6 +1,6 @@
 -- The fresh state in a list: a turn of the loop that writes it, and each way out. Assumes nothing.
-use Rattle.basis.specs.Prelude.{ℕ, _+_, _*_, _≤_, _<_, _≡_, refl, sym, ap, ap₂, _∙_, Bool, true, false, List, length, length-replicate, arith, le-leb, lt-leb, w64, Fits}
-use Rattle.machine.proofs.Names.{mostRows, accepted, refused, upto-none, upto-below, rowAt, legal, Row, Sheet, legal-is, filled, clearedCell, length-filled, RowState, recordOf, noRecord, noState, recordAt, freshAt, freshState, freshAnswer, fresh, recordWide, stateLong, putRecord, putTo, putState, cleared, freshOn}
+use Rattle.basis.specs.Prelude.{ℕ, _+_, _*_, _≤_, _<_, _≡_, refl, sym, ap, _∙_, Bool, true, false, List, length, length-replicate, arith, le-leb, lt-leb, w64, Fits}
+use Rattle.machine.proofs.Names.{mostRows, accepted, refused, upto-none, upto-below, rowAt, legal, Row, Sheet, legal-is, filled, clearedCell, length-filled, recordOf, noRecord, noState, recordAt, freshAt, freshState, freshAnswer, fresh, recordWide, stateLong, putRecord, putTo, putState, cleared, freshOn}
 use Rattle.sheet.proofs.Inside.ClearedLists.{cleared-is-filled}
 use Rattle.machine.proofs.Inside.RecordLists.{put-more, put-agree}
 

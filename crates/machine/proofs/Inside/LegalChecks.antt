@@ -1,6 +1,6 @@
 -- The check in place that the state in a list is legal: a turn of its loop, and each way out. Assumes nothing.
-use Rattle.basis.specs.Prelude.{ℕ, _+_, _*_, _≤_, _<_, _≡_, sym, ap, ap₂, _∙_, Bool, true, false, List, ⊎-elim, length, List·getD-eq-default, arith, lt-ltb, le-ltb, eq-eqb, eqb-true, w64, Fits}
-use Rattle.machine.proofs.Names.{mostRows, allOf, lt-or-le, all-one-more, all-at, all-true, true-not-false, rowAt, legal, Row, Sheet, legal-is, numberAt, not-so, RowState, recordAt, legalState, isZero, isZeroJob, legalRecord, recordWide, recordIn, stateLong, zeroAt, zeroFrom, spareIsZero, stateIn}
+use Rattle.basis.specs.Prelude.{ℕ, _+_, _*_, _≤_, _<_, _≡_, sym, ap, _∙_, Bool, true, false, List, length, arith, w64, Fits}
+use Rattle.machine.proofs.Names.{mostRows, allOf, all-one-more, all-at, true-not-false, rowAt, legal, Row, Sheet, legal-is, not-so, RowState, recordAt, legalState, isZeroJob, legalRecord, recordWide, recordIn, stateLong, zeroFrom, spareIsZero, stateIn}
 use Rattle.machine.proofs.Inside.Legals.{legal-job-is, legal-job-says, legal-state-is, legal-state-says}
 use Rattle.machine.proofs.Inside.RecordLists.{record-in-state}
 use Rattle.machine.proofs.LegalLists.{few, kept-record, past-is-zero, missing-records-are-refused}

@@ -1,6 +1,6 @@
 -- Legal jobs and states as facts, and back. Assumes nothing.
-use Rattle.basis.specs.Prelude.{ℕ, _≤_, _<_, _≡_, refl, sym, ap, Bool, true, false, length, List·getD-eq-default, ltb, leb, ⊎-elim, arith, lt-ltb, le-ltb, le-leb, leb-true, ltb-true}
-use Rattle.machine.proofs.Names.{mostRows, pick, within, both-left, both-right, both-true, at-least, at-most, within-true, all-at, all-true, lt-or-le, true-not-false, rowAt, Row, Sheet, Job, RowState, State, recordAt, legalRecordAt, legalState, noRecord, hasJob, legalJob, isZero}
+use Rattle.basis.specs.Prelude.{ℕ, _≤_, _<_, _≡_, refl, Bool, true, false, length, List·getD-eq-default, ltb, leb, ⊎-elim, arith, lt-ltb, le-ltb, le-leb, leb-true, ltb-true}
+use Rattle.machine.proofs.Names.{mostRows, pick, within, both-left, both-right, both-true, at-least, at-most, within-true, all-at, all-true, lt-or-le, rowAt, Row, Sheet, Job, State, recordAt, legalRecordAt, legalState, noRecord, hasJob, legalJob, isZero}
 
 -- a job that is legal for its row
 pub record LegalJob (row : Row) (j : Job) : Type 0 where

@@ -1,5 +1,5 @@
 -- What is told of a margin, from the answers of what `margin` calls. Assumes nothing.
-use Rattle.basis.specs.Prelude.{ℕ, _+_, _≤_, _<_, _≡_, refl, sym, ap, ap₂, _∙_, List, length, arith, lt-ltb, le-ltb, ltb-true, w64}
+use Rattle.basis.specs.Prelude.{ℕ, _+_, _≤_, _<_, _≡_, refl, sym, ap, _∙_, List, length, arith, lt-ltb, le-ltb, ltb-true, w64}
 use lib.IntN.{_-ℤ_}
 use mir.Val.{SFits, toZ, ofZ}
 use mir.ValLaws.{toZ-ofZ}

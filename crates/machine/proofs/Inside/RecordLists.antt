@@ -1,5 +1,5 @@
 -- Records of a state's list, as they are read and written in place. Assumes nothing.
-use Rattle.basis.specs.Prelude.{ℕ, zero, suc, _+_, _*_, _≤_, _<_, _≡_, refl, sym, ap, ap₂, _∙_, true, false, List, ⊎-elim, length, getD, set, length-set, getD-set-same, getD-set-other, ext-getD, arith, le-refl, eq-or-lt-of-le, add-one, lt-ltb, le-ltb, eq-eqb}
+use Rattle.basis.specs.Prelude.{ℕ, zero, suc, _+_, _*_, _≤_, _<_, _≡_, refl, sym, ap, ap₂, _∙_, true, false, List, ⊎-elim, length, getD, set, length-set, getD-set-same, getD-set-other, ext-getD, arith, le-refl, eq-or-lt-of-le, add-one}
 use Rattle.machine.proofs.Names.{mostRows, upto, lt-or-le, upto-below, upto-past, length-upto, getD-all, numberAt, filled-read, RowState, recordOf, noRecord, noState, stateOf, recordAt, recordWide, recordIn, stateLong, spareIsZero, stateIn, putRecord, putTo, cleared}
 use Rattle.machine.proofs.Inside.Zeros.{all-zero, each-zero}
 

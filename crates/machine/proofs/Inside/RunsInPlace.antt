@@ -1,6 +1,6 @@
 -- The run in place: a run that has done no slot has changed nothing, and what each way out shows. Assumes nothing.
 use Rattle.basis.specs.Prelude.{ℕ, zero, suc, _+_, _/_, _≡_, refl, sym, ap, _∙_, Bool, true, false, List, length, eqb, arith, eqb-true}
-use Rattle.machine.proofs.Names.{pick, Outcome, accepted, refused, outcome, isAccepted, Refusal, Accepted, Refused, legal, Sheet, State, legalState, Done, checkRun, SlotAnswer, RunAnswer, runAnswer, slotAt, onward, course, stateIn, putState, runListed, runIn, ranIn}
+use Rattle.machine.proofs.Names.{pick, Outcome, accepted, refused, outcome, isAccepted, Refusal, Accepted, Refused, legal, Sheet, State, legalState, Done, checkRun, RunAnswer, runAnswer, slotAt, onward, course, stateIn, putState, runIn, ranIn}
 use Rattle.machine.proofs.Inside.Answers.{run-sheet, run-state, run-is-refused, run-is-done}
 use Rattle.machine.proofs.Inside.Courses.{followed}
 use Rattle.machine.proofs.LegalLists.{list-of-kept}

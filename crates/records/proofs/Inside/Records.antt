@@ -25,10 +25,6 @@ unfolding worked
 worked-near true s = (omega arith, omega arith)
 worked-near false s = (omega arith, omega arith)
 
-pub worked-since : (ran : Bool) (s : Job) → worked ran s .since ≡ s .since
-unfolding worked
-worked-since ran s = refl
-
 pub worked-one : (ran : Bool) (s : Job) → ran ≡ true → worked ran s .remaining ≡ s .remaining - 1
 unfolding worked
 worked-one ran s e = rw e
