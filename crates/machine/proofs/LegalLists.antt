@@ -92,19 +92,12 @@ pub state-comes-back : (h : Sheet) (l : List ℕ) (t : State) → legal h ≡ tr
     → stateIn (putState (h .count) t l) ≡ t
 unfolding putState
 state-comes-back h l t fine kept also long =
+    let most = few h l fine in
+    let spare = kept-spare h l fine kept in
+    let whole : length (upto (h .count) (recordAt t) (stateIn l .rows)) ≡ mostRows = length-upto (h .count) (recordAt t) (stateIn l .rows) ∙ state-rows-long l spare in
     state-put (h .count) (recordAt t) l spare most (kept-long h l fine kept (h .count) refl)
-    ∙ ap stateOf
-    (ext-getD noRecord (upto (h .count) (recordAt t) (stateIn l .rows)) (t .rows) (whole ∙ sym long)
-    (λ k b. let there : k < mostRows = omega (arith, whole) in
-    ⊎-elim (λ a. upto-below (h .count) (recordAt t) (stateIn l .rows) noRecord k a (omega (arith, state-rows-long l spare, most)))
+    ∙ ap stateOf (ext-getD noRecord (upto (h .count) (recordAt t) (stateIn l .rows)) (t .rows) (whole ∙ sym long) (λ k b.
+    let there : k < mostRows = omega arith in
+    ⊎-elim (λ a. upto-below (h .count) (recordAt t) (stateIn l .rows) noRecord k a (omega (arith, state-rows-long l spare)))
     (λ a. rw (upto-past (h .count) (recordAt t) (stateIn l .rows) noRecord k a, zero-record (recordAt (stateIn l) k) (legal-state-is h (stateIn l) most kept .past k a there))
-    (sym (zero-record (recordAt t k) (legal-state-is h t most also .past k a there))))
-    (lt-or-le k (h .count)))) where
-      most : h .count ≤ mostRows
-      most = legal-is h fine .most-rows
-
-      spare : spareIsZero l ≡ true
-      spare = kept-spare h l fine kept
-
-      whole : length (upto (h .count) (recordAt t) (stateIn l .rows)) ≡ mostRows
-      whole = length-upto (h .count) (recordAt t) (stateIn l .rows) ∙ state-rows-long l spare
+    (sym (zero-record (recordAt t k) (legal-state-is h t most also .past k a there)))) (lt-or-le k (h .count))))

@@ -18,7 +18,7 @@ module _ (h : Sheet) (t : State) (rel cs : List ℕ) (long : h .count ≤ length
 
   placed-at : (k : ℕ) → k < h .count → placedAt h (releasedState h t rel) k ≡ placedRow (rowAt h k) (begun (given h t rel) k) (free (given h t rel) k)
   unfolding given
-  placed-at k l = ap₂ (placedRow (rowAt h k)) (u-at k l) (free-agrees (h .processors) (rowAt h) (rowAt h) (jobAt (releasedState h t rel)) (begun (given h t rel)) k (λ i b. refl) (λ i b. u-at i (omega arith)))
+  placed-at k l = ap₂ (placedRow (rowAt h k)) (u-at k l) (free-agrees (h .processors) (rowAt h) (rowAt h) _ _ k (λ i b. refl) (λ i b. u-at i (omega arith)))
 
   v-at : (k : ℕ) → k < h .count → jobAt (workedState h t rel) k ≡ worked (runs (given h t rel) k) (begun (given h t rel) k)
   unfolding given placedRow

@@ -1,6 +1,6 @@
 -- Records of a state's list, as they are read and written in place. Assumes nothing.
-use Rattle.basis.specs.Prelude.{ℕ, zero, suc, _+_, _*_, _≤_, _<_, _≡_, refl, sym, ap, ap₂, _∙_, true, false, List, ⊎-elim, length, getD, set, length-set, getD-set-same, getD-set-other, ext-getD, arith, le-refl, eq-or-lt-of-le, add-one}
-use Rattle.machine.proofs.Names.{mostRows, upto, lt-or-le, upto-below, upto-past, length-upto, getD-all, numberAt, filled-read, RowState, recordOf, noRecord, noState, stateOf, recordAt, recordWide, recordIn, stateLong, spareIsZero, stateIn, putRecord, putTo, cleared}
+use Rattle.basis.specs.Prelude.{ℕ, zero, suc, _+_, _*_, _≤_, _<_, _≡_, refl, sym, ap, _∙_, true, false, List, ⊎-elim, length, getD, set, length-set, getD-set-same, getD-set-other, ext-getD, arith, le-refl, eq-or-lt-of-le, add-one}
+use Rattle.machine.proofs.Names.{mostRows, upto, lt-or-le, upto-below, upto-past, length-upto, getD-all, numberAt, filled-read, RowState, noRecord, noState, stateOf, recordAt, recordWide, recordIn, stateLong, spareIsZero, stateIn, putRecord, putTo, cleared}
 use Rattle.machine.proofs.Inside.Zeros.{all-zero, each-zero}
 
 -- one record that is written, read
@@ -17,10 +17,11 @@ module _ (l : List ℕ) (k : ℕ) (s : RowState) where
   put-here : stateLong (k + 1) ≤ length l → recordIn (putRecord l k s) k ≡ s
   unfolding putRecord recordIn
   put-here r =
-      let first = set l (k * recordWide) (s .job .remaining) in
-      let a = getD-set-other first (k * recordWide + 1) (k * recordWide) (s .job .since) 0 (λ e. omega arith) ∙ getD-set-same l (k * recordWide) (s .job .remaining) 0 (omega arith) in
-      let b = getD-set-same first (k * recordWide + 1) (s .job .since) 0 (simp length-set (omega arith)) in
-      λ i. recordOf (record { remaining = a i; since = b i })
+      rw (
+        getD-set-other (set l (k * recordWide) (s .job .remaining)) (k * recordWide + 1) (k * recordWide) (s .job .since) 0 (λ e. omega arith),
+        getD-set-same l (k * recordWide) (s .job .remaining) 0 (omega arith),
+        getD-set-same (set l (k * recordWide) (s .job .remaining)) (k * recordWide + 1) (s .job .since) 0 (simp length-set (omega arith)),
+      )
 
   put-elsewhere : (j : ℕ) → (j ≡ k → ⊥) → recordIn (putRecord l k s) j ≡ recordIn l j
   unfolding recordIn
@@ -87,38 +88,29 @@ module _ (n : ℕ) (f : ℕ → RowState) (l : List ℕ) (spare : spareIsZero l 
   pub state-put : stateIn (putTo n f l) ≡ stateOf (upto n f (stateIn l .rows))
   unfolding stateIn
   state-put =
+      let own : List RowState = upto mostRows (recordIn l) (noState .rows) in
+      let long : length own ≡ mostRows = length-upto mostRows (recordIn l) (noState .rows) in
       rw (spare-put, spare)
-      (ap stateOf
-      (records-all (recordIn (putTo n f l)) (noState .rows) (upto n f (upto mostRows (recordIn l) (noState .rows))) refl
-      (length-upto n f (upto mostRows (recordIn l) (noState .rows)) ∙ length-upto mostRows (recordIn l) (noState .rows))
-      (λ i there. ⊎-elim
-      (λ a. put-record-below f l n i a room ∙ sym (upto-below n f (upto mostRows (recordIn l) (noState .rows)) noRecord i a (rw (length-upto mostRows (recordIn l) (noState .rows)) few)))
-      (λ a. put-record-past f l n i a ∙ sym (upto-past n f (upto mostRows (recordIn l) (noState .rows)) noRecord i a ∙ upto-below mostRows (recordIn l) (noState .rows) noRecord i there (le-refl mostRows)))
+      (ap stateOf (records-all (recordIn (putTo n f l)) (noState .rows) (upto n f own) refl (length-upto n f own ∙ long)
+      (λ i there. ⊎-elim (λ a. put-record-below f l n i a room ∙ sym (upto-below n f own noRecord i a (omega arith)))
+      (λ a. put-record-past f l n i a ∙ sym (upto-past n f own noRecord i a ∙ upto-below mostRows (recordIn l) (noState .rows) noRecord i there (le-refl mostRows)))
       (lt-or-le i n))))
 
 -- the same records make the same list
 pub put-agree : (n : ℕ) (f g : ℕ → RowState) (l : List ℕ) → ((k : ℕ) → k < n → f k ≡ g k) → putTo n f l ≡ putTo n g l
 unfolding putTo
 put-agree zero f g l e = refl
-put-agree (suc n) f g l e = ap₂ (λ (x : List ℕ) (s : RowState). putRecord x n s) (put-agree n f g l (λ k b. e k (omega arith))) (e n (omega arith))
+put-agree (suc n) f g l e = rw (put-agree n f g l (λ k b. e k (omega arith)), e n (omega arith))
 
 -- a list's own records, put into another list, are its own numbers
 pub put-own : (l l₀ : List ℕ) (n i : ℕ) → i < stateLong n → stateLong n ≤ length l₀ → numberAt (putTo n (recordIn l) l₀) i ≡ numberAt l i
 unfolding putTo recordIn
 put-own l l₀ zero i b r = absurd (omega arith)
-put-own l l₀ (suc n) i b r = ⊎-elim (λ a. below a (put-own l l₀ n i a (omega arith))) here (lt-or-le i (stateLong n))
-  where
-    below : i < stateLong n → numberAt (putTo n (recordIn l) l₀) i ≡ numberAt l i → numberAt (putTo (suc n) (recordIn l) l₀) i ≡ numberAt l i
-    below a so = put-other (putTo n (recordIn l) l₀) n (recordIn l n) i (λ e. omega arith) (λ e. omega arith) ∙ so
-
-    same : recordIn (putTo (suc n) (recordIn l) l₀) n ≡ recordIn l n
-    same = put-record-below (recordIn l) l₀ (suc n) n (omega arith) r
-
-    here : stateLong n ≤ i → numberAt (putTo (suc n) (recordIn l) l₀) i ≡ numberAt l i
-    here a = ⊎-elim
-        (λ m. let e : i ≡ n * recordWide = omega arith in rw e (ap (λ (s : RowState). s .job .remaining) same))
-        (λ m. let e : i ≡ n * recordWide + 1 = omega arith in rw e (ap (λ (s : RowState). s .job .since) same))
-        (lt-or-le i (n * recordWide + 1))
+put-own l l₀ (suc n) i b r =
+    let same = put-record-below (recordIn l) l₀ (suc n) n (omega arith) r in
+    ⊎-elim (λ a. put-other (putTo n (recordIn l) l₀) n (recordIn l n) i (λ e. omega arith) (λ e. omega arith) ∙ put-own l l₀ n i a (omega arith))
+    (λ a. ⊎-elim (λ m. let e : i ≡ n * recordWide = omega arith in rw e (λ j. same j .job .remaining))
+    (λ m. let e : i ≡ n * recordWide + 1 = omega arith in rw e (λ j. same j .job .since)) (lt-or-le i (n * recordWide + 1))) (lt-or-le i (stateLong n))
 
 -- a list of zeros hands over the state of zeros
 module _ (l : List ℕ) (none : (i : ℕ) → numberAt l i ≡ 0) where

@@ -1,5 +1,5 @@
 -- The run in place: a run that has done no slot has changed nothing, and what each way out shows. Assumes nothing.
-use Rattle.basis.specs.Prelude.{ℕ, zero, suc, _+_, _/_, _≡_, refl, sym, ap, _∙_, Bool, true, false, List, length, eqb, arith, eqb-true}
+use Rattle.basis.specs.Prelude.{ℕ, zero, suc, _/_, _≡_, refl, sym, ap, _∙_, Bool, true, false, List, length, eqb, arith, eqb-true}
 use Rattle.machine.proofs.Names.{pick, Outcome, accepted, refused, outcome, isAccepted, Refusal, Accepted, Refused, legal, Sheet, State, legalState, Done, checkRun, RunAnswer, runAnswer, slotAt, onward, course, stateIn, putState, runIn, ranIn}
 use Rattle.machine.proofs.Inside.Answers.{run-sheet, run-state, run-is-refused, run-is-done}
 use Rattle.machine.proofs.Inside.Courses.{followed}
@@ -10,18 +10,13 @@ use Rattle.machine.proofs.SlotsDone.{refused-leaves}
 pub course-none : (h : Sheet) (rel : List ℕ) (first : RunAnswer State) (j : ℕ) → course h rel first j .done ≡ 0 → course h rel first j .state ≡ first .state
 unfolding course onward
 course-none h rel first zero e = refl
-course-none h rel first (suc j) e = go (course h rel first j) (course-none h rel first j) e
+course-none h rel first (suc j) e = let c = course h rel first j in go c (isAccepted (c .outcome)) (slotAt h (c .state) rel (c .codes) j .outcome) refl (course-none h rel first j) e
   where
-    go : (c : RunAnswer State) → (c .done ≡ 0 → c .state ≡ first .state) → onward h rel j c .done ≡ 0 → onward h rel j c .state ≡ first .state
-    go c so = by (isAccepted (c .outcome))
-      where
-        at : (o : Outcome) → slotAt h (c .state) rel (c .codes) j .outcome ≡ o → pick (isAccepted o) (c .done + 1) (c .done) ≡ 0 → slotAt h (c .state) rel (c .codes) j .state ≡ first .state
-        at accepted g z = absurd (omega arith)
-        at (refused a b) g z = rw (refused-leaves h (c .state) rel (c .codes) j a b g) (so z)
-
-        by : (b : Bool) → pick b (followed (c .done) (slotAt h (c .state) rel (c .codes) j)) c .done ≡ 0 → pick b (followed (c .done) (slotAt h (c .state) rel (c .codes) j)) c .state ≡ first .state
-        by true = at (slotAt h (c .state) rel (c .codes) j .outcome) refl
-        by false = so
+    go : (c : RunAnswer State) (x : Bool) (o : Outcome) → slotAt h (c .state) rel (c .codes) j .outcome ≡ o → (c .done ≡ 0 → c .state ≡ first .state)
+        → pick x (followed (c .done) (slotAt h (c .state) rel (c .codes) j)) c .done ≡ 0 → pick x (followed (c .done) (slotAt h (c .state) rel (c .codes) j)) c .state ≡ first .state
+    go c true accepted g so z = absurd (omega (arith, rw g at z))
+    go c true (refused a b) g so z = rw (refused-leaves h (c .state) rel (c .codes) j a b g) (so (rw g at z))
+    go c false o g so z = so z
 
 -- `run_on`
 module _ (h : Sheet) (l rel cs : List ℕ) (c : Refusal) (e : outcome c ≡ checkRun h (stateIn l) rel (length cs)) where
