@@ -23,7 +23,7 @@ unfoldable pub use Rattle.machine.specs.Slot.{freeAt}
 pub use Rattle.machine.specs.States.{State, freshAt, noState, recordAt, stateOf}
 unfoldable pub use Rattle.machine.specs.States.{freshState, legalRecordAt, legalState}
 pub use Rattle.machine.specs.declared.places.Done.{Done}
-pub use Rattle.records.proofs.Inside.Records.{ended-at, ended-else, ended-less, ended-since, older-below, older-within, release-allowed, released-none, released-some, worked-near, worked-none, worked-one}
+pub use Rattle.records.proofs.Inside.Records.{ended-at, ended-else, ended-less, older-below, older-within, release-allowed, released-none, released-some, worked-near, worked-none, worked-one}
 unfoldable pub use Rattle.records.specs.Checks.{checkRow}
 pub use Rattle.records.specs.Records.{hasJob, isZero, legalRecord, noRecord, recordOf}
 unfoldable pub use Rattle.records.specs.Records.{isZeroJob, legalJob}

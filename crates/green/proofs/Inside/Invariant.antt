@@ -63,7 +63,8 @@ module _ (p : Rows) (legal : (i : ℕ) → i < p .n → Ranges p i) (safe : (k :
           bounded = λ i l.
               let t : i < n = omega arith in
               let w = legal i t in
-              rw sub-zero (omega (arith, Φ-start (C i) (T i) (omega arith) (omega arith) (R i) (a .remaining i) (a .since i) (R k) (w .low) (omega arith) (v .less i t) (v .old i t) (in-time p v i t)));
+              let s = Φ-start (C i) (T i) (omega arith) (omega arith) (R i) (a .remaining i) (a .since i) (R k) (w .low) (omega arith) (v .less i t) (v .old i t) (in-time p v i t) in
+              rw sub-zero (omega arith);
         },
       )
 
