@@ -1,5 +1,5 @@
 -- Demand 3 for a machine kept in a list: its accepted slots since fresh are those of a history by value. Assumes nothing.
-use Rattle.basis.specs.Prelude.{ℕ, _≡_, refl, sym, ap, ap₂, subst, _∙_, Bool, true, false, List, [], _∷_, _++_, append-nil, append-assoc, arith, length, take, leb, eqb, ne-eqb, eqb-true, eqb-false}
+use Rattle.basis.specs.Prelude.{ℕ, _≡_, refl, sym, subst, Bool, true, false, List, [], _∷_, _++_, append-nil, append-assoc, arith, length, take, leb, eqb, ne-eqb, eqb-true, eqb-false}
 use Rattle.exports.proofs.Names.{pick, Outcome, accepted, refused, isAccepted, orElse, needed, reading, legal, sheetIn, Sheet, State, fresh, slot, stateLong, stateIn, freshOn, slotIn, runIn, InTime, NoJobIsLate, told, readIn, freshIn, slotOn, runOn}
 use Rattle.machine.proofs.RefusalTable.{InTable, sheet-not-legal, list-not-whole, over-budget, too-soon, no-such-row, short-buffer, state-not-legal, Listed, slot-refusals}
 use Rattle.machine.proofs.StatesAfter.{fresh-on-state, slot-in-state, run-in-state}
@@ -40,7 +40,7 @@ module _ (h : Sheet) (c : Call) where
   history-more : (t : State) (cs : List Call) → history h t (cs ++ (c ∷ [])) ≡ history h t cs ++ slotsOf h (stateAfterAll h t cs) c
   unfolding history stateAfterAll
   history-more t [] = append-nil _
-  history-more t (d ∷ cs) = ap (λ (x : List Done). slotsOf h t d ++ x) (history-more (stateAfter h t d) cs) ∙ sym (append-assoc (slotsOf h t d) _ _)
+  history-more t (d ∷ cs) = rw (history-more (stateAfter h t d) cs, append-assoc)
 
   state-more : (t : State) (cs : List Call) → stateAfterAll h t (cs ++ (c ∷ [])) ≡ stateAfter h (stateAfterAll h t cs) c
   unfolding stateAfterAll
@@ -55,16 +55,12 @@ record Follows (h : Sheet) (l : List ℕ) (ds : List Done) : Type 0 where
 
 fresh-follows : (sheet l : List ℕ) → freshIn sheet l .0 .0 ≡ 0 → Follows (sheetIn sheet) (freshIn sheet l .1) []
 unfolding freshIn history stateAfterAll
-fresh-follows sheet l e =
-    record { calls = []; slots = refl; state = sym (fresh-on-state (sheetIn sheet) l (fresh-accepted (sheetIn sheet) l e)) }
+fresh-follows sheet l e = record { calls = []; slots = refl; state = sym (fresh-on-state (sheetIn sheet) l (fresh-accepted (sheetIn sheet) l e)) }
 
 -- one call by value more, that adds these slots and leaves this state
 follows-more : (h : Sheet) (l l′ : List ℕ) (ds es : List Done) (c : Call) → Follows h l ds → slotsOf h (stateIn l) c ≡ es → stateIn l′ ≡ stateAfter h (stateIn l) c → Follows h l′ (ds ++ es)
-follows-more h l l′ ds es c f e g = record {
-  calls = f .calls ++ (c ∷ []);
-  slots = history-more h c (freshOf h) (f .calls) ∙ ap₂ (λ (x : List Done) (y : List Done). x ++ y) (f .slots) (ap (λ (t : State). slotsOf h t c) (f .state) ∙ e);
-  state = state-more h c (freshOf h) (f .calls) ∙ ap (λ (t : State). stateAfter h t c) (f .state) ∙ sym g;
-}
+follows-more h l l′ ds es c f e g =
+    record { calls = f .calls ++ (c ∷ []); slots = rw (history-more, f .slots, f .state, e); state = rw (state-more, f .state, g) }
 
 -- each call on the list
 call-follows : (sheet l : List ℕ) (ds : List Done) (c : ListCall) → Follows (sheetIn sheet) l ds → Follows (sheetIn sheet) (listAfter sheet l c) (slotsAfter sheet l ds c)
@@ -73,7 +69,7 @@ call-follows sheet l ds make-fresh f = go (eqb (freshIn sheet l .0 .0) 0) refl
   where
     go : (b : Bool) → eqb (freshIn sheet l .0 .0) 0 ≡ b → Follows (sheetIn sheet) (freshIn sheet l .1) (pick b [] ds)
     go true e = fresh-follows sheet l (eqb-true _ 0 e)
-    go false e = subst (λ (x : List ℕ). Follows (sheetIn sheet) x ds) (sym (refused-fresh-changes-nothing sheet l (eqb-false _ 0 e))) f
+    go false e = rw (refused-fresh-changes-nothing sheet l (eqb-false _ 0 e)) f
 call-follows sheet l ds (one-slot rel cs) f =
     follows-more (sheetIn sheet) l _ ds _ (by-value.one-slot rel cs) f
     (slot-told (sheetIn sheet .count) rel (slot (sheetIn sheet) (stateIn l) rel cs .codes) (slot (sheetIn sheet) (stateIn l) rel cs .outcome) (slot-refusals (sheetIn sheet) (stateIn l) rel cs)) (slot-in-state (sheetIn sheet) l rel cs)

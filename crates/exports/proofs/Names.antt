@@ -18,9 +18,9 @@ pub use Rattle.bound.specs.Lists.{resultsLong}
 unfoldable pub use Rattle.bound.specs.Lists.{boundsOn, resultCell, resultsOn}
 pub use Rattle.dashboard.proofs.Buffers.{verdict-is-printed, written-part}
 unfoldable pub use Rattle.dashboard.specs.Texts.{verdictText}
-pub use Rattle.exports.specs.Answers.{flag, freshTold, labelOutcome, runTold, slotTold, told}
+pub use Rattle.exports.specs.Answers.{flag, labelOutcome, slotTold, told}
 unfoldable pub use Rattle.exports.specs.Answers.{boundsIn, fieldsIn, freshIn, labelAnswer, marginGiven, marginIn, readIn, resultsIn, runOn, slotOn, verdictIn}
-pub use Rattle.exports.specs.Further.{boxBy, courseTold, stateCell}
+pub use Rattle.exports.specs.Further.{boxBy, stateCell}
 unfoldable pub use Rattle.exports.specs.Further.{boxOf, boxOn, fixedIn, numberOn, stepTold, upToOn}
 pub use Rattle.green.specs.Demand.{InTime, NoJobIsLate}
 pub use Rattle.machine.specs.Answers.{MarginAnswer, RunAnswer, freshAnswer, margin-is, marginAnswer, no-job, refused-by, runAnswer, slotAnswer, slotBy}
@@ -35,7 +35,7 @@ pub use Rattle.numbers.specs.Numbers.{number, step, upTo}
 unfoldable pub use Rattle.numbers.specs.Numbers.{groups, upToBy}
 pub use Rattle.page.specs.Pages.{Page}
 unfoldable pub use Rattle.page.specs.Pages.{written}
-pub use Rattle.reader.proofs.Inside.ZeroLists.{Lists, lists, rows-few, rows-long}
+pub use Rattle.reader.proofs.Inside.ZeroLists.{lists, rows-few, rows-long}
 pub use Rattle.reader.proofs.LegalSheets.{accepted-is-legal}
 pub use Rattle.reader.specs.Answers.{reading}
 unfoldable pub use Rattle.reader.specs.Answers.{labelIn}

@@ -50,12 +50,10 @@ refused-slot-changes-nothing s list rel cs n = go (checkSlot (sheetIn s) (stateI
 -- a run that has done no slot has written no code
 course-writes-nothing : (h : Sheet) (t : State) (rel cs : List ℕ) (n : ℕ) (c : RunAnswer State) → Ends h rel (runAnswer 0 accepted t cs) n c → c ≡ course h rel (runAnswer 0 accepted t cs) n → c .done ≡ 0 → c .codes ≡ cs
 unfolding course
-course-writes-nothing h t rel cs n c (all-done u ds e) g z =
-    let none : n ≡ 0 = sym (ap (λ (x : RunAnswer State). x .done) e) ∙ z in
-    ap (λ (x : RunAnswer State). x .codes) (g ∙ ap (course h rel (runAnswer 0 accepted t cs)) none)
+course-writes-nothing h t rel cs n c (all-done u ds e) g z = let none : n ≡ 0 = sym (λ i. e i .done) ∙ z in rw (g, none)
 course-writes-nothing h t rel cs n c (stopped-at i l u ds s a b r e) g z =
-    let none : i ≡ 0 = sym (ap (λ (x : RunAnswer State). x .done) e) ∙ z in
-    ap (λ (x : RunAnswer State). x .codes) e ∙ sym (ap (λ (x : RunAnswer State). x .codes) (sym (ap (course h rel (runAnswer 0 accepted t cs)) none) ∙ s))
+    let none : i ≡ 0 = sym (λ j. e j .done) ∙ z in
+    let same = rw none at s in rw e (sym (λ j. same j .codes))
 
 run-writes-nothing : (h : Sheet) (t : State) (rel cs : List ℕ) → run h t rel cs .done ≡ 0 → run h t rel cs .codes ≡ cs
 unfolding run
@@ -63,7 +61,7 @@ run-writes-nothing h t rel cs z = go (checkRun h t rel (length cs)) refl
   where
     go : (o : Outcome) → checkRun h t rel (length cs) ≡ o → run h t rel cs .codes ≡ cs
     go accepted e = course-writes-nothing h t rel cs (length rel / h .count) (run h t rel cs) (run-ends h t rel cs e) (rw e) z
-    go (refused a b) e = ap (λ (x : RunAnswer State). x .codes) (run-not-begun h t rel cs a b e)
+    go (refused a b) e = λ i. run-not-begun h t rel cs a b e i .codes
 
 -- A `giachimu_run` that has done no slot leaves the state's list and the codes.
 pub run-of-none-changes-nothing : (s list rel cs : List ℕ) → runOn s list rel cs .1 .0 ≡ 0 → runOn s list rel cs .1 .1 ≡ (list, cs)

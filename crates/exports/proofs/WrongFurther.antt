@@ -4,63 +4,42 @@ use Rattle.exports.proofs.Names.{allOf, firstOf, upto, pairCell, NoneMe
 use Rattle.machine.specs.States as states
 use Rattle.exports.specs.WrongFurther.{NumberTold, swapped, notTold, zerosWritten, eightAndSeven, sheetAAlways, cutOff, BoxTold, allCounted, stateKept, twoGroups, zeroLast, sevens, twoPlaces, listC, tooSoon, fourPlaces}
 
--- the number and the value that are told
-refusal : NumberTold → ℕ
-refusal ((k, p), (value, after)) = k
-
-value : NumberTold → ℕ
-value ((k, p), (v, after)) = v
-
 -- value and place swapped: 80 01 would be 2
 pub swapped-is-shut-out : NoneMeets (swapped (numberOn twoGroups 0 sevens)) (numberOn twoGroups 0 sevens)
-unfolding swapped numberOn stepTold groups value
-swapped-is-shut-out = values-apart _ _ value refl
+unfolding swapped numberOn stepTold groups
+swapped-is-shut-out = values-apart _ _ (λ (r : NumberTold). r .1 .0) refl
 
 -- zeros beside a refusal: 80 00 leaves what was lent
 pub zeros-written-is-shut-out : NoneMeets (zerosWritten (numberOn zeroLast 0 sevens)) (numberOn zeroLast 0 sevens)
-unfolding zerosWritten numberOn stepTold groups value
-zeros-written-is-shut-out = values-apart _ _ value refl
+unfolding zerosWritten numberOn stepTold groups
+zeros-written-is-shut-out = values-apart _ _ (λ (r : NumberTold). r .1 .0) refl
 
 -- no refusal told: 80 01 is over 5
 pub not-told-is-shut-out : NoneMeets (notTold (upToOn twoGroups 0 5 sevens)) (upToOn twoGroups 0 5 sevens)
-unfolding notTold upToOn stepTold upToBy groups refusal
-not-told-is-shut-out = values-apart _ _ refusal refl
+unfolding notTold upToOn stepTold upToBy groups
+not-told-is-shut-out = values-apart _ _ (λ (r : NumberTold). r .0 .0) refl
 
 -- 8 and 7 for 7 and 8: 80 01 is over 5 by 8
 pub eight-and-seven-is-shut-out : NoneMeets (eightAndSeven twoGroups 0 5 sevens) (upToOn twoGroups 0 5 sevens)
-unfolding eightAndSeven upToOn stepTold upToBy groups refusal
-eight-and-seven-is-shut-out = values-apart _ _ refusal refl
-
--- the number told, and the number at a place of a list
-told : (ℕ × ℕ) × List ℕ → ℕ
-told ((k, p), list) = k
-
-first : (ℕ × ℕ) × List ℕ → ℕ
-first ((k, p), list) = getD list 0 0
+unfolding eightAndSeven upToOn stepTold upToBy groups
+eight-and-seven-is-shut-out = values-apart _ _ (λ (r : NumberTold). r .0 .0) refl
 
 -- sheet A for every number: sheet C is on two processors
 pub sheet-a-always-is-shut-out : NoneMeets (sheetAAlways 2 listC) (fixedIn 2 listC)
-unfolding sheetAAlways fixedIn fieldsIn fixedSheet filled upto listCell rowCell first
-sheet-a-always-is-shut-out = values-apart _ _ first refl
+unfolding sheetAAlways fixedIn fieldsIn fixedSheet filled upto listCell rowCell
+sheet-a-always-is-shut-out = values-apart _ _ (λ (r : (ℕ × ℕ) × List ℕ). getD (r .1) 0 0) refl
 
 -- a sheet cut off: sheet C has no room in two places
 pub cut-off-is-shut-out : NoneMeets (cutOff 2 twoPlaces) (fixedIn 2 twoPlaces)
-unfolding cutOff fixedIn fieldsIn fixedSheet filled upto listCell rowCell told
-cut-off-is-shut-out = values-apart _ _ told refl
-
--- the slots done, and what remains of the second row's job
-done : BoxTold → ℕ
-done (refusal, (n, lent)) = n
-
-remaining : BoxTold → ℕ
-remaining (refusal, (n, (state, codes))) = getD state 2 0
+unfolding cutOff fixedIn fieldsIn fixedSheet filled upto listCell rowCell
+cut-off-is-shut-out = values-apart _ _ (λ (r : (ℕ × ℕ) × List ℕ). r .0 .0) refl
 
 -- every slot counted: the second slot of sheet C is refused, so that one is done
 pub all-counted-is-shut-out : NoneMeets (allCounted listC tooSoon (boxOn listC fourPlaces tooSoon fourPlaces)) (boxOn listC fourPlaces tooSoon fourPlaces)
-unfolding allCounted done boxOn boxOf sheetIn rowIn fresh given nextState nextCodes slot slotAt onward course run checkRow checkReleases checkState checkRoom checkSlot checkRun released fits freeBelow freeAt worked older aged missed ended codeOf freshState legalState legalJob isZeroJob states.legalRecordAt legal legalAt legalRow firstOf upto allOf
-all-counted-is-shut-out = values-apart _ _ done refl
+unfolding allCounted boxOn boxOf sheetIn rowIn fresh given nextState nextCodes slot slotAt onward course run checkRow checkReleases checkState checkRoom checkSlot checkRun released fits freeBelow freeAt worked older aged missed ended codeOf freshState legalState legalJob isZeroJob states.legalRecordAt legal legalAt legalRow firstOf upto allOf
+all-counted-is-shut-out = values-apart _ _ (λ (r : BoxTold). r .1 .0) refl
 
 -- the state kept: three slots remain of the second row's job
 pub state-kept-is-shut-out : NoneMeets (stateKept fourPlaces (boxOn listC fourPlaces tooSoon fourPlaces)) (boxOn listC fourPlaces tooSoon fourPlaces)
-unfolding stateKept remaining filled pairCell boxOn boxOf sheetIn rowIn fresh given nextState nextCodes slot slotAt onward course run checkRow checkReleases checkState checkRoom checkSlot checkRun released fits freeBelow freeAt worked older aged missed ended codeOf freshState legalState legalJob isZeroJob states.legalRecordAt legal legalAt legalRow firstOf upto allOf
-state-kept-is-shut-out = values-apart _ _ remaining refl
+unfolding stateKept filled pairCell boxOn boxOf sheetIn rowIn fresh given nextState nextCodes slot slotAt onward course run checkRow checkReleases checkState checkRoom checkSlot checkRun released fits freeBelow freeAt worked older aged missed ended codeOf freshState legalState legalJob isZeroJob states.legalRecordAt legal legalAt legalRow firstOf upto allOf
+state-kept-is-shut-out = values-apart _ _ (λ (r : BoxTold). getD (r .1 .1 .0) 2 0) refl

@@ -1,6 +1,6 @@
 -- The accepted slots of any calls are a chain: of one slot, of a run, and of calls one after another. Assumes nothing.
-use Rattle.basis.specs.Prelude.{ℕ, zero, suc, _+_, _*_, _-_, _/_, _≤_, _<_, _≡_, refl, sym, ap, ap₂, subst, _∙_, List, [], _∷_, _++_, arith, mul-le-mul-right, add-one, length, take, drop, length-drop, take-append-drop, getD-take, length-take-le, take-append-le, drop-append-le, drop-at}
-use Rattle.green.proofs.Names.{Outcome, accepted, refused, upto-below, Sheet, State, code, checkSlot, checkRun, SlotAnswer, RunAnswer, slotAnswer, runAnswer, given, nextState, nextCodes, slotBy, slot, entriesOf, slotAt, onward, course, run, legal-state-is, Call, one-slot, a-run, Done, slotDone, runDone, slotsOf, stateAfter, history, stateAfterAll}
+use Rattle.basis.specs.Prelude.{ℕ, zero, suc, _+_, _*_, _-_, _/_, _≤_, _<_, _≡_, refl, sym, _∙_, List, [], _∷_, _++_, arith, mul-le-mul-right, add-one, length, take, drop, length-drop, take-append-drop, getD-take, length-take-le, take-append-le, drop-append-le, drop-at}
+use Rattle.green.proofs.Names.{Outcome, accepted, refused, upto-below, Sheet, State, code, checkSlot, checkRun, SlotAnswer, RunAnswer, slotAnswer, runAnswer, given, nextState, nextCodes, slotBy, slot, entriesOf, slotAt, onward, course, run, legal-state-is, Call, one-slot, a-run, slotDone, runDone, slotsOf, stateAfter, history, stateAfterAll}
 use Rattle.machine.proofs.Inside.Answers.{Accepted-slot, slot-shows}
 use Rattle.machine.proofs.Inside.Courses.{followed}
 use Rattle.green.proofs.Inside.Chains.{Slotted, Chain, none, more, chain-append}
@@ -15,9 +15,7 @@ module _ (h : Sheet) (t : State) (rel cs : List ℕ) (e : checkSlot h t rel (len
   slotted-so = record {
     state = legal-state-is h t (shown .in-order .most-rows) (shown .in-order .state-legal);
     fine = shown .releases;
-    wrote = λ k l.
-        getD-take (h .count) (nextCodes h t rel cs) k 0 l
-        ∙ upto-below (h .count) (code (given h t rel)) cs 0 k l (omega (arith, shown .long, shown .roomy));
+    wrote = λ k l. rw getD-take (upto-below (h .count) (code (given h t rel)) cs 0 k l (omega (arith, shown .long, shown .roomy)));
   }
 
 -- what a slot hands over, by its outcome
@@ -37,8 +35,7 @@ slot-chain h t rel cs = go (checkSlot h t rel (length cs)) refl
 done-alike : (n : ℕ) (rel cs ds : List ℕ) (d : ℕ) → ((i : ℕ) → i < d → entriesOf n i cs ≡ entriesOf n i ds) → runDone n rel cs d ≡ runDone n rel ds d
 unfolding runDone
 done-alike n rel cs ds zero h = refl
-done-alike n rel cs ds (suc d) h =
-    ap₂ (λ (x : List Done) (y : List ℕ). x ++ (record { releases = entriesOf n d rel; codes = y } ∷ [])) (done-alike n rel cs ds d (λ i l. h i (omega arith))) (h d (omega arith))
+done-alike n rel cs ds (suc d) h = rw (done-alike n rel cs ds d (λ i l. h i (omega arith)), h d (omega arith))
 
 -- what a run has done after j slots
 record Going (h : Sheet) (t : State) (rel : List ℕ) (j : ℕ) (c : RunAnswer State) : Type 0 where
@@ -68,43 +65,29 @@ module _ (h : Sheet) (t : State) (rel : List ℕ) (j : ℕ) (u : State) (cs : Li
 
     -- the codes of this slot, and of those before it
     here : entriesOf n j after ≡ take n (nextCodes h u own rest)
-    here = ap (take n) (drop-at (take (j * n) cs) (nextCodes h u own rest) (j * n) front)
+    here = rw (drop-at (take (j * n) cs) (nextCodes h u own rest) (j * n) front)
 
     there : (i : ℕ) → i < j → entriesOf n i after ≡ entriesOf n i cs
     there i l =
         let room : i * n + n ≤ j * n = omega (arith, mul-le-mul-right {m = i + 1} {n = j} n (omega arith)) in
-        ap (take n) (drop-append-le (i * n) (take (j * n) cs) (nextCodes h u own rest) (omega (arith, front)))
-        ∙ take-append-le n (drop (i * n) (take (j * n) cs)) (nextCodes h u own rest) (omega (arith, front, length-drop (i * n) (take (j * n) cs)))
-        ∙ sym (ap (take n) (drop-append-le (i * n) (take (j * n) cs) (drop (j * n) cs) (omega (arith, front)))
-        ∙ take-append-le n (drop (i * n) (take (j * n) cs)) (drop (j * n) cs) (omega (arith, front, length-drop (i * n) (take (j * n) cs))))
-        ∙ ap (entriesOf n i) (take-append-drop (j * n) cs)
+        let a : i * n ≤ length (take (j * n) cs) = omega (arith, front) in
+        let b : n ≤ length (drop (i * n) (take (j * n) cs)) = omega (arith, front, length-drop (i * n) (take (j * n) cs)) in
+        let near : (x : List ℕ) → entriesOf n i (take (j * n) cs ++ x) ≡ take n (drop (i * n) (take (j * n) cs)) = λ x. rw (drop-append-le, take-append-le) in
+        near _ ∙ rw take-append-drop at (sym (near (drop (j * n) cs)))
 
     one-more : Chain h t (runDone n rel after (j + 1)) (nextState h u own)
     unfolding runDone
-    one-more =
-        subst (λ (d : ℕ). Chain h t (runDone n rel after d) (nextState h u own)) (sym (add-one j))
-        (chain-append h (subst (λ (x : List Done). Chain h t x u) (sym (done-alike n rel after cs j there)) c)
-        (more (subst (λ (x : List ℕ). Slotted h u (record { releases = own; codes = x })) (sym here) (slotted-so h u own rest e)) none))
+    one-more = rw (add-one, done-alike n rel after cs j there, here) (chain-append h c (more (slotted-so h u own rest e) none))
 
   followed-so : (o : Outcome) → checkSlot h u own (length rest) ≡ o → Going h t rel (suc j) (followed j (slotAnswer o (over h u own rest o .state) (take (j * n) cs ++ over h u own rest o .codes)))
   followed-so accepted e = record { counted = λ x. add-one j; chain = one-more e }
-  followed-so (refused number place) e = record {
-    counted = λ x. let z : _≡_ {A = ℕ} 0 1 = cc in absurd (omega arith);
-    chain = subst (λ (x : List ℕ). Chain h t (runDone n rel x j) u) (sym (take-append-drop (j * n) cs)) c;
-  }
+  followed-so (refused number place) e = record { counted = λ x. let z : _≡_ {A = ℕ} 0 1 = cc in absurd (omega arith); chain = rw take-append-drop c }
 
 -- by the outcome of the slots so far
 going-on : (h : Sheet) (t : State) (rel : List ℕ) (j : ℕ) (c : RunAnswer State) → Going h t rel j c → (o : Outcome) → c .outcome ≡ o → Going h t rel (suc j) (onward h rel j c)
 unfolding onward slotAt slot
-going-on h t rel j c g accepted e =
-    let d : c .done ≡ j = g .counted e in
-    let k = subst (λ (x : ℕ). Chain h t (runDone (h .count) rel (c .codes) x) (c .state)) d (g .chain) in
-    rw (e, d) (followed-so h t rel j (c .state) (c .codes) k _ refl)
-going-on h t rel j c g (refused number place) e =
-    rw e (record {
-      counted = λ x. let f : refused number place ≡ accepted = x in let z : _≡_ {A = ℕ} 0 1 = cc in absurd (omega arith);
-      chain = g .chain;
-    })
+going-on h t rel j c g accepted e = let d : c .done ≡ j = g .counted e in rw (e, d) (followed-so h t rel j (c .state) (c .codes) (rw d at (g .chain)) _ refl)
+going-on h t rel j c g (refused number place) e = rw e (record { counted = λ x. let z : _≡_ {A = ℕ} 0 1 = cc in absurd (omega arith); chain = g .chain })
 
 run-going : (h : Sheet) (t : State) (rel cs : List ℕ) (o : Outcome) (j : ℕ) → Going h t rel j (course h rel (runAnswer 0 o t cs) j)
 unfolding course runDone

@@ -20,9 +20,7 @@ bound-of-four = refl
 
 -- and a job of it that waits twice finishes in the fourth slot, and no earlier
 pub finishes-in-exactly-its-bound : (releaseIn (history sheetD (freshOf sheetD) tight) 0 1 ≡ 2)
-    × (codeIn (history sheetD (freshOf sheetD) tight) 0 1 ≡ 1)
-    × (codeIn (history sheetD (freshOf sheetD) tight) 1 1 ≡ 2)
-    × (codeIn (history sheetD (freshOf sheetD) tight) 2 1 ≡ 1)
-    × (codeIn (history sheetD (freshOf sheetD) tight) 3 1 ≡ 3)
+    × (codeIn (history sheetD (freshOf sheetD) tight) 0 1 ≡ 1) × (codeIn (history sheetD (freshOf sheetD) tight) 1 1 ≡ 2)
+    × (codeIn (history sheetD (freshOf sheetD) tight) 2 1 ≡ 1) × (codeIn (history sheetD (freshOf sheetD) tight) 3 1 ≡ 3)
 unfolding history runDone fresh given nextState nextCodes slot slotAt onward course run checkRow checkReleases checkState checkRoom checkSlot checkRun released fits freeBelow freeAt worked older aged missed ended codeOf freshState legalState legalJob isZeroJob states.legalRecordAt legal legalAt legalRow firstOf upto allOf
 finishes-in-exactly-its-bound = (refl, refl, refl, refl, refl)

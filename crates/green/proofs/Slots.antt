@@ -1,6 +1,6 @@
 -- From the machine's own slot to what the argument for green needs of a slot. Assumes nothing.
-use Rattle.basis.specs.Prelude.{ℕ, zero, suc, _+_, _*_, _-_, _≤_, _<_, min, _≡_, refl, sym, ap, subst, _∙_, Bool, true, false, ⊎-elim, List, arith, getD, ltb, leb, ltb-true, lt-ltb, ne-eqb}
-use Rattle.green.proofs.Names.{pick, both, accepted, sum-same, lt-or-le, rowAt, Row, Sheet, Job, RowState, State, recordAt, begun, free, runs, reached, released, fits, worked, older, aged, ended, checkAt, checkReleases, given, nextState, LegalState, next-at, release-allowed, older-below, older-full, ended-less, Moment, owed, age, Slot}
+use Rattle.basis.specs.Prelude.{ℕ, zero, suc, _+_, _*_, _-_, _≤_, _<_, min, _≡_, refl, _∙_, Bool, true, false, ⊎-elim, List, arith, getD, ltb, leb, ltb-true, lt-ltb, ne-eqb}
+use Rattle.green.proofs.Names.{pick, both, accepted, sum-same, lt-or-le, rowAt, Row, Sheet, Job, State, recordAt, begun, free, runs, reached, released, fits, worked, older, aged, ended, checkAt, checkReleases, given, nextState, LegalState, next-at, release-allowed, older-below, older-full, ended-less, Moment, owed, age, Slot}
 use Rattle.basis.proofs.Inside.FirstRefusal.{first-at}
 use Rattle.machine.proofs.Placement.{takenBy, processors-are-kept, waits-unfit}
 use Rattle.green.proofs.Sheets.{rowsOf}
@@ -19,15 +19,10 @@ at-most-one false = omega arith
 
 -- ---- a row's steps, by themselves
 
-pub released-remaining : (r : ℕ) (s : Job) → released r s .remaining ≡ owed r (s .remaining)
-unfolding released owed
-released-remaining zero s = refl
-released-remaining (suc r) s = simp (ne-eqb (suc r) 0 (λ e. omega arith))
-
-pub released-since : (r : ℕ) (s : Job) → released r s .since ≡ age r (s .since)
-unfolding released age
-released-since zero s = refl
-released-since (suc r) s = simp (ne-eqb (suc r) 0 (λ e. omega arith))
+released-is : (r : ℕ) (s : Job) → (released r s .remaining ≡ owed r (s .remaining)) × (released r s .since ≡ age r (s .since))
+unfolding released owed age
+released-is zero s = (refl, refl)
+released-is (suc r) s = let d = ne-eqb (suc r) 0 (λ e. omega arith) in (rw d, rw d)
 
 -- a row that runs has a job
 runs-with-job : (f : ℕ) (row : Row) (s : Job) → bit (fits f row s) ≤ s .remaining
@@ -49,15 +44,15 @@ unfolding worked
 worked-remaining true s = refl
 worked-remaining false s = omega arith
 
--- what a row that runs takes, as a product
-taken-as : (b : Bool) (n : ℕ) → pick b n 0 ≡ bit b * n
-taken-as true n = omega arith
-taken-as false n = omega arith
-
 -- where a row's bit is none it does not run
 not-running : (b : Bool) → bit b ≡ 0 → b ≡ false
 not-running true e = absurd (omega arith)
 not-running false e = refl
+
+-- what a row that runs takes, as a product
+taken-as : (b : Bool) (n : ℕ) → pick b n 0 ≡ bit b * n
+taken-as true n = omega arith
+taken-as false n = omega arith
 
 -- ---- the slot of a sheet
 module _ (h : Sheet) (t : State) (rel : List ℕ) (state : LegalState h t) (fine : checkReleases h t rel ≡ accepted) where
@@ -70,11 +65,7 @@ module _ (h : Sheet) (t : State) (rel : List ℕ) (state : LegalState h t) (fine
 
   pub begin-remaining : (k : ℕ) → begin k .remaining ≡ owed (getD rel k 0) (recordAt t k .job .remaining)
   unfolding given
-  begin-remaining k = released-remaining (getD rel k 0) (recordAt t k .job)
-
-  begin-since : (k : ℕ) → begin k .since ≡ age (getD rel k 0) (recordAt t k .job .since)
-  unfolding given
-  begin-since k = released-since (getD rel k 0) (recordAt t k .job)
+  begin-remaining k = released-is (getD rel k 0) (recordAt t k .job) .0
 
   pub released-so : (k : ℕ) → k < h .count → 1 ≤ getD rel k 0 → (recordAt t k .job .since ≡ rowAt h k .separation) × (getD rel k 0 ≤ rowAt h k .budget)
   unfolding checkReleases
@@ -85,7 +76,7 @@ module _ (h : Sheet) (t : State) (rel : List ℕ) (state : LegalState h t) (fine
   -- after steps 3 and 4
   pub reached-remaining : (k : ℕ) → reached (given h t rel) k .remaining ≡ owed (getD rel k 0) (recordAt t k .job .remaining) - ran k
   unfolding aged ran
-  reached-remaining k = worked-remaining (runs (given h t rel) k) (begin k) ∙ ap (λ (x : ℕ). x - ran k) (begin-remaining k)
+  reached-remaining k = omega (arith, worked-remaining (runs (given h t rel) k) (begin k), begin-remaining k)
 
   not-older : (k : ℕ) → k < h .count → age (getD rel k 0) (recordAt t k .job .since) ≤ rowAt h k .separation
   unfolding age
@@ -97,15 +88,15 @@ module _ (h : Sheet) (t : State) (rel : List ℕ) (state : LegalState h t) (fine
 
   pub reached-since : (k : ℕ) → k < h .count → reached (given h t rel) k .since ≡ min (rowAt h k .separation) (age (getD rel k 0) (recordAt t k .job .since) + 1)
   unfolding aged worked given
-  reached-since k l = ap (older (rowAt h k .separation)) (begin-since k) ∙ older-is _ _ (not-older k l)
+  reached-since k l = rw (released-is (getD rel k 0) (recordAt t k .job) .1) (older-is _ _ (not-older k l))
 
   pub next-since : (k : ℕ) → k < h .count → recordAt (nextState h t rel) k .job .since ≡ reached (given h t rel) k .since
   unfolding ended
-  next-since k l = ap (λ (s : RowState). s .job .since) (next-at h t rel state k l)
+  next-since k l = rw (next-at h t rel state k l)
 
   next-remaining : (k : ℕ) → k < h .count → recordAt (nextState h t rel) k .job .remaining ≤ reached (given h t rel) k .remaining
   unfolding given
-  next-remaining k l = subst (λ (s : RowState). s .job .remaining ≤ reached (given h t rel) k .remaining) (sym (next-at h t rel state k l)) (ended-less (rowAt h k) (reached (given h t rel) k))
+  next-remaining k l = rw (next-at h t rel state k l) (ended-less (rowAt h k) (reached (given h t rel) k))
 
   pub slot-is : (n : ℕ) → n ≤ h .count → Slot (rowsOf h n) (momentOf t) (λ k. getD rel k 0) ran (momentOf (nextState h t rel))
   unfolding ran given
@@ -114,12 +105,9 @@ module _ (h : Sheet) (t : State) (rel : List ℕ) (state : LegalState h t) (fine
     once = λ i l. at-most-one (runs (given h t rel) i);
     runs = λ i l. omega (arith, runs-with-job (free (given h t rel) i) (rowAt h i) (begin i), begin-remaining i);
     waits = λ k l j e.
-        omega (
-          arith,
-          waits-unfit (given h t rel) k (lt-ltb 0 (begin k .remaining) (omega (arith, begin-remaining k))) (not-running (runs (given h t rel) k) e),
-          processors-are-kept (given h t rel) k,
-          sum-same k (takenBy (given h t rel)) (λ i. ran i * rowAt h i .threads) (λ i g. taken-as (runs (given h t rel) i) (rowAt h i .threads)),
-        );
+        let unfit = waits-unfit (given h t rel) k (lt-ltb 0 (begin k .remaining) (omega (arith, begin-remaining k))) (not-running (runs (given h t rel) k) e) in
+        let taken = sum-same k (takenBy (given h t rel)) (λ i. ran i * rowAt h i .threads) (λ i g. taken-as (runs (given h t rel) i) (rowAt h i .threads)) in
+        omega (arith, processors-are-kept (given h t rel) k);
     ages = λ i l. next-since i (omega arith) ∙ reached-since i (omega arith);
     left = λ i l. omega (arith, next-remaining i (omega arith), reached-remaining i);
   }

@@ -1,8 +1,8 @@
 -- Demand 3: on a legal sheet whose first n rows have bounds, from a fresh machine, whatever calls follow, each of their jobs is finished within its row's bound and
 -- none of their deadlines is missed; all rows have bounds where the sheet holds. Assumes nothing.
-use Rattle.basis.specs.Prelude.{ℕ, _+_, _-_, _≤_, _<_, _≡_, sym, ap, _∙_, true, List, arith, replicate, length-replicate, le-ltb}
+use Rattle.basis.specs.Prelude.{ℕ, _+_, _-_, _≤_, _<_, _≡_, sym, _∙_, true, List, arith, replicate, length-replicate, le-ltb}
 use lib.IntN.{pos}
-use Rattle.green.proofs.Names.{mostRows, upto-below, rowAt, legal, Sheet, passes, isBound, valueOf, resultOf, holds, passes-local, bound-all, State, recordAt, freshAt, freshState, Job, RowState, noRecord, fresh, marginOf, Reached, Call, freshOf, history, stateAfterAll, NoJobIsLateTo, NoJobIsLate, Bounded}
+use Rattle.green.proofs.Names.{mostRows, upto-below, rowAt, legal, Sheet, passes, isBound, valueOf, resultOf, holds, passes-local, bound-all, recordAt, freshAt, freshState, Job, noRecord, fresh, marginOf, Reached, Call, freshOf, history, stateAfterAll, NoJobIsLateTo, NoJobIsLate, Bounded}
 use Rattle.sheet.proofs.Legality.{legal-is}
 use Rattle.machine.proofs.Inside.Differences.{less-twice}
 use Rattle.green.specs.Inside.Model as model
@@ -20,15 +20,11 @@ module _ (h : Sheet) (fine : legal h ≡ true) where
   fresh-record : (k : ℕ) → k < h .count → recordAt (freshOf h) k ≡ freshAt h k
   unfolding freshState
   fresh-record k l =
-      ap (λ (t : State). recordAt t k) fresh-is
-      ∙ upto-below (h .count) (freshAt h) (replicate mostRows noRecord) noRecord k l (omega (arith, legal-is h fine .most-rows, length-replicate mostRows noRecord))
+      rw fresh-is (upto-below (h .count) (freshAt h) (replicate mostRows noRecord) noRecord k l (omega (arith, legal-is h fine .most-rows, length-replicate mostRows noRecord)))
 
   module _ (n : ℕ) (up : Bounded h n) where
     fresh-leads : Reached (rowsOf h n) (momentOf (freshOf h))
-    fresh-leads =
-        model.fresh (λ i l.
-        let e = fresh-record i (omega (arith, up .within)) in
-        (ap (λ (s : RowState). s .job .remaining) e, ap (λ (s : RowState). s .job .since) e))
+    fresh-leads = model.fresh (λ i l. let e = fresh-record i (omega (arith, up .within)) in (λ j. e j .job .remaining, λ j. e j .job .since))
 
     -- demand 3 of the first n rows
     pub no-job-is-late-to : NoJobIsLateTo n h
@@ -63,5 +59,4 @@ module _ (h : Sheet) (fine : legal h ≡ true) where
 
   -- a row that has a bound: so have those above it, and no job of these or of itself is late, whatever stands below
   pub no-job-above-is-late : (k : ℕ) → k < h .count → isBound (resultOf passes h k) ≡ true → NoJobIsLateTo (k + 1) h
-  no-job-above-is-late k l b =
-      no-job-is-late-to (k + 1) (record { within = omega arith; all = sym (bound-all passes passes-local h k) ∙ b })
+  no-job-above-is-late k l b = no-job-is-late-to (k + 1) (record { within = omega arith; all = sym (bound-all passes passes-local h k) ∙ b })

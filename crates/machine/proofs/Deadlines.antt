@@ -2,7 +2,7 @@
 use Rattle.basis.specs.Prelude.{ℕ, zero, suc, _+_, _≤_, _<_, _≡_, sym, ap, _∙_, Bool, true, false, List, length, getD, arith, lt-ltb, eq-eqb}
 use lib.IntN.{pos}
 use lib.Signed.{_<ℤ_}
-use Rattle.machine.proofs.Names.{accepted, first-at, rowAt, Row, Sheet, legal-is, Job, RowState, released, worked, aged, ended, codeOf, checkRow, State, recordAt, begun, runs, checkAt, checkReleases, SlotAnswer, slotAnswer, given, slot, marginOf, released-none, release-allowed, worked-near, worked-one, worked-none, older-below, ended-else, ended-since}
+use Rattle.machine.proofs.Names.{accepted, first-at, rowAt, Row, Sheet, legal-is, Job, RowState, released, worked, aged, ended, codeOf, checkRow, State, recordAt, begun, runs, checkAt, checkReleases, SlotAnswer, slotAnswer, given, slot, marginOf, released-none, release-allowed, worked-near, worked-one, worked-none, older-below, ended-else}
 use Rattle.machine.proofs.Agree.{slot-passed, record-after, code-after}
 use Rattle.machine.proofs.Inside.Answers.{Accepted-slot, slot-shows}
 use Rattle.machine.proofs.Inside.Legals.{legal-state-is}
@@ -82,21 +82,17 @@ module _ (h : Sheet) (n : ℕ) (g : Continuation h n) (k : ℕ) (there : k < h .
     unfolding aged
     finished-now e = code-now ∙ code-is row (ran i) (at i) (aged row left) ∙ rw (lt-ltb 0 (at i .remaining) job, e)
 
-    -- a job that is not through by the slot before its deadline goes on
-    still-there : (at i .since + 1 ≡ row .deadline → ⊥) → at (suc i) .remaining ≡ left .remaining
-    unfolding aged
-    still-there d = ap (λ (j : Job). j .remaining) next-now ∙ ended-else row (aged row left) (λ e. d (sym older-now ∙ e))
-
-    one-older : at (suc i) .since ≡ at i .since + 1
-    one-older = ap (λ (j : Job). j .since) next-now ∙ ended-since row (aged row left) ∙ older-now
+    -- a job that is not through by the slot before its deadline goes on, a slot older
+    goes-on : (at i .since + 1 ≡ row .deadline → ⊥) → (at (suc i) .remaining ≡ left .remaining) × (at (suc i) .since ≡ at i .since + 1)
+    unfolding aged ended
+    goes-on d = (rw next-now (ended-else row (aged row left) (λ e. d (sym older-now ∙ e))), rw next-now older-now)
 
   -- a job with more to run than slots to its deadline is missed at its deadline, in slot j, d slots after slot i
   late : (d i j : ℕ) → i + d ≡ j → j < n → 1 ≤ at i .remaining → at i .since + d + 1 ≡ row .deadline → row .deadline < at i .since + at i .remaining → getD (codes j) k 0 ≡ 4
   late zero i j q b job e l = let s : j ≡ i = omega arith in rw s (missed-now i (omega arith) job (omega (arith, worked-near (ran i) (at i))) (omega arith))
   late (suc d) i j q b job e l =
       let near = worked-near (ran i) (at i) in
-      let more = still-there i (omega arith) job (λ f. omega arith) in
-      let older = one-older i (omega arith) job in
+      let on = goes-on i (omega arith) job (λ f. omega arith) in
       late d (suc i) j (omega arith) b (omega arith) (omega arith) (omega arith)
 
   -- a job that has just enough slots and runs in each is finished at its deadline
@@ -105,8 +101,7 @@ module _ (h : Sheet) (n : ℕ) (g : Continuation h n) (k : ℕ) (there : k < h .
   just zero i j q b job e l r = let s : j ≡ i = omega arith in rw s (finished-now i (omega arith) job (omega (arith, worked-one (ran i) (at i) (r i (omega arith) (omega arith)))))
   just (suc d) i j q b job e l r =
       let one-less = worked-one (ran i) (at i) (r i (omega arith) (omega arith)) in
-      let more = still-there i (omega arith) job (λ f. omega arith) in
-      let older = one-older i (omega arith) job in
+      let on = goes-on i (omega arith) job (λ f. omega arith) in
       just d (suc i) j (omega arith) b (omega arith) (omega arith) (omega arith) (λ x a c. r x (omega arith) c)
 
   -- a job that has just enough slots and waits in one of them, slot w, is missed at its deadline
@@ -115,19 +110,16 @@ module _ (h : Sheet) (n : ℕ) (g : Continuation h n) (k : ℕ) (there : k < h .
   waited zero zero i w j p q a b job e l r =
       let here : w ≡ i = omega arith in
       let all = worked-none (ran i) (at i) (rw here at r) in
-      let s : j ≡ i = omega arith in
-      rw s (missed-now i (omega arith) job (omega arith) (omega arith))
+      let s : j ≡ i = omega arith in rw s (missed-now i (omega arith) job (omega arith) (omega arith))
   waited zero (suc d) i w j p q a b job e l r =
       let here : w ≡ i = omega arith in
       let all = worked-none (ran i) (at i) (rw here at r) in
-      let more = still-there i (omega arith) job (λ f. omega arith) in
-      let older = one-older i (omega arith) job in
+      let on = goes-on i (omega arith) job (λ f. omega arith) in
       late d (suc i) j (omega arith) b (omega arith) (omega arith) (omega arith)
   waited (suc v) zero i w j p q a b job e l r = absurd (omega arith)
   waited (suc v) (suc d) i w j p q a b job e l r =
       let near = worked-near (ran i) (at i) in
-      let more = still-there i (omega arith) job (λ f. omega arith) in
-      let older = one-older i (omega arith) job in
+      let on = goes-on i (omega arith) job (λ f. omega arith) in
       waited v d (suc i) w j (omega arith) (omega arith) (omega arith) b (omega arith) (omega arith) (omega arith) r
 
   -- what the margin says before the first of the slots; since reaches the deadline in slot d

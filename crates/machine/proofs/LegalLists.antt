@@ -1,8 +1,9 @@
 -- A list that holds a legal state: what it shows of its numbers, and the lists that are refused. Assumes nothing.
-use Rattle.basis.specs.Prelude.{ℕ, _+_, _-_, _*_, _/_, _%_, _≤_, _<_, _≡_, refl, sym, ap, _∙_, Bool, true, false, List, ⊎-elim, length, List·getD-eq-default, ext-getD, eqb, arith, mod-lt, div-add-mod', lt-ltb, le-ltb, eq-eqb, eqb-true}
-use Rattle.machine.proofs.Names.{mostRows, upto, lt-or-le, all-at, all-true, both-left, both-right, true-not-false, upto-below, upto-past, length-upto, legal, Sheet, legal-is, numberAt, not-so, RowState, State, stateOf, recordAt, legalState, recordOf, noRecord, isZero, isZeroJob, recordWide, recordIn, stateLong, zeroAt, zeroFrom, spareIsZero, stateIn, putTo, putState}
+use Rattle.basis.specs.Prelude.{ℕ, _+_, _-_, _*_, _/_, _%_, _≤_, _<_, _≡_, refl, sym, ap, _∙_, Bool, true, false, List, ⊎-elim, length, List·getD-eq-default, ext-getD, eqb, arith, mod-lt, div-add-mod', eqb-true}
+use Rattle.machine.proofs.Names.{mostRows, upto, lt-or-le, both-left, both-right, true-not-false, upto-below, upto-past, length-upto, legal, Sheet, legal-is, numberAt, not-so, RowState, State, stateOf, recordAt, legalState, recordOf, noRecord, isZero, isZeroJob, recordWide, recordIn, stateLong, spareIsZero, stateIn, putTo, putState}
 use Rattle.machine.proofs.Inside.Legals.{legal-state-is}
 use Rattle.machine.proofs.Inside.RecordLists.{record-in-state, record-of-none, length-put-to, put-past, put-agree, put-own, state-rows-long, state-put}
+use Rattle.machine.proofs.Inside.Zeros.{each-zero}
 
 -- a list that holds a legal state
 module _ (h : Sheet) (l : List ℕ) (fine : legal h ≡ true) where
@@ -22,8 +23,8 @@ module _ (h : Sheet) (l : List ℕ) (fine : legal h ≡ true) where
   by-spare f = go (spareIsZero l) refl
     where
       go : (b : Bool) → spareIsZero l ≡ b → legalState h (stateIn l) ≡ false
-      go true e = f e
-      go false e = spare-records-are-refused e
+      go true = f
+      go false = spare-records-are-refused
 
   -- A state's list that ends before its last record is refused: the slots since release that it lacks are zero.
   pub missing-records-are-refused : length l < stateLong (h .count) → legalState h (stateIn l) ≡ false
@@ -31,17 +32,15 @@ module _ (h : Sheet) (l : List ℕ) (fine : legal h ≡ true) where
   missing-records-are-refused b = by-spare λ e.
       let r = legal-is h fine in
       let k : ℕ = h .count - 1 in
-      let there : k < mostRows = omega (arith, r .some-rows, r .most-rows) in
-      no-since k (omega (arith, r .some-rows))
-      (ap (λ (s : RowState). s .job .since) (record-in-state l k e there) ∙ List·getD-eq-default l 0 {n = k * recordWide + 1} (omega (arith, r .some-rows)))
+      no-since k (omega arith) (rw (record-in-state l k e (omega arith)) (List·getD-eq-default l 0 {n = k * recordWide + 1} (omega arith)))
 
   -- what a legal state shows of its list
   module _ (kept : legalState h (stateIn l) ≡ true) where
     pub kept-spare : spareIsZero l ≡ true
     kept-spare = go (spareIsZero l) refl
       where
-        go : (b : Bool) → spareIsZero l ≡ b → spareIsZero l ≡ true
-        go true e = e
+        go : (b : Bool) → spareIsZero l ≡ b → b ≡ true
+        go true e = refl
         go false e = true-not-false (sym kept ∙ spare-records-are-refused e)
 
     pub kept-long : (n : ℕ) → n ≡ h .count → stateLong n ≤ length l
@@ -54,36 +53,23 @@ module _ (h : Sheet) (l : List ℕ) (fine : legal h ≡ true) where
     pair-zero : (i : ℕ) → isZero (recordIn l (i / recordWide)) ≡ true → numberAt l i ≡ 0
     unfolding isZeroJob recordIn
     pair-zero i e =
-        ⊎-elim (λ a. ap (λ (j : ℕ). numberAt l j) (first a) ∙ eqb-true _ 0 (both-left (eqb (numberAt l (i / recordWide * recordWide)) 0) _ e))
-        (λ a. ap (λ (j : ℕ). numberAt l j) (second a) ∙ eqb-true _ 0 (both-right (eqb (numberAt l (i / recordWide * recordWide)) 0) _ e))
+        let by = div-add-mod' i recordWide in
+        let small = mod-lt i {m = recordWide} (omega arith) in
+        ⊎-elim
+        (λ a. let s : i ≡ i / recordWide * recordWide = omega arith in ap (numberAt l) s ∙ eqb-true _ 0 (both-left (eqb (numberAt l (i / recordWide * recordWide)) 0) _ e))
+        (λ a. let s : i ≡ i / recordWide * recordWide + 1 = omega arith in ap (numberAt l) s ∙ eqb-true _ 0 (both-right (eqb (numberAt l (i / recordWide * recordWide)) 0) _ e))
         (lt-or-le (i % recordWide) 1)
-      where
-        first : i % recordWide < 1 → i ≡ i / recordWide * recordWide
-        first a = omega (arith, div-add-mod' i recordWide)
 
-        second : 1 ≤ i % recordWide → i ≡ i / recordWide * recordWide + 1
-        second a = omega (arith, div-add-mod' i recordWide, mod-lt i {m = recordWide} (omega arith))
-
-    pub past-is-zero : (i : ℕ) → i < length l → stateLong (h .count) ≤ i → numberAt l i ≡ 0
-    unfolding zeroFrom zeroAt
-    past-is-zero i b m = ⊎-elim
+    pub past-is-zero : (i : ℕ) → stateLong (h .count) ≤ i → numberAt l i ≡ 0
+    past-is-zero i m = ⊎-elim
         (λ a. let there : i / recordWide < mostRows = omega (arith, div-add-mod' i recordWide) in
         pair-zero i (ap isZero (sym (record-in-state l (i / recordWide) kept-spare there))
         ∙ legal-state-is h (stateIn l) few kept .past (i / recordWide) (omega (arith, div-add-mod' i recordWide, mod-lt i {m = recordWide} (omega arith))) there))
-        (λ a. eqb-true (numberAt l i) 0 (rw (le-ltb i (stateLong mostRows) a) at (all-at (length l) (zeroAt (stateLong mostRows) l) kept-spare i b)))
-        (lt-or-le i (stateLong mostRows))
-
-    pub kept-zeros : zeroFrom (stateLong (h .count)) l ≡ true
-    unfolding zeroFrom zeroAt
-    kept-zeros =
-        all-true (length l) (zeroAt (stateLong (h .count)) l)
-        (λ i b. ⊎-elim (λ a. rw (lt-ltb i (stateLong (h .count)) a)) (λ a. rw (le-ltb i (stateLong (h .count)) a, eq-eqb (numberAt l i) 0 (past-is-zero i b a))) (lt-or-le i (stateLong (h .count))))
+        (each-zero (stateLong mostRows) l kept-spare i) (lt-or-le i (stateLong mostRows))
 
 -- A state's list with a number other than zero past the records of the sheet's rows is refused.
 pub numbers-past-records-are-refused : (h : Sheet) (l : List ℕ) → legal h ≡ true → (i : ℕ) → stateLong (h .count) ≤ i → (numberAt l i ≡ 0 → ⊥) → legalState h (stateIn l) ≡ false
-numbers-past-records-are-refused h l fine i b d =
-    not-so (legalState h (stateIn l))
-    (λ kept. ⊎-elim (λ a. d (past-is-zero h l fine kept i a b)) (λ a. d (List·getD-eq-default l 0 {n = i} a)) (lt-or-le i (length l)))
+numbers-past-records-are-refused h l fine i b d = not-so (legalState h (stateIn l)) (λ kept. d (past-is-zero h l fine kept i b))
 
 -- A list that holds a legal state is any other such list, as long, with that state put into it.
 pub list-of-kept : (h : Sheet) (l l₀ : List ℕ) → legal h ≡ true → legalState h (stateIn l) ≡ true → legalState h (stateIn l₀) ≡ true → length l ≡ length l₀ → putState (h .count) (stateIn l) l₀ ≡ l
@@ -92,38 +78,26 @@ list-of-kept h l l₀ fine kept kept₀ long =
     put-agree (h .count) (recordAt (stateIn l)) (recordIn l) l₀ (λ k b. sym (kept-record h l fine kept k b))
     ∙ ext-getD 0 (putTo (h .count) (recordIn l) l₀) l (length-put-to (recordIn l) l₀ (h .count) ∙ sym long)
     (λ i b. ⊎-elim (λ a. put-own l l₀ (h .count) i a (kept-long h l₀ fine kept₀ (h .count) refl))
-    (λ a. put-past (recordIn l) l₀ (h .count) i a
-    ∙ past-is-zero h l₀ fine kept₀ i (omega (arith, length-put-to (recordIn l) l₀ (h .count))) a
-    ∙ sym (past-is-zero h l fine kept i (omega (arith, length-put-to (recordIn l) l₀ (h .count), long)) a))
-    (lt-or-le i (stateLong (h .count))))
+    (λ a. rw (put-past (recordIn l) l₀ (h .count) i a, past-is-zero h l₀ fine kept₀ i a, past-is-zero h l fine kept i a)) (lt-or-le i (stateLong (h .count))))
 
 -- a record that is all zero, as a value
 zero-record : (s : RowState) → isZero s ≡ true → s ≡ noRecord
 unfolding isZeroJob
 zero-record s e =
-    let a : s .job .remaining ≡ 0 = eqb-true _ 0 (both-left (eqb (s .job .remaining) 0) _ e) in
-    let b : s .job .since ≡ 0 = eqb-true _ 0 (both-right (eqb (s .job .remaining) 0) _ e) in
-    λ i. recordOf (record { remaining = a i; since = b i })
+    let a = eqb-true _ 0 (both-left (eqb (s .job .remaining) 0) _ e) in
+    let b = eqb-true _ 0 (both-right (eqb (s .job .remaining) 0) _ e) in λ i. recordOf (record { remaining = a i; since = b i })
 
 -- A legal state that is put into a list that holds a legal state is the state that the list hands over.
 pub state-comes-back : (h : Sheet) (l : List ℕ) (t : State) → legal h ≡ true → legalState h (stateIn l) ≡ true → legalState h t ≡ true → length (t .rows) ≡ mostRows
     → stateIn (putState (h .count) t l) ≡ t
 unfolding putState
 state-comes-back h l t fine kept also long =
+    let most = few h l fine in
+    let spare = kept-spare h l fine kept in
+    let whole : length (upto (h .count) (recordAt t) (stateIn l .rows)) ≡ mostRows = length-upto (h .count) (recordAt t) (stateIn l .rows) ∙ state-rows-long l spare in
     state-put (h .count) (recordAt t) l spare most (kept-long h l fine kept (h .count) refl)
-    ∙ ap stateOf
-    (ext-getD noRecord (upto (h .count) (recordAt t) (stateIn l .rows)) (t .rows) (whole ∙ sym long)
-    (λ k b. let there : k < mostRows = omega (arith, whole) in
-    ⊎-elim (λ a. upto-below (h .count) (recordAt t) (stateIn l .rows) noRecord k a (omega (arith, state-rows-long l spare, most)))
-    (λ a. upto-past (h .count) (recordAt t) (stateIn l .rows) noRecord k a
-    ∙ zero-record (recordAt (stateIn l) k) (legal-state-is h (stateIn l) most kept .past k a there)
-    ∙ sym (zero-record (recordAt t k) (legal-state-is h t most also .past k a there)))
-    (lt-or-le k (h .count)))) where
-      most : h .count ≤ mostRows
-      most = legal-is h fine .most-rows
-
-      spare : spareIsZero l ≡ true
-      spare = kept-spare h l fine kept
-
-      whole : length (upto (h .count) (recordAt t) (stateIn l .rows)) ≡ mostRows
-      whole = length-upto (h .count) (recordAt t) (stateIn l .rows) ∙ state-rows-long l spare
+    ∙ ap stateOf (ext-getD noRecord (upto (h .count) (recordAt t) (stateIn l .rows)) (t .rows) (whole ∙ sym long) (λ k b.
+    let there : k < mostRows = omega arith in
+    ⊎-elim (λ a. upto-below (h .count) (recordAt t) (stateIn l .rows) noRecord k a (omega (arith, state-rows-long l spare)))
+    (λ a. rw (upto-past (h .count) (recordAt t) (stateIn l .rows) noRecord k a, zero-record (recordAt (stateIn l) k) (legal-state-is h (stateIn l) most kept .past k a there))
+    (sym (zero-record (recordAt t k) (legal-state-is h t most also .past k a there)))) (lt-or-le k (h .count))))

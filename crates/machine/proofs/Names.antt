@@ -4,11 +4,11 @@ pub use Rattle.basis.proofs.Inside.Lists.{getD-all}
 pub use Rattle.basis.proofs.Inside.Upto.{length-upto, upto-agree, upto-below, upto-none, upto-past, upto-set}
 pub use Rattle.basis.proofs.Inside.Words.{all-at, all-fails, all-one-more, all-same, all-true, at-least, at-most, both-left, both-right, both-true, lt-or-le, true-not-false, within-true}
 pub use Rattle.basis.proofs.Refusals.{needed-holds, outcome-one-to-one}
-pub use Rattle.basis.specs.Limits.{mostProcessors, mostRows, mostSeparation}
+pub use Rattle.basis.specs.Limits.{mostRows, mostSeparation}
 pub use Rattle.basis.specs.Refusals.{Outcome, accepted, isAccepted, needed, orElse, outcome, refused}
 unfoldable pub use Rattle.basis.specs.Refusals.{firstOf}
 unfoldable pub use Rattle.basis.specs.Upto.{upto}
-pub use Rattle.basis.specs.Words.{both, pick, within}
+pub use Rattle.basis.specs.Words.{pick, within}
 unfoldable pub use Rattle.basis.specs.Words.{allOf, sum}
 pub use Rattle.basis.specs.declared.refusal.Refusal.{Refusal}
 pub use Rattle.basis.specs.declared.refusal.Refusal.the-variants.{Accepted, Refused}
@@ -16,14 +16,14 @@ pub use Rattle.machine.specs.Answers.{FreshAnswer, MarginAnswer, RunAnsw
 unfoldable pub use Rattle.machine.specs.Answers.{course, fresh, given, margin, marginAt, marginOf, nextCodes, nextState, onward, run, slot, slotAt}
 pub use Rattle.machine.specs.Checks.{checkAt}
 unfoldable pub use Rattle.machine.specs.Checks.{checkMargin, checkReleases, checkRoom, checkRun, checkSlot, checkState}
-pub use Rattle.machine.specs.Lists.{cleared, ranIn, recordWide, runListed, slotListed, spareIsZero, stateLong}
+pub use Rattle.machine.specs.Lists.{cleared, ranIn, recordWide, slotListed, spareIsZero, stateLong}
 unfoldable pub use Rattle.machine.specs.Lists.{freshOn, putRecord, putState, putTo, recordIn, runIn, slotIn, stateIn, zeroAt, zeroFrom}
 pub use Rattle.machine.specs.Slot.{Given, begun, code, free, next, runs}
 unfoldable pub use Rattle.machine.specs.Slot.{freeAt}
 pub use Rattle.machine.specs.States.{State, freshAt, noState, recordAt, stateOf}
 unfoldable pub use Rattle.machine.specs.States.{freshState, legalRecordAt, legalState}
 pub use Rattle.machine.specs.declared.places.Done.{Done}
-pub use Rattle.records.proofs.Inside.Records.{ended-at, ended-else, ended-less, ended-since, older-below, older-within, release-allowed, released-none, released-some, worked-near, worked-none, worked-one}
+pub use Rattle.records.proofs.Inside.Records.{ended-at, ended-else, ended-less, older-below, older-within, release-allowed, released-none, released-some, worked-near, worked-none, worked-one}
 unfoldable pub use Rattle.records.specs.Checks.{checkRow}
 pub use Rattle.records.specs.Records.{hasJob, isZero, legalRecord, noRecord, recordOf}
 unfoldable pub use Rattle.records.specs.Records.{isZeroJob, legalJob}

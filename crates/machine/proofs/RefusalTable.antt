@@ -1,8 +1,7 @@
 -- Every refusal is the table's: its number, and its place. Assumes nothing.
-use Rattle.basis.specs.Prelude.{ℕ, zero, suc, _*_, _/_, _%_, _<_, _≡_, sym, Bool, true, false, List, length, getD, drop, ltb, leb, eqb, arith}
+use Rattle.basis.specs.Prelude.{ℕ, zero, suc, _*_, _/_, _%_, _<_, _≡_, Bool, true, false, List, length, getD, drop, ltb, leb, eqb, arith}
 use Rattle.machine.proofs.Names.{pick, Outcome, accepted, refused, isAccepted, orElse, firstOf, needed, rowAt, legal, Row, Sheet, RowState, State, recordAt, legalState, hasJob, checkRow, checkAt, checkReleases, checkState, checkRoom, checkSlot, checkRun, checkMargin, RunAnswer, fresh, slot, entriesOf, slotAt, onward, course, run, no-job, margin-is, refused-by, marginOf, marginAt, marginBy, margin}
 use Rattle.machine.proofs.Inside.Courses.{followed}
-use Rattle.machine.proofs.Agree.{slot-outcome}
 
 -- the table's lines for calls of the machine, with n rows: number and place
 pub data InTable (n : ℕ) : ℕ → ℕ → Type 0 where
@@ -22,7 +21,7 @@ accepted-listed : {n : ℕ} → Listed n accepted
 accepted-listed = record { listed = λ a b e. let z : _≡_ {A = ℕ} 0 1 = cc in absurd (omega arith) }
 
 refused-listed : {n a b : ℕ} → InTable n a b → Listed n (refused a b)
-refused-listed {n} {a} {b} r = record { listed = λ c d e. let p : a ≡ c = cc in let q : b ≡ d = cc in rw (sym p, sym q) r }
+refused-listed {n} {a} {b} r = record { listed = λ c d e. let p : a ≡ c = cc in let q : b ≡ d = cc in rw (p, q) at r }
 
 or-listed : {n : ℕ} (x y : Outcome) → Listed n x → Listed n y → Listed n (orElse x y)
 or-listed accepted y l m = m
@@ -59,7 +58,7 @@ check-listed : (h : Sheet) (t : State) (rel : List ℕ) (room : ℕ) → Listed 
 unfolding checkSlot checkReleases
 check-listed h t rel room =
     or-listed (checkState h t) _ (state-listed h t)
-    (or-listed (checkRoom (eqb (length rel) (h .count)) (length rel) room) _ (room-listed (eqb (length rel) (h .count)) (length rel) room)
+    (or-listed _ _ (room-listed (eqb (length rel) (h .count)) (length rel) room)
     (first-listed (h .count) (checkAt h t rel) (λ i l. row-listed (rowAt h i) (recordAt t i) (getD rel i 0) i l)))
 
 -- each call's refusals
@@ -68,26 +67,23 @@ unfolding fresh
 fresh-refusals h = needed-listed (legal h) 10 sheet-not-legal
 
 pub slot-refusals : (h : Sheet) (t : State) (rel cs : List ℕ) → Listed (h .count) (slot h t rel cs .outcome)
-slot-refusals h t rel cs = rw slot-outcome (check-listed h t rel (length cs))
+unfolding slot
+slot-refusals h t rel cs = check-listed h t rel (length cs)
 
 -- of a run: those of its checks and those of its slots
 course-listed : (h : Sheet) (rel : List ℕ) (first : RunAnswer State) (j : ℕ) → Listed (h .count) (first .outcome) → Listed (h .count) (course h rel first j .outcome)
 unfolding course onward slotAt
 course-listed h rel first zero l = l
-course-listed h rel first (suc j) l = go (course h rel first j) (course-listed h rel first j l)
+course-listed h rel first (suc j) l = go (course h rel first j) (isAccepted (course h rel first j .outcome)) (course-listed h rel first j l)
   where
-    go : (c : RunAnswer State) → Listed (h .count) (c .outcome) → Listed (h .count) (onward h rel j c .outcome)
-    go c m = by (isAccepted (c .outcome))
-      where
-        by : (b : Bool) → Listed (h .count) (pick b (followed (c .done) (slotAt h (c .state) rel (c .codes) j)) c .outcome)
-        by true = slot-refusals h (c .state) (entriesOf (h .count) j rel) (drop (j * h .count) (c .codes))
-        by false = m
+    go : (c : RunAnswer State) (b : Bool) → Listed (h .count) (c .outcome) → Listed (h .count) (pick b (followed (c .done) (slotAt h (c .state) rel (c .codes) j)) c .outcome)
+    go c true m = slot-refusals h (c .state) (entriesOf (h .count) j rel) (drop (j * h .count) (c .codes))
+    go c false m = m
 
 pub run-refusals : (h : Sheet) (t : State) (rel cs : List ℕ) → Listed (h .count) (run h t rel cs .outcome)
 unfolding run checkRun
 run-refusals h t rel cs =
-    course-listed h rel _ (length rel / h .count)
-    (or-listed (checkState h t) _ (state-listed h t) (room-listed (eqb (length rel % h .count) 0) (length rel) (length cs)))
+    course-listed h rel _ (length rel / h .count) (or-listed (checkState h t) _ (state-listed h t) (room-listed (eqb (length rel % h .count) 0) (length rel) (length cs)))
 
 pub margin-refusals : (h : Sheet) (t : State) (k : ℕ) {a b : ℕ} → margin h t k ≡ refused-by a b → InTable (h .count) a b
 unfolding margin checkMargin marginAt

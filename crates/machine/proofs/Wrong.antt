@@ -8,32 +8,19 @@ use Rattle.records.specs.Wrong.{thirteenFirst, stopsAtUnfit, missedFirst}
 use Rattle.machine.specs.States as states
 use Rattle.machine.specs.Wrong.{freshWithJobs, freshTooYoung, freeToUnfit, slotToUnfit, slotOfAll, slotMissedFirst, slotUntouched, slotUnreleased, slotCodesAlways, checkThirteenFirst, anyReleases, slotThirteenFirst, runOfFirst, runMadeUp, runUntouched, roomFirst, anyState, zeroForNone, sinceLeftOut, marginOfFirst, freshKept, freshRoomless, slotListKept, slotCodesKept, runListKept, runListMadeUp, listC, freshListC, busyC}
 
--- ---- what is read off an answer: a number of a record, a code, the refusal's number
-
-abbrev remainingOf : ℕ → FreshAnswer State → ℕ
-remainingOf k x = recordAt (x .state) k .job .remaining
-
-abbrev sinceOf : ℕ → FreshAnswer State → ℕ
-sinceOf k x = recordAt (x .state) k .job .since
-
-abbrev leftAfter : ℕ → SlotAnswer State → ℕ
-leftAfter k x = recordAt (x .state) k .job .remaining
-
+-- what is read off an answer: a code
 abbrev codeAfter : ℕ → SlotAnswer State → ℕ
 codeAfter k x = getD (x .codes) k 0
-
-abbrev refusedAfter : SlotAnswer State → ℕ
-refusedAfter x = numberOf (x .outcome)
 
 -- ---- `fresh`
 
 pub fresh-with-jobs-is-shut-out : NoneMeets (freshWithJobs sheetC) (fresh sheetC)
 unfolding freshWithJobs fresh states.freshState legal legalAt legalRow allOf upto
-fresh-with-jobs-is-shut-out = apart (remainingOf 1) _ _ 3 0 refl refl (λ e. omega arith)
+fresh-with-jobs-is-shut-out = apart (λ (x : FreshAnswer State). recordAt (x .state) 1 .job .remaining) _ _ 3 0 refl refl (λ e. omega arith)
 
 pub fresh-too-young-is-shut-out : NoneMeets (freshTooYoung sheetC) (fresh sheetC)
 unfolding freshTooYoung fresh states.freshState legal legalAt legalRow allOf upto
-fresh-too-young-is-shut-out = apart (sinceOf 1) _ _ 1 4 refl refl (λ e. omega arith)
+fresh-too-young-is-shut-out = apart (λ (x : FreshAnswer State). recordAt (x .state) 1 .job .since) _ _ 1 4 refl refl (λ e. omega arith)
 
 -- ---- `slot`
 
@@ -55,7 +42,7 @@ slot-missed-first-is-shut-out = apart (codeAfter 0) _ _ 4 3 refl refl (λ e. ome
 -- case G, the first slot: row 1 is released for 3
 pub slot-untouched-is-shut-out : NoneMeets (slotUntouched sheetC (fresh sheetC .state) (1 ∷ 3 ∷ []) (9 ∷ 9 ∷ [])) (slot sheetC (fresh sheetC .state) (1 ∷ 3 ∷ []) (9 ∷ 9 ∷ []))
 unfolding slotUntouched allOf firstOf upto legalRow legalAt legal states.freshState legalJob isZeroJob states.legalRecordAt states.legalState released fits freeBelow freeAt worked older aged missed ended codeOf checkRow checkReleases checkState checkRoom checkSlot fresh given nextState nextCodes slot
-slot-untouched-is-shut-out = apart (leftAfter 1) _ _ 0 3 refl refl (λ e. omega arith)
+slot-untouched-is-shut-out = apart (λ (x : SlotAnswer State). recordAt (x .state) 1 .job .remaining) _ _ 0 3 refl refl (λ e. omega arith)
 
 pub slot-unreleased-is-shut-out : NoneMeets (slotUnreleased sheetC (fresh sheetC .state) (1 ∷ 3 ∷ []) (9 ∷ 9 ∷ [])) (slot sheetC (fresh sheetC .state) (1 ∷ 3 ∷ []) (9 ∷ 9 ∷ []))
 unfolding slotUnreleased allOf firstOf upto legalRow legalAt legal states.freshState legalJob isZeroJob states.legalRecordAt states.legalState released fits freeBelow freeAt worked older aged missed ended codeOf checkRow checkReleases checkState checkRoom checkSlot fresh given nextState nextCodes slot
@@ -69,7 +56,7 @@ slot-codes-always-is-shut-out = apart (codeAfter 1) _ _ 0 9 refl refl (λ e. ome
 -- and one slot after the last it is too soon as well
 pub slot-thirteen-first-is-shut-out : NoneMeets (slotThirteenFirst sheetC busyC (2 ∷ 0 ∷ []) (9 ∷ 9 ∷ [])) (slot sheetC busyC (2 ∷ 0 ∷ []) (9 ∷ 9 ∷ []))
 unfolding slotThirteenFirst checkThirteenFirst thirteenFirst allOf firstOf upto legalRow legalAt legal legalJob isZeroJob states.legalRecordAt states.legalState checkRow checkReleases checkState checkRoom checkSlot slot
-slot-thirteen-first-is-shut-out = apart refusedAfter _ _ 13 12 refl refl (λ e. omega arith)
+slot-thirteen-first-is-shut-out = apart (λ (x : SlotAnswer State). numberOf (x .outcome)) _ _ 13 12 refl refl (λ e. omega arith)
 
 -- ---- `run`
 
@@ -133,12 +120,9 @@ margin-of-first-is-shut-out = apart marginRead _ _ 0 2 refl refl (λ e. omega ar
 
 -- ---- `fresh_on`
 
-abbrev placeOf : ℕ → FreshAnswer (List ℕ) → ℕ
-placeOf i x = getD (x .state) i 0
-
 pub fresh-kept-is-shut-out : NoneMeets (freshKept (sheetIn listC) (9 ∷ 9 ∷ 9 ∷ 9 ∷ [])) (freshOn (sheetIn listC) (9 ∷ 9 ∷ 9 ∷ 9 ∷ []))
 unfolding freshKept freshOn fresh states.freshState putState putTo putRecord filled sheetIn rowIn legal legalAt legalRow allOf upto
-fresh-kept-is-shut-out = apart (placeOf 3) _ _ 9 4 refl refl (λ e. omega arith)
+fresh-kept-is-shut-out = apart (λ (x : FreshAnswer (List ℕ)). getD (x .state) 3 0) _ _ 9 4 refl refl (λ e. omega arith)
 
 -- three places do not do for two records
 pub fresh-roomless-is-shut-out : NoneMeets (freshRoomless (sheetIn listC) (9 ∷ 9 ∷ 9 ∷ [])) (freshOn (sheetIn listC) (9 ∷ 9 ∷ 9 ∷ []))

@@ -4,8 +4,8 @@ pub use Rattle.basis.specs.Limits.{mostRows}
 pub use Rattle.basis.specs.Refusals.{Outcome, outcome}
 unfoldable pub use Rattle.basis.specs.Upto.{upto}
 pub use Rattle.basis.specs.declared.refusal.Refusal.{Refusal}
-pub use Rattle.machine.proofs.Inside.RecordLists.{put-more, put-none, records-all, spare-of-full, state-put, state-rows-long}
-pub use Rattle.machine.specs.Answers.{FreshAnswer, MarginAnswer, RunAnswer, SlotAnswer, freshAnswer, marginAnswer, runAnswer}
+pub use Rattle.machine.proofs.Inside.RecordLists.{put-more, records-all, spare-of-full, state-put, state-rows-long}
+pub use Rattle.machine.specs.Answers.{FreshAnswer, MarginAnswer, freshAnswer, marginAnswer, runAnswer}
 unfoldable pub use Rattle.machine.specs.Answers.{fresh, given, margin, nextCodes, nextState, run, slot}
 unfoldable pub use Rattle.machine.specs.Checks.{checkRun, checkSlot}
 pub use Rattle.machine.specs.Lists.{ranIn, recordWide, stateLong}

@@ -1,6 +1,6 @@
 -- What the call of the box's own loop answers at each way out, and the list of a state that it writes. Assumes nothing.
-use Rattle.basis.specs.Prelude.{ℕ, _*_, _/_, _%_, _≤_, _<_, _≡_, sym, ap, _∙_, Bool, true, false, List, arith, length, List·getD-eq-default, lt-leb, le-leb, eq-eqb, ne-eqb, w64, Fits}
-use Rattle.exports.proofs.Names.{mostRows, outcome, pairCell, legal, filled, sheetIn, Sheet, held, ran, noRecord, State, recordAt, stateLong, RunAnswer, fresh, run, told, stateCell, courseTold, boxOf, boxOn}
+use Rattle.basis.specs.Prelude.{ℕ, _*_, _/_, _%_, _≤_, _<_, _≡_, sym, _∙_, Bool, true, false, List, arith, length, List·getD-eq-default, lt-leb, le-leb, ne-eqb, w64, Fits}
+use Rattle.exports.proofs.Names.{mostRows, outcome, pairCell, legal, filled, sheetIn, Sheet, held, ran, noRecord, State, recordAt, stateLong, fresh, run, told, stateCell, boxOf, boxOn}
 use Rattle.sheet.proofs.Legality.{legal-is}
 use Rattle.records.specs.declared.record.RowState.{RowState}
 use Rattle.states.specs.declared.runs.Ran.{Ran}
@@ -13,17 +13,17 @@ record-past t k long b = sym (List·getD-eq-default (t .rows) noRecord {n = k} (
 module _ (t : State) (i : ℕ) (s : RowState) (e : s ≡ recordAt t (i / 2)) where
   pub even-cell : i % 2 ≡ 0 → s .job .remaining ≡ stateCell t i
   unfolding pairCell
-  even-cell z = rw (eq-eqb (i % 2) 0 z) (ap (λ (x : RowState). x .job .remaining) e)
+  even-cell z = rw (e, z)
 
   pub odd-cell : (i % 2 ≡ 0 → ⊥) → s .job .since ≡ stateCell t i
   unfolding pairCell
-  odd-cell z = rw (ne-eqb (i % 2) 0 z) (ap (λ (x : RowState). x .job .since) e)
+  odd-cell z = rw (e, ne-eqb (i % 2) 0 z)
 
 -- `giachimu_box`
 module _ (s list rel cs : List ℕ) (b : Bool) (eb : b ≡ legal (sheetIn s)) where
   pub box-not-legal : b ≡ false → (t : ℕ × ℕ) → t ≡ (10, 0) → (t, (0, (list, cs))) ≡ boxOn s list rel cs
   unfolding boxOn boxOf
-  box-not-legal q t f = rw (f, sym eb ∙ q)
+  box-not-legal q t f = rw (f, sym eb, q)
 
   module _ (q : b ≡ true) (n : ℕ) (en : n ≡ sheetIn s .count) where
     few : n ≤ mostRows
@@ -39,6 +39,4 @@ module _ (s list rel cs : List ℕ) (b : Bool) (eb : b ≡ legal (sheetIn s)) wh
     pub box-answered : n * 2 ≤ length list → (h : Sheet) → h ≡ sheetIn s → (r : Ran) (ds : List ℕ) → ran r ds ≡ run h (fresh h .state) rel cs
         → (after : List ℕ) → after ≡ filled (stateCell (held (r .state))) list → (t : ℕ × ℕ) → t ≡ told (outcome (r .refusal)) → (t, (r .done, (after, ds))) ≡ boxOn s list rel cs
     unfolding boxOn boxOf
-    box-answered m h eh r ds er after ea t f =
-        let whole : ran r ds ≡ run (sheetIn s) (fresh (sheetIn s) .state) rel cs = er ∙ ap (λ (x : Sheet). run x (fresh x .state) rel cs) eh in
-        rw (f, ea, sym eb ∙ q, le-leb (stateLong (sheetIn s .count)) (length list) (omega (arith, en))) (ap (λ (c : RunAnswer State). courseTold c list) whole)
+    box-answered m h eh r ds er after ea t f = rw (f, ea, sym eb, q, le-leb (stateLong (sheetIn s .count)) (length list) (omega (arith, en)), sym (rw eh at er))

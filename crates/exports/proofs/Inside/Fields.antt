@@ -1,10 +1,9 @@
 -- What `giachimu_read` and `giachimu_label` answer at each way out, where the reader has answered r and written into lists. Assumes nothing.
-use Rattle.basis.specs.Prelude.{ℕ, _+_, _*_, _≤_, _<_, _≡_, sym, ap, ap₂, _∙_, List, arith, length, lt-ltb, le-ltb, le-leb, w64, Fits}
-use Rattle.exports.proofs.Names.{mostRows, Outcome, accepted, outcome, orElse, roomFor, Refusal, Accepted, Refused, handed-outcome, or-nothing, numberAt, filled, sheetIn, sheetCell, sheetLong, clearedCell, cell-past, zeros, zeros-long, reading, labelIn, accepted-is-legal, Lists, lists, rows-few, fieldsIn, readIn, labelAnswer}
+use Rattle.basis.specs.Prelude.{ℕ, _+_, _*_, _≤_, _<_, _≡_, sym, ap, _∙_, List, arith, length, lt-ltb, le-ltb, le-leb, w64, Fits}
+use Rattle.exports.proofs.Names.{mostRows, Outcome, accepted, outcome, orElse, roomFor, Refusal, Accepted, Refused, handed-outcome, or-nothing, numberAt, filled, sheetIn, sheetCell, sheetLong, clearedCell, cell-past, zeros, zeros-long, reading, labelIn, accepted-is-legal, lists, rows-few, fieldsIn, readIn, labelAnswer}
 use Rattle.sheet.proofs.Inside.ClearedLists.{cleared-is-filled}
 use Rattle.reader.specs.Lists.{labelsLong, intoLists, readInto}
 use Rattle.reader.specs.Inside.Steps.{partIn}
-use Rattle.reader.specs.declared.row.Part.{Part}
 use Rattle.reader.proofs.LentLists.{outcome-is-the-readers, list-kept, reader-accepts, list-has-room, list-written, count-read, parts-written}
 
 -- `giachimu_read`, with a list of labels that has room for every row
@@ -18,13 +17,11 @@ module _ (s list : List ℕ) (r : Refusal) (l b : List ℕ) (e : lists (outcome 
   read-outcome =
       let labels : Outcome = roomFor (labelsLong (reading s .1 .count)) (length (zeros (labelsLong mostRows))) in
       let enough : labels ≡ accepted = simp (le-leb (labelsLong (reading s .1 .count)) (length (zeros (labelsLong mostRows))) (omega (arith, rows-few s, zeros-long (labelsLong mostRows)))) in
-      ap (λ (x : Lists). x .0) e ∙ handed-outcome _ _ (orElse (reading s .0) (orElse room labels)) ∙ ap (λ (x : Outcome). orElse (reading s .0) (orElse room x)) enough
-      ∙ ap (λ (x : Outcome). orElse (reading s .0) x) (or-nothing room)
+      (λ i. e i .0) ∙ handed-outcome _ _ (orElse (reading s .0) (orElse room labels)) ∙ rw (enough, or-nothing)
 
   pub fields-refused : (k p : ℕ) → r ≡ Refused k p → (t : ℕ × ℕ) → t ≡ (k, p) → (t, l) ≡ readIn s list
   unfolding readIn fieldsIn room
-  fields-refused k p q t f =
-      rw (f, sym read-outcome ∙ ap outcome q) (ap (λ (x : List ℕ). ((k, p), x)) (list-kept s list _ (outcome r) l b e k p (ap outcome q)))
+  fields-refused k p q t f = rw (f, sym read-outcome, q, list-kept s list _ (outcome r) l b e k p (ap outcome q))
 
   module _ (q : r ≡ Accepted) (n : ℕ) (en : n ≡ sheetIn l .count) where
     rows-are : n ≡ reading s .1 .count
@@ -41,23 +38,19 @@ module _ (s list : List ℕ) (r : Refusal) (l b : List ℕ) (e : lists (outcome 
     fields-are-read after g t f =
         let yes = ap outcome q in
         let past = accepted-is-legal s (reader-accepts s list _ (outcome r) l b e yes) .1 in
-        let whole : after ≡ filled (sheetCell (reading s .1)) list =
-        g ∙ ap (λ (k : ℕ). filled (clearedCell (k * 4 + 2) l) l) rows-are
-        ∙ cleared-is-filled (sheetCell (reading s .1)) (sheetLong (reading s .1 .count)) list l (list-written s list _ (outcome r) l b e yes) (list-has-room s list _ (outcome r) l b e yes)
-        (cell-past (reading s .1) (reading s .1 .count) past) in
-        rw (f, sym read-outcome ∙ yes) (ap (λ (x : List ℕ). ((0, 0), x)) whole)
+        let whole = cleared-is-filled (sheetCell (reading s .1)) (sheetLong (reading s .1 .count)) list l (list-written s list _ (outcome r) l b e yes)
+        (list-has-room s list _ (outcome r) l b e yes) (cell-past (reading s .1) (reading s .1 .count) past) in
+        rw (f, sym read-outcome, q, g, rows-are, whole)
 
 -- `giachimu_label`, with lists that have room for every row
 module _ (s : List ℕ) (r : Refusal) (l b : List ℕ) (e : lists (outcome r) l b ≡ readInto s (zeros (sheetLong mostRows)) (zeros (labelsLong mostRows))) where
   outcome-is : outcome r ≡ reading s .0
   outcome-is =
-      ap (λ (x : Lists). x .0) e
-      ∙ outcome-is-the-readers s _ _ (omega (arith, rows-few s, zeros-long (sheetLong mostRows))) (omega (arith, rows-few s, zeros-long (labelsLong mostRows)))
+      (λ i. e i .0) ∙ outcome-is-the-readers s _ _ (omega (arith, rows-few s, zeros-long (sheetLong mostRows))) (omega (arith, rows-few s, zeros-long (labelsLong mostRows)))
 
-  module _ (row : ℕ) (found t : ℕ × ℕ) where
-    pub label-refused : (k p : ℕ) → r ≡ Refused k p → t ≡ (k, p) → (t, found) ≡ labelAnswer s row found
-    unfolding labelAnswer
-    label-refused k p q f = rw (f, sym outcome-is ∙ ap outcome q)
+  pub label-refused : (row : ℕ) (found t : ℕ × ℕ) (k p : ℕ) → r ≡ Refused k p → t ≡ (k, p) → (t, found) ≡ labelAnswer s row found
+  unfolding labelAnswer
+  label-refused row found t k p q f = rw (f, sym outcome-is, q)
 
   module _ (q : r ≡ Accepted) (n : ℕ) (en : n ≡ sheetIn l .count) (row : ℕ) where
     count-is : n ≡ reading s .1 .count
@@ -65,7 +58,7 @@ module _ (s : List ℕ) (r : Refusal) (l b : List ℕ) (e : lists (outcome r) l 
 
     pub label-past : (found t : ℕ × ℕ) → n ≤ row → t ≡ (14, 0) → (t, found) ≡ labelAnswer s row found
     unfolding labelAnswer
-    label-past found t m f = rw (f, sym outcome-is ∙ ap outcome q, le-ltb row (reading s .1 .count) (omega (arith, count-is)))
+    label-past found t m f = rw (f, sym outcome-is, q, le-ltb row (reading s .1 .count) (omega (arith, count-is)))
 
     module _ (m : row < n) where
       few : row < mostRows
@@ -95,5 +88,5 @@ module _ (s : List ℕ) (r : Refusal) (l b : List ℕ) (e : lists (outcome r) l 
       unfolding labelAnswer partIn
       label-there found t f =
           let is : partIn b row ≡ labelIn s row = parts-written s _ _ (outcome r) l b e (ap outcome q) row (omega (arith, count-is)) in
-          rw (f, sym outcome-is ∙ ap outcome q, lt-ltb row (reading s .1 .count) (omega (arith, count-is)))
-          (ap₂ (λ (x y : ℕ). ((0, 0), (x, y))) (ap (λ (z : Part). z .start) is) (ap (λ (z : Part). z .long) is))
+          rw (f, sym outcome-is, q, lt-ltb row (reading s .1 .count) (omega (arith, count-is)))
+          (λ i. ((0, 0), (is i .start, is i .long)))

@@ -1,37 +1,28 @@
 -- What the calls about a number and a worked sheet answer at each way out. Assumes nothing.
-use Rattle.basis.specs.Prelude.{ℕ, zero, suc, _+_, _*_, _≤_, _<_, _≡_, sym, ap, _∙_, List, arith, length, lt-leb, le-leb, w64, Fits}
-use Rattle.exports.proofs.Names.{Step, step, number, upTo, Sheet, filled, sheetCell, sheetLong, fixedSheet, fieldsIn, stepTold, numberOn, upToOn, fixedIn}
+use Rattle.basis.specs.Prelude.{ℕ, zero, suc, _+_, _*_, _≤_, _<_, _≡_, sym, List, arith, length, lt-leb, le-leb, w64, Fits}
+use Rattle.exports.proofs.Names.{step, number, upTo, Sheet, filled, sheetCell, sheetLong, fixedSheet, fieldsIn, stepTold, numberOn, upToOn, fixedIn}
 use Rattle.numbers.specs.declared.number.Number.{Number}
 use Rattle.numbers.specs.declared.number.Number.the-variants.{Is, Refused}
-
--- a number that was read, and one that was refused
-step-refused : (r : Number) (st : Step ℕ) → step r ≡ st → (found t : ℕ × ℕ) (k p : ℕ) → r ≡ Refused k p → t ≡ (k, p) → (t, found) ≡ stepTold st found
-unfolding stepTold
-step-refused r st e found t k p q f = rw (f, sym e ∙ ap step q)
-
-step-is : (r : Number) (st : Step ℕ) → step r ≡ st → (found t : ℕ × ℕ) (v n : ℕ) → r ≡ Is v n → t ≡ (0, 0) → (t, (v, n)) ≡ stepTold st found
-unfolding stepTold
-step-is r st e found t v n q f = rw (f, sym e ∙ ap step q)
 
 -- `giachimu_number`
 module _ (s : List ℕ) (at : ℕ) (r : Number) (e : step r ≡ number s at) (found t : ℕ × ℕ) where
   pub number-refused : (k p : ℕ) → r ≡ Refused k p → t ≡ (k, p) → (t, found) ≡ numberOn s at found
-  unfolding numberOn
-  number-refused k p q f = step-refused r (number s at) e found t k p q f
+  unfolding numberOn stepTold
+  number-refused k p q f = rw (f, sym e, q)
 
   pub number-is : (v n : ℕ) → r ≡ Is v n → t ≡ (0, 0) → (t, (v, n)) ≡ numberOn s at found
-  unfolding numberOn
-  number-is v n q f = step-is r (number s at) e found t v n q f
+  unfolding numberOn stepTold
+  number-is v n q f = rw (f, sym e, q)
 
 -- `giachimu_number_up_to`
 module _ (s : List ℕ) (at most : ℕ) (r : Number) (e : step r ≡ upTo most 7 8 s at) (found t : ℕ × ℕ) where
   pub up-to-refused : (k p : ℕ) → r ≡ Refused k p → t ≡ (k, p) → (t, found) ≡ upToOn s at most found
-  unfolding upToOn
-  up-to-refused k p q f = step-refused r (upTo most 7 8 s at) e found t k p q f
+  unfolding upToOn stepTold
+  up-to-refused k p q f = rw (f, sym e, q)
 
   pub up-to-is : (v n : ℕ) → r ≡ Is v n → t ≡ (0, 0) → (t, (v, n)) ≡ upToOn s at most found
-  unfolding upToOn
-  up-to-is v n q f = step-is r (upTo most 7 8 s at) e found t v n q f
+  unfolding upToOn stepTold
+  up-to-is v n q f = rw (f, sym e, q)
 
 -- a worked sheet has three rows at most
 few-rows : (k : ℕ) → fixedSheet k .count ≤ 3

@@ -1,21 +1,18 @@
 -- What `giachimu_verdict` answers at each way out: the text is whole in a buffer that has room for any, be it lent or the call's own, and is copied from its own where it fits. Assumes nothing.
 use Rattle.basis.specs.Prelude.{ℕ, _≤_, _<_, min, _≡_, sym, ap, _∙_, List, _++_, arith, length, take, drop, take-all, le-leb, lt-leb}
 use Rattle.dashboard.specs.Longest.{textSize, textBuffer}
-use Rattle.exports.proofs.Names.{Page, written, verdictText, written-part, verdict-is-printed, verdictIn}
+use Rattle.exports.proofs.Names.{written, verdictText, written-part, verdict-is-printed, verdictIn}
 use Rattle.dashboard.proofs.TextLengths.{verdict-is-short, longest-fits}
 
 -- a text that fits is written whole
 fits-whole : (t buffer : List ℕ) → length t ≤ length buffer → (t ++ drop (length t) buffer, length t) ≡ written t buffer
 unfolding written
-fits-whole t buffer l =
-    let m : min (length t) (length buffer) ≡ length t = omega arith in
-    rw (take-all (length buffer) t l, m)
+fits-whole t buffer l = let m : min (length t) (length buffer) ≡ length t = omega arith in rw (take-all (length buffer) t l, m)
 
 -- the text of s was written into a lent buffer that has room for any
 pub text-is-written : (s text after : List ℕ) (n : ℕ) → (after, n) ≡ written (verdictText s) text → textSize ≤ length text → (long : ℕ) (t : ℕ × ℕ) → t ≡ (0, 0) → (t, (after, n)) ≡ verdictIn s text long
 unfolding verdictIn
-text-is-written s text after n e room long t f =
-    rw (le-leb (length (verdictText s)) (length text) (omega (arith, verdict-is-short s, longest-fits)), f) (ap (λ (x : Page). ((0, 0), x)) e)
+text-is-written s text after n e room long t f = rw (le-leb (length (verdictText s)) (length text) (omega (arith, verdict-is-short s, longest-fits)), f, e)
 
 -- it was written into the first buffer, n bytes of it
 module _ (s first whole : List ℕ) (n : ℕ) (b : first ≡ textBuffer) (e : (whole, n) ≡ written (verdictText s) first) where

@@ -44,13 +44,9 @@ module _ (h : Sheet) (legal : Legal h) (n : ℕ) (up : Bounded h n) where
       -- what is left before anything is dropped
       in-bound : 1 ≤ left → old + left ≤ bounds k
       in-bound x =
-          omega (
-            arith,
-            slot-within-bound (rowsOf h n) (ranges h legal n up) (safe h legal n up) _ _ r (slot-is h t (d .releases) (s .state) (s .fine) n (up .within)) k l
-                (omega (arith, reached-remaining h t (d .releases) (s .state) (s .fine) k)),
-            reached-remaining h t (d .releases) (s .state) (s .fine) k,
-            next-since h t (d .releases) (s .state) (s .fine) k there,
-          )
+          let rest = reached-remaining h t (d .releases) (s .state) (s .fine) k in
+          let bound = slot-within-bound (rowsOf h n) (ranges h legal n up) (safe h legal n up) _ _ r (slot-is h t (d .releases) (s .state) (s .fine) n (up .within)) k l in
+          omega (arith, bound (omega arith), next-since h t (d .releases) (s .state) (s .fine) k there)
 
       -- no code 4
       pub not-missed : getD (d .codes) k 0 ≡ 4 → ⊥

@@ -1,5 +1,5 @@
 -- Where the first n rows of a sheet have bounds, a chain of accepted slots from a moment that slots lead to finishes each of their jobs within its row's bound and misses none of their deadlines. Assumes nothing.
-use Rattle.basis.specs.Prelude.{ℕ, zero, suc, _+_, _-_, _≤_, _<_, _≡_, refl, sym, ap, subst, _∙_, _⊎_, inl, inr, ⊎-elim, List, [], _∷_, arith, zero-add, length, getD}
+use Rattle.basis.specs.Prelude.{ℕ, zero, suc, _+_, _-_, _≤_, _<_, _≡_, refl, sym, ap, subst, _⊎_, ⊎-elim, List, [], _∷_, arith, zero-add, length, getD}
 use Rattle.green.proofs.Names.{Legal, Sheet, passes, Word, bound, valueOf, resultOf, State, recordAt, nextState, owed, age, Reached, Done, Bounded, releaseIn, codeIn, FinishedWithin, InTime}
 use Rattle.green.proofs.Sheets.{rowsOf, ranges, safe}
 use Rattle.green.proofs.Soundness.{within-bound}
@@ -24,25 +24,15 @@ ends-later d ds k R w e = record { later = suc (e .later); within = omega (arith
     before (suc i) l = e .before i (omega arith)
 
 -- no release, so nothing new is owed
-owed-as-was : (r ρ : ℕ) → (1 ≤ r → ⊥) → owed r ρ ≡ ρ
-unfolding owed
-owed-as-was zero ρ h = refl
-owed-as-was (suc r) ρ h = absurd (h (omega arith))
+as-was : (r ρ s : ℕ) → (1 ≤ r → ⊥) → (owed r ρ ≡ ρ) × (age r s ≡ s)
+unfolding owed age
+as-was zero ρ s h = (refl, refl)
+as-was (suc r) ρ s h = absurd (h (omega arith))
 
-age-as-was : (r s : ℕ) → (1 ≤ r → ⊥) → age r s ≡ s
-unfolding age
-age-as-was zero s h = refl
-age-as-was (suc r) s h = absurd (h (omega arith))
-
-owed-new : (r ρ : ℕ) → 1 ≤ r → owed r ρ ≡ r
-unfolding owed
-owed-new zero ρ h = absurd (omega arith)
-owed-new (suc r) ρ h = refl
-
-age-new : (r s : ℕ) → 1 ≤ r → age r s ≡ 0
-unfolding age
-age-new zero s h = absurd (omega arith)
-age-new (suc r) s h = refl
+as-new : (r ρ s : ℕ) → 1 ≤ r → (owed r ρ ≡ r) × (age r s ≡ 0)
+unfolding owed age
+as-new zero ρ s h = absurd (omega arith)
+as-new (suc r) ρ s h = (refl, refl)
 
 module _ (h : Sheet) (legal : Legal h) (n : ℕ) (up : Bounded h n) (k : ℕ) (l : k < n) where
   abbrev R : ℕ
@@ -55,10 +45,8 @@ module _ (h : Sheet) (legal : Legal h) (n : ℕ) (up : Bounded h n) (k : ℕ) (l
   goes-on (d ∷ ds) t u (more s c) r x y =
       let b = within-bound (rowsOf h n) (ranges h legal n up) (safe h legal n up) r k l x in
       let quiet : 1 ≤ getD (d .releases) k 0 → ⊥ = λ z. omega (arith, released-so h t (d .releases) (s .state) (s .fine) k (omega (arith, up .within)) z, ranges h legal n up k l) in
-      let o = owed-as-was (getD (d .releases) k 0) (recordAt t k .job .remaining) quiet in
-      let a = age-as-was (getD (d .releases) k 0) (recordAt t k .job .since) quiet in
-      ⊎-elim
-      (λ f. ends-now d ds k _ (omega arith) f)
+      let o = as-was (getD (d .releases) k 0) (recordAt t k .job .remaining) (recordAt t k .job .since) quiet in
+      ⊎-elim (ends-now d ds k _ (omega arith))
       (λ g. ends-later d ds k _ (g .ran-or-waited)
       (subst (λ (x : ℕ). Ends ds k x) (omega (arith, g .older))
       (goes-on ds (nextState h t (d .releases)) u c (leads h legal n up t d r s) (g .some) (omega (arith, g .older)))))
@@ -68,18 +56,12 @@ module _ (h : Sheet) (legal : Legal h) (n : ℕ) (up : Bounded h n) (k : ℕ) (l
   released-ends : (ds : List Done) (t u : State) → Chain h t ds u → Reached (rowsOf h n) (momentOf t) → 1 ≤ releaseIn ds 0 k → R ≤ length ds → Ends ds k R
   released-ends [] t u none r x y = absurd (omega arith)
   released-ends (d ∷ ds) t u (more s c) r x y =
-      let o = owed-new (getD (d .releases) k 0) (recordAt t k .job .remaining) x in
-      let a = age-new (getD (d .releases) k 0) (recordAt t k .job .since) x in
-      ⊎-elim
-      (λ f. ends-now d ds k R (omega (arith, ranges h legal n up k l)) f)
+      let o = as-new (getD (d .releases) k 0) (recordAt t k .job .remaining) (recordAt t k .job .since) x in
+      ⊎-elim (ends-now d ds k R (omega (arith, ranges h legal n up k l)))
       (λ g. ends-later d ds k R (g .ran-or-waited)
       (subst (λ (x : ℕ). Ends ds k x) (omega (arith, g .older))
       (goes-on ds (nextState h t (d .releases)) u c (leads h legal n up t d r s) (g .some) (omega (arith, g .older)))))
       (step h legal n up t d r s k l (omega (arith, begin-remaining h t (d .releases) (s .state) (s .fine) k)))
-
--- the code of a slot further on
-further : (d : Done) (ds : List Done) (j i k : ℕ) → codeIn (d ∷ ds) (suc j + i) k ≡ codeIn ds (j + i) k
-further d ds j i k = let e : suc j + i ≡ suc (j + i) = omega arith in ap (λ (n : ℕ). codeIn (d ∷ ds) n k) e
 
 module _ (h : Sheet) (legal : Legal h) (n : ℕ) (up : Bounded h n) where
   -- a job that any slot releases ends within the bound
@@ -87,22 +69,12 @@ module _ (h : Sheet) (legal : Legal h) (n : ℕ) (up : Bounded h n) where
       → FinishedWithin ds j k (bounds h legal n up k)
   each-ends zero k l ds t u c r x y =
       let e = released-ends h legal n up k l ds t u c r x (omega arith) in
-      let at : (i : ℕ) → codeIn ds (0 + i) k ≡ codeIn ds i k = λ i. ap (λ (x : ℕ). codeIn ds x k) (zero-add i) in
-      record {
-        later = e .later;
-        within = e .within;
-        finished = at (e .later) ∙ e .finished;
-        before = λ i g. ⊎-elim (λ f. inl (at i ∙ f)) (λ f. inr (at i ∙ f)) (e .before i g);
-      }
+      record { later = e .later; within = e .within; finished = rw zero-add (e .finished); before = λ i g. rw zero-add (e .before i g) }
   each-ends (suc j) k l [] t u c r x y = absurd (omega arith)
   each-ends (suc j) k l (d ∷ ds) t u (more s c) r x y =
       let e = each-ends j k l ds (nextState h t (d .releases)) u c (leads h legal n up t d r s) x (omega arith) in
-      record {
-        later = e .later;
-        within = e .within;
-        finished = further d ds j (e .later) k ∙ e .finished;
-        before = λ i g. ⊎-elim (λ f. inl (further d ds j i k ∙ f)) (λ f. inr (further d ds j i k ∙ f)) (e .before i g);
-      }
+      let one-on : (i : ℕ) → suc j + i ≡ suc (j + i) = λ i. omega arith in
+      record { later = e .later; within = e .within; finished = rw one-on (e .finished); before = λ i g. rw one-on (e .before i g) }
 
   none-is-missed : (j k : ℕ) → k < n → (ds : List Done) (t u : State) → Chain h t ds u → Reached (rowsOf h n) (momentOf t) → j < length ds → codeIn ds j k ≡ 4 → ⊥
   none-is-missed j k l [] t u c r x e = omega arith
@@ -116,10 +88,8 @@ module _ (h : Sheet) (legal : Legal h) (n : ℕ) (up : Bounded h n) where
   -- such a chain is in time
   pub chain-in-time : (ds : List Done) (t u : State) → Chain h t ds u → Reached (rowsOf h n) (momentOf t) → InTime h n ds
   chain-in-time ds t u c r = record {
-    each-finished = λ j k R l e x y.
-        let q = bound-is k R e in
-        subst (FinishedWithin ds j k) (sym q) (each-ends j k l ds t u c r x (omega arith));
-    none-missed = λ j k x l e. none-is-missed j k l ds t u c r x e;
+    each-finished = λ j k R l e x y. let q = bound-is k R e in rw q (each-ends j k l ds t u c r x (omega arith));
+    none-missed = λ j k x l. none-is-missed j k l ds t u c r x;
   }
 
   -- and leads to a moment that slots lead to

@@ -11,9 +11,8 @@ module _ (C T : ℕ) (pos : 1 ≤ T) (fits : C ≤ T) where
   unfolding owed age
   step zero ρ s ρ' s' r l releases once runs left ages = Φ-slot C T pos fits ρ s ρ' s' r l once runs left (omega arith) (omega arith)
   step (suc x) ρ s ρ' s' r l releases once runs left ages =
-      let h : (s ≡ T) × (suc x ≤ C) = releases (omega arith) in
-      rw (h .0)
-      (omega (arith, Φ-slot C T pos fits (suc x) 0 ρ' s' r l once runs left (omega arith) (omega arith), Φ-release C T pos fits ρ (suc x) (suc l) (h .1)))
+      let h = releases (omega arith) in
+      rw (h .0) (omega (arith, Φ-slot C T pos fits (suc x) 0 ρ' s' r l once runs left (omega arith) (omega arith), Φ-release C T pos fits ρ (suc x) (suc l) (h .1)))
 
 -- ---- the invariant
 module _ (p : Rows) where
@@ -63,12 +62,9 @@ module _ (p : Rows) (legal : (i : ℕ) → i < p .n → Ranges p i) (safe : (k :
           busy = tt;
           bounded = λ i l.
               let t : i < n = omega arith in
-              rw (sub-zero (R k))
-              (omega (
-                arith,
-                Φ-start (C i) (T i) (omega (arith, legal i t)) (omega (arith, legal i t)) (R i) (a .remaining i) (a .since i) (R k)
-                    (legal i t .low) (omega (arith, legal i t)) (v .less i t) (v .old i t) (in-time p v i t),
-              ));
+              let w = legal i t in
+              let s = Φ-start (C i) (T i) (omega arith) (omega arith) (R i) (a .remaining i) (a .since i) (R k) (w .low) (omega arith) (v .less i t) (v .old i t) (in-time p v i t) in
+              rw sub-zero (omega arith);
         },
       )
 
@@ -96,20 +92,16 @@ module _ (p : Rows) (legal : (i : ℕ) → i < p .n → Ranges p i) (safe : (k :
         all = (record { once = λ i l. c .once i (omega arith); load = omega (arith, c .waits k h (omega arith) r, legal k h, sum-cap k (q p k) threads ran) }, j .busy)
 
         in-slack : suc (length vs) + C k ≤ R k
-        in-slack =
-            split (suc (length vs) + C k) (R k) (λ e. e) λ e.
-            absurd (safe k h (ran ∷ vs) (record { many = omega (arith, j .slack); busy = all; bounded = λ i l. omega (arith, bound i l) }))
+        in-slack = split _ _ (λ e. e) λ e. absurd (safe k h (ran ∷ vs) (record { many = omega (arith, j .slack); busy = all; bounded = λ i l. omega (arith, bound i l) }))
 
   -- the job of row k after the slot, by whether it ran
   after : (k ρ : ℕ) → k < n → 1 ≤ ρ → ρ ≤ owed (release k) (a .remaining k) - ran k → (vs : List (ℕ → ℕ)) × JobSoFar p b k ρ (b .since k) vs
-  after k ρ h x y = go (ran k) refl
+  after k ρ h x y = let j = released k h (omega arith) in go (ran k) refl (j .0) (j .1)
     where
-      j : (vs : List (ℕ → ℕ)) × JobSoFar p a k (owed (release k) (a .remaining k)) (age (release k) (a .since k)) vs
-      j = released k h (omega arith)
-
-      go : (r : ℕ) → ran k ≡ r → (vs : List (ℕ → ℕ)) × JobSoFar p b k ρ (b .since k) vs
-      go zero e = (ran ∷ j .0, waited k ρ h x y (j .0) (j .1) e)
-      go (suc r) e = (j .0, ran-on k ρ h x y (j .0) (j .1) (omega arith))
+      go : (r : ℕ) → ran k ≡ r → (vs : List (ℕ → ℕ)) → JobSoFar p a k (owed (release k) (a .remaining k)) (age (release k) (a .since k)) vs
+          → (ws : List (ℕ → ℕ)) × JobSoFar p b k ρ (b .since k) ws
+      go zero e vs j = (ran ∷ vs, waited k ρ h x y vs j e)
+      go (suc r) e vs j = (vs, ran-on k ρ h x y vs j (omega arith))
 
   within : (i : ℕ) → i < n → owed (release i) (a .remaining i) ≤ C i
   unfolding owed

@@ -1,6 +1,6 @@
 -- Each call's answer, from the answers of what it calls. Assumes nothing.
 use Rattle.basis.specs.Prelude.{ℕ, _*_, _/_, _%_, _≤_, _<_, _≡_, refl, sym, ap, _∙_, true, List, length, leb, eqb, arith, div-add-mod', leb-true, eqb-true}
-use Rattle.machine.proofs.Names.{mostRows, accepted, refused, outcome, needed, Refusal, Accepted, Refused, both-accepted, needed-holds, legal, Sheet, State, legalState, checkReleases, checkState, checkRoom, checkSlot, checkRun, SlotAnswer, RunAnswer, slotAnswer, runAnswer, nextState, nextCodes, slot, course, run}
+use Rattle.machine.proofs.Names.{mostRows, accepted, refused, outcome, needed, Refusal, Accepted, Refused, both-accepted, needed-holds, legal, Sheet, State, legalState, checkReleases, checkState, checkRoom, checkSlot, checkRun, RunAnswer, slotAnswer, runAnswer, nextState, nextCodes, slot, course, run}
 use Rattle.machine.proofs.Inside.Checks.{Ready, ready}
 use Rattle.machine.proofs.Inside.Courses.{stopped}
 
@@ -17,43 +17,44 @@ slot-shows h t rel room e =
     let (a, b) = both-accepted (checkState h t) _ e in
     let (c, d) = both-accepted (checkRoom (eqb (length rel) (h .count)) (length rel) room) _ b in
     let (p, q) = both-accepted (needed (eqb (length rel) (h .count)) 11) _ c in
-    record {
-      in-order = ready h t a;
-      long = eqb-true _ _ (needed-holds _ 11 p);
-      roomy = leb-true _ _ (needed-holds _ 15 q);
-      releases = d;
-    }
+    record { in-order = ready h t a; long = eqb-true _ _ (needed-holds _ 11 p); roomy = leb-true _ _ (needed-holds _ 15 q); releases = d }
 
--- `slot`
+-- `slot`: what its checks have shown, with so much room for codes
+module _ (h : Sheet) (t : State) (rel : List ℕ) (room : ℕ) (c : Refusal) (e : outcome c ≡ checkSlot h t rel room) (f : c ≡ Accepted) where
+  shown : Accepted-slot h t rel room
+  shown = slot-shows h t rel room (sym e ∙ ap outcome f)
+
+  pub slot-sheet : legal h ≡ true
+  slot-sheet = shown .in-order .sheet-legal
+
+  pub slot-state : legalState h t ≡ true
+  slot-state = shown .in-order .state-legal
+
+  module _ (n : ℕ) (en : n ≡ h .count) where
+    pub rows-in-state : n ≤ mostRows
+    rows-in-state = omega (arith, shown .in-order .most-rows)
+
+    pub rows-in-list : n ≤ length rel
+    rows-in-list = omega (arith, shown .long)
+
+    pub rows-in-buffer : n ≤ room
+    rows-in-buffer = omega (arith, shown .long, shown .roomy)
+
 module _ (h : Sheet) (t : State) (rel cs : List ℕ) (c : Refusal) (e : outcome c ≡ checkSlot h t rel (length cs)) where
   pub slot-is-refused : (a b : ℕ) → c ≡ Refused a b → slotAnswer (refused a b) t cs ≡ slot h t rel cs
   unfolding slot
-  slot-is-refused a b f = rw (sym e ∙ ap outcome f)
+  slot-is-refused a b f = rw (sym e, f)
 
-  module _ (f : c ≡ Accepted) where
-    shown : Accepted-slot h t rel (length cs)
-    shown = slot-shows h t rel (length cs) (sym e ∙ ap outcome f)
-
-    pub rows-in-state : h .count ≤ mostRows
-    rows-in-state = shown .in-order .most-rows
-
-    pub rows-in-list : h .count ≤ length rel
-    rows-in-list = omega (arith, shown .long)
-
-    pub rows-in-buffer : h .count ≤ length cs
-    rows-in-buffer = omega (arith, shown .long, shown .roomy)
-
-    pub slot-is-accepted : (u : State) (ds : List ℕ) → u ≡ nextState h t rel → ds ≡ nextCodes h t rel cs → slotAnswer accepted u ds ≡ slot h t rel cs
-    unfolding slot
-    slot-is-accepted u ds eu ed = rw (sym e ∙ ap outcome f, eu, ed)
+  pub slot-is-accepted : c ≡ Accepted → (u : State) (ds : List ℕ) → u ≡ nextState h t rel → ds ≡ nextCodes h t rel cs → slotAnswer accepted u ds ≡ slot h t rel cs
+  unfolding slot
+  slot-is-accepted f u ds eu ed = rw (sym e, f, eu, ed)
 
 -- a slot that is refused leaves all as found: the state, and every code
 pub refused-as-found : (h : Sheet) (t : State) (rel cs : List ℕ) (a b : ℕ) (u : State) (ds : List ℕ) → slotAnswer (refused a b) u ds ≡ slot h t rel cs → (u ≡ t) × (ds ≡ cs)
 unfolding slot
 refused-as-found h t rel cs a b u ds e =
-    let f : checkSlot h t rel (length cs) ≡ refused a b = sym (ap (λ (x : SlotAnswer State). x .outcome) e) in
-    let g : slotAnswer (refused a b) u ds ≡ slotAnswer (refused a b) t cs = rw f at e in
-    (ap (λ (x : SlotAnswer State). x .state) g, ap (λ (x : SlotAnswer State). x .codes) g)
+    let f : checkSlot h t rel (length cs) ≡ refused a b = sym (λ i. e i .outcome) in
+    let g : slotAnswer (refused a b) u ds ≡ slotAnswer (refused a b) t cs = rw f at e in (λ i. g i .state, λ i. g i .codes)
 
 -- what the checks of a run that were passed have shown
 pub run-in-order-shows : (h : Sheet) (t : State) (rel : List ℕ) (room : ℕ) → checkRun h t rel room ≡ accepted → Ready h t
@@ -87,8 +88,8 @@ module _ (h : Sheet) (t : State) (rel : List ℕ) (room : ℕ) (c : Refusal) (e 
 module _ (h : Sheet) (t : State) (rel cs : List ℕ) (c : Refusal) (e : outcome c ≡ checkRun h t rel (length cs)) where
   pub run-is-refused : (a b : ℕ) → c ≡ Refused a b → runAnswer 0 (refused a b) t cs ≡ run h t rel cs
   unfolding run
-  run-is-refused a b f = rw (sym e ∙ ap outcome f) (sym (stopped h rel (runAnswer 0 (refused a b) t cs) (length rel / h .count) a b refl))
+  run-is-refused a b f = rw (sym e, f) (sym (stopped h rel (runAnswer 0 (refused a b) t cs) (length rel / h .count) a b refl))
 
   pub run-is-done : c ≡ Accepted → (n : ℕ) → n ≡ h .count → (a : RunAnswer State) → a ≡ course h rel (runAnswer 0 accepted t cs) (length rel / n) → a ≡ run h t rel cs
   unfolding run
-  run-is-done f n en a g = rw (sym e ∙ ap outcome f) (g ∙ ap (λ (m : ℕ). course h rel (runAnswer 0 accepted t cs) (length rel / m)) en)
+  run-is-done f n en a g = rw (sym e, f) (rw en at g)

@@ -18,7 +18,7 @@ check-in-there h l release k row s er es o e = rw (er, es) at e
 module _ (h : Sheet) (l rel : List ℕ) (fine : legal h ≡ true) (kept : legalState h (stateIn l) ≡ true) (i : ℕ) (so-far : firstOf i (checkAt h (stateIn l) rel) ≡ accepted)
     (n : ℕ) (en : n ≡ h .count) (below : i < n) (c : Refusal) (ec : outcome c ≡ checkRow (rowAt h i) (recordIn l i) (getD rel i 0) i) where
   in-state : outcome c ≡ checkRow (rowAt h i) (recordAt (stateIn l) i) (getD rel i 0) i
-  in-state = ec ∙ ap (λ (s : RowState). checkRow (rowAt h i) s (getD rel i 0) i) (kept-record h l fine kept i (omega arith))
+  in-state = rw (kept-record h l fine kept i (omega arith)) at ec
 
   pub check-in-more : c ≡ Accepted → firstOf (i + 1) (checkAt h (stateIn l) rel) ≡ accepted
   check-in-more e = first-more i (checkAt h (stateIn l) rel) so-far (sym in-state ∙ ap outcome e)
@@ -31,16 +31,16 @@ module _ (h : Sheet) (l rel : List ℕ) (fine : legal h ≡ true) (kept : legalS
 module _ (h : Sheet) (t : State) (fine : Bool) (e : fine ≡ legal h) where
   pub in-10 : fine ≡ false → refused 10 0 ≡ checkState h t
   unfolding checkState
-  in-10 f = rw (sym e ∙ f)
+  in-10 f = rw (sym e, f)
 
   module _ (y : fine ≡ true) (also : Bool) (g : also ≡ legalState h t) where
     pub in-16 : also ≡ false → refused 16 0 ≡ checkState h t
     unfolding checkState
-    in-16 f = rw (sym e ∙ y, sym g ∙ f)
+    in-16 f = rw (sym e, y, sym g, f)
 
     pub in-order : also ≡ true → accepted ≡ checkState h t
     unfolding checkState
-    in-order f = rw (sym e ∙ y, sym g ∙ f)
+    in-order f = rw (sym e, y, sym g, f)
 
 pub so-legal : (h : Sheet) (fine : Bool) → fine ≡ legal h → fine ≡ true → legal h ≡ true
 so-legal h fine e y = sym e ∙ y

@@ -1,6 +1,6 @@
 -- The fresh state in a list: a turn of the loop that writes it, and each way out. Assumes nothing.
-use Rattle.basis.specs.Prelude.{ℕ, _+_, _*_, _≤_, _<_, _≡_, refl, sym, ap, ap₂, _∙_, Bool, true, false, List, length, length-replicate, arith, le-leb, lt-leb, w64, Fits}
-use Rattle.machine.proofs.Names.{mostRows, accepted, refused, upto-none, upto-below, rowAt, legal, Row, Sheet, legal-is, filled, clearedCell, length-filled, RowState, recordOf, noRecord, noState, recordAt, freshAt, freshState, freshAnswer, fresh, recordWide, stateLong, putRecord, putTo, putState, cleared, freshOn}
+use Rattle.basis.specs.Prelude.{ℕ, _+_, _*_, _≤_, _<_, _≡_, refl, sym, ap, _∙_, Bool, true, false, List, length, length-replicate, arith, le-leb, lt-leb, w64, Fits}
+use Rattle.machine.proofs.Names.{mostRows, accepted, refused, upto-none, upto-below, rowAt, legal, Row, Sheet, legal-is, filled, clearedCell, length-filled, recordOf, noRecord, noState, recordAt, freshAt, freshState, freshAnswer, fresh, recordWide, stateLong, putRecord, putTo, putState, cleared, freshOn}
 use Rattle.sheet.proofs.Inside.ClearedLists.{cleared-is-filled}
 use Rattle.machine.proofs.Inside.RecordLists.{put-more, put-agree}
 
@@ -11,22 +11,16 @@ fresh-put h l fine =
     put-agree (h .count) (freshAt h) (recordAt (freshState h)) l
     (λ k b. sym (upto-below (h .count) (freshAt h) (noState .rows) noRecord k b (omega (arith, legal-is h fine .most-rows, length-replicate mostRows noRecord))))
 
--- a list that is made zero from its start on
-all-cleared : (l l₁ : List ℕ) → l₁ ≡ filled (clearedCell 0 l) l → l₁ ≡ cleared l
-all-cleared l l₁ e = e ∙ cleared-is-filled (λ i. 0) 0 l l (upto-none (λ i. 0) l) (omega arith) (λ i b. refl)
-
 -- `put_fresh`
-abbrev freshRow : Row → RowState
-freshRow row = recordOf (record { remaining = 0; since = row .separation })
-
-pub fresh-more : (h : Sheet) (l l₀ l′ : List ℕ) (i : ℕ) (row : Row) → l ≡ putTo i (freshAt h) l₀ → row ≡ rowAt h i → l′ ≡ putRecord l i (freshRow row) → l′ ≡ putTo (i + 1) (freshAt h) l₀
-fresh-more h l l₀ l′ i row so-far er e = e ∙ put-more i (freshAt h) l l₀ (freshRow row) so-far (ap freshRow er)
+pub fresh-more : (h : Sheet) (l l₀ l′ : List ℕ) (i : ℕ) (row : Row) → l ≡ putTo i (freshAt h) l₀ → row ≡ rowAt h i
+    → l′ ≡ putRecord l i (recordOf (record { remaining = 0; since = row .separation })) → l′ ≡ putTo (i + 1) (freshAt h) l₀
+fresh-more h l l₀ l′ i row so-far er e = e ∙ put-more i (freshAt h) l l₀ _ so-far (rw er)
 
 -- `fresh_on`
 module _ (h : Sheet) (l : List ℕ) (fine : Bool) (e : fine ≡ legal h) where
   pub fresh-on-10 : fine ≡ false → freshAnswer (refused 10 0) l ≡ freshOn h l
   unfolding freshOn fresh
-  fresh-on-10 f = rw (sym e ∙ f)
+  fresh-on-10 f = rw (sym e, f)
 
   module _ (f : fine ≡ true) (n : ℕ) (en : n ≡ h .count) where
     yes : legal h ≡ true
@@ -45,5 +39,5 @@ module _ (h : Sheet) (l : List ℕ) (fine : Bool) (e : fine ≡ legal h) where
     pub fresh-on-written : (l₁ l₂ : List ℕ) → stateLong n ≤ length l → l₁ ≡ filled (clearedCell 0 l) l → l₂ ≡ putTo n (freshAt h) l₁ → freshAnswer accepted l₂ ≡ freshOn h l
     unfolding freshOn fresh
     fresh-on-written l₁ l₂ b c d =
-        let w : l₂ ≡ putState (h .count) (freshState h) (cleared l) = d ∙ ap₂ (λ (m : ℕ) (x : List ℕ). putTo m (freshAt h) x) en (all-cleared l l₁ c) ∙ fresh-put h (cleared l) yes in
-        rw (yes, le-leb (stateLong (h .count)) (length l) (omega arith), w)
+        let all : filled (clearedCell 0 l) l ≡ cleared l = cleared-is-filled (λ i. 0) 0 l l (upto-none (λ i. 0) l) (omega arith) (λ i b. refl) in
+        rw (yes, le-leb (stateLong (h .count)) (length l) (omega arith), d, en, c, all, fresh-put h (cleared l) yes)

@@ -1,18 +1,14 @@
 -- The check in place that the state in a list is legal: a turn of its loop, and each way out. Assumes nothing.
-use Rattle.basis.specs.Prelude.{ℕ, _+_, _*_, _≤_, _<_, _≡_, sym, ap, ap₂, _∙_, Bool, true, false, List, ⊎-elim, length, List·getD-eq-default, arith, lt-ltb, le-ltb, eq-eqb, eqb-true, w64, Fits}
-use Rattle.machine.proofs.Names.{mostRows, allOf, lt-or-le, all-one-more, all-at, all-true, true-not-false, rowAt, legal, Row, Sheet, legal-is, numberAt, not-so, RowState, recordAt, legalState, isZero, isZeroJob, legalRecord, recordWide, recordIn, stateLong, zeroAt, zeroFrom, spareIsZero, stateIn}
+use Rattle.basis.specs.Prelude.{ℕ, _+_, _*_, _≤_, _<_, _≡_, sym, ap, _∙_, Bool, true, false, List, length, arith, w64, Fits}
+use Rattle.machine.proofs.Names.{mostRows, allOf, all-one-more, all-at, true-not-false, rowAt, legal, Row, Sheet, legal-is, not-so, RowState, recordAt, legalState, isZeroJob, legalRecord, recordWide, recordIn, stateLong, zeroFrom, spareIsZero, stateIn}
 use Rattle.machine.proofs.Inside.Legals.{legal-job-is, legal-job-says, legal-state-is, legal-state-says}
 use Rattle.machine.proofs.Inside.RecordLists.{record-in-state}
-use Rattle.machine.proofs.LegalLists.{few, kept-record, kept-zeros, missing-records-are-refused}
+use Rattle.machine.proofs.LegalLists.{few, kept-record, past-is-zero, missing-records-are-refused}
+use Rattle.machine.proofs.Inside.Zeros.{all-zero, each-zero}
 
 -- the records of a list's rows so far are legal
 unfoldable pub legalIn : Sheet → List ℕ → ℕ → Bool
 legalIn h l k = legalRecord (rowAt h k) (recordIn l k)
-
--- a record of zeros
-zero-pair : (l : List ℕ) (k : ℕ) → numberAt l (k * recordWide) ≡ 0 → numberAt l (k * recordWide + 1) ≡ 0 → isZero (recordIn l k) ≡ true
-unfolding isZeroJob recordIn
-zero-pair l k y z = rw (eq-eqb (numberAt l (k * recordWide)) 0 y, eq-eqb (numberAt l (k * recordWide + 1)) 0 z)
 
 -- `is_legal_in`
 pub record-scaled : (h : Sheet) (n : ℕ) → legal h ≡ true → n ≡ h .count → Fits w64 (n * recordWide)
@@ -29,36 +25,27 @@ module _ (h : Sheet) (l : List ℕ) (fine : legal h ≡ true) (n : ℕ) (en : n 
     module _ (row : Row) (er : row ≡ rowAt h i) (s : RowState) (es : s ≡ recordIn l i) (b : Bool) (eb : b ≡ legalRecord row s) where
       legal-here : b ≡ legalIn h l i
       unfolding legalIn
-      legal-here = eb ∙ ap₂ legalRecord er es
+      legal-here = rw (er, es) at eb
 
       pub legal-in-more : b ≡ true → true ≡ allOf (i + 1) (legalIn h l)
-      legal-in-more e = sym (all-one-more i (legalIn h l) ∙ rw (sym so-far) (sym legal-here ∙ e))
+      legal-in-more e = rw (all-one-more, sym so-far, sym legal-here, e)
 
       pub legal-in-fails : i < n → b ≡ false → false ≡ legalState h (stateIn l)
       unfolding legalIn
-      legal-in-fails a e = sym (not-so (legalState h (stateIn l)) (λ k. never k))
-        where
-          never : legalState h (stateIn l) ≡ true → ⊥
-          never k =
-              let r = legal-state-is h (stateIn l) (few h l fine) k .rows i (omega arith) in
-              let t = legal-job-says (rowAt h i) (recordAt (stateIn l) i .job) r in
-              let u = ap (legalRecord (rowAt h i)) (kept-record h l fine k i (omega arith)) in
-              true-not-false (sym t ∙ sym u ∙ sym legal-here ∙ e)
+      legal-in-fails a e = sym (not-so (legalState h (stateIn l)) λ k.
+          let t = legal-job-says (rowAt h i) (recordAt (stateIn l) i .job) (legal-state-is h (stateIn l) (few h l fine) k .rows i (omega arith)) in
+          true-not-false (sym t ∙ sym (ap (legalRecord (rowAt h i)) (kept-record h l fine k i (omega arith))) ∙ sym legal-here ∙ e))
 
     zeros-decide : n ≤ i → i ≤ n → (r : Bool) → zeroFrom (stateLong (h .count)) l ≡ r → r ≡ legalState h (stateIn l)
-    unfolding zeroFrom zeroAt isZeroJob legalIn
-    zeros-decide a b false e = sym (not-so (legalState h (stateIn l)) (λ k. true-not-false (sym (kept-zeros h l fine k) ∙ e)))
+    unfolding isZeroJob recordIn legalIn
+    zeros-decide a b false e = sym (not-so (legalState h (stateIn l)) (λ k. true-not-false (sym (all-zero (stateLong (h .count)) l (λ j b m. past-is-zero h l fine k j m)) ∙ e)))
     zeros-decide a b true e =
-        let zero : (j : ℕ) → stateLong (h .count) ≤ j → numberAt l j ≡ 0 = λ j m. ⊎-elim
-        (λ y. eqb-true (numberAt l j) 0 (rw (le-ltb j (stateLong (h .count)) m) at (all-at (length l) (zeroAt (stateLong (h .count)) l) e j y)))
-        (λ y. List·getD-eq-default l 0 {n = j} y) (lt-or-le j (length l)) in
-        let spare : spareIsZero l ≡ true = all-true (length l) (zeroAt (stateLong mostRows) l)
-        (λ j y. ⊎-elim (λ m. rw (lt-ltb j (stateLong mostRows) m)) (λ m. rw (le-ltb j (stateLong mostRows) m, eq-eqb (numberAt l j) 0 (zero j (omega (arith, few h l fine))))) (lt-or-le j (stateLong mostRows))) in
+        let zero = each-zero (stateLong (h .count)) l e in
+        let spare : spareIsZero l ≡ true = all-zero (stateLong mostRows) l (λ j y m. zero j (omega (arith, few h l fine))) in
         sym (legal-state-says h (stateIn l) (few h l fine) (record {
-          rows = λ k m. rw (record-in-state l k spare (omega (arith, few h l fine)))
-              (legal-job-is (rowAt h k) (recordIn l k .job) (all-at i (legalIn h l) (sym so-far) k (omega arith)));
-          past = λ k m y. rw (record-in-state l k spare y) (zero-pair l k (zero (k * recordWide) (omega arith)) (zero (k * recordWide + 1) (omega arith)));
+          rows = λ k m. rw (record-in-state l k spare (omega (arith, few h l fine))) (legal-job-is (rowAt h k) (recordIn l k .job) (all-at i (legalIn h l) (sym so-far) k (omega arith)));
+          past = λ k m y. rw (record-in-state l k spare y, zero (k * recordWide) (omega arith), zero (k * recordWide + 1) (omega arith));
         }))
 
     pub legal-in-done : n ≤ i → i ≤ n → (long : ℕ) → long ≡ stateLong n → (r : Bool) → r ≡ zeroFrom long l → r ≡ legalState h (stateIn l)
-    legal-in-done a b long el r e = zeros-decide a b r (sym (e ∙ ap (λ (m : ℕ). zeroFrom m l) (el ∙ ap stateLong en)))
+    legal-in-done a b long el r e = zeros-decide a b r (sym (rw (el, en) at e))

@@ -1,6 +1,6 @@
 -- Legal jobs and states as facts, and back. Assumes nothing.
-use Rattle.basis.specs.Prelude.{ℕ, _≤_, _<_, _≡_, refl, sym, ap, Bool, true, false, length, List·getD-eq-default, ltb, leb, ⊎-elim, arith, lt-ltb, le-ltb, le-leb, leb-true, ltb-true}
-use Rattle.machine.proofs.Names.{mostRows, pick, within, both-left, both-right, both-true, at-least, at-most, within-true, all-at, all-true, lt-or-le, true-not-false, rowAt, Row, Sheet, Job, RowState, State, recordAt, legalRecordAt, legalState, noRecord, hasJob, legalJob, isZero}
+use Rattle.basis.specs.Prelude.{ℕ, _≤_, _<_, _≡_, refl, Bool, true, false, length, List·getD-eq-default, ltb, leb, ⊎-elim, arith, lt-ltb, le-ltb, le-leb, leb-true, ltb-true}
+use Rattle.machine.proofs.Names.{mostRows, pick, within, both-left, both-right, both-true, at-least, at-most, within-true, all-at, all-true, lt-or-le, rowAt, Row, Sheet, Job, State, recordAt, legalRecordAt, legalState, noRecord, hasJob, legalJob, isZero}
 
 -- a job that is legal for its row
 pub record LegalJob (row : Row) (j : Job) : Type 0 where
@@ -8,10 +8,6 @@ pub record LegalJob (row : Row) (j : Job) : Type 0 where
   pub most-since : j .since ≤ row .separation
   pub most-remaining : j .remaining ≤ row .budget
   pub in-time : 1 ≤ j .remaining → j .since < row .deadline
-
-pick-true : (t a : Bool) → pick t a true ≡ true → t ≡ true → a ≡ true
-pick-true true a e f = e
-pick-true false a e f = true-not-false (sym f)
 
 pub legal-job-is : (row : Row) (j : Job) → legalJob row j ≡ true → LegalJob row j
 unfolding legalJob
@@ -23,7 +19,7 @@ legal-job-is row j e =
       some-since = at-least 1 (row .separation) (j .since) since;
       most-since = at-most 1 (row .separation) (j .since) since;
       most-remaining = leb-true _ _ (both-left (leb (j .remaining) (row .budget)) _ rest);
-      in-time = λ l. ltb-true _ _ (pick-true (hasJob j) (ltb (j .since) (row .deadline)) late (lt-ltb 0 (j .remaining) l));
+      in-time = λ l. ltb-true _ _ (rw (lt-ltb 0 (j .remaining) l) at late);
     }
 
 pub legal-job-says : (row : Row) (j : Job) → LegalJob row j → legalJob row j ≡ true
@@ -57,9 +53,6 @@ module _ (h : Sheet) (t : State) (fit : h .count ≤ mostRows) where
 
 -- a legal state has a record for each row
 pub legal-state-long : (h : Sheet) (t : State) → LegalState h t → h .count ≤ length (t .rows)
-legal-state-long h t r = ⊎-elim (λ l. absurd (never l)) (λ l. l) (lt-or-le (length (t .rows)) (h .count))
-  where
-    never : length (t .rows) < h .count → ⊥
-    never l =
-        let e = List·getD-eq-default (t .rows) noRecord {n = length (t .rows)} (omega arith) in
-        omega (arith, r .rows (length (t .rows)) l .some-since, ap (λ (s : RowState). s .job .since) e)
+legal-state-long h t r =
+    let e = List·getD-eq-default (t .rows) noRecord {n = length (t .rows)} (omega arith) in
+    ⊎-elim (λ l. absurd (omega (arith, rw e at (r .rows (length (t .rows)) l .some-since)))) (λ l. l) (lt-or-le (length (t .rows)) (h .count))

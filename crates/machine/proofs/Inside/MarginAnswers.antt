@@ -1,5 +1,5 @@
 -- What is told of a margin, from the answers of what `margin` calls. Assumes nothing.
-use Rattle.basis.specs.Prelude.{ℕ, _+_, _≤_, _<_, _≡_, refl, sym, ap, ap₂, _∙_, List, length, arith, lt-ltb, le-ltb, ltb-true, w64}
+use Rattle.basis.specs.Prelude.{ℕ, _+_, _≤_, _<_, _≡_, refl, sym, ap, _∙_, List, length, arith, lt-ltb, le-ltb, ltb-true, w64}
 use lib.IntN.{_-ℤ_}
 use mir.Val.{SFits, toZ, ofZ}
 use mir.ValLaws.{toZ-ofZ}
@@ -22,14 +22,13 @@ pub margin-some : (row : Row) (s : Job) → row .deadline ≤ mostSeparation →
     → margin-is (toZ w64 (ofZ w64 (toZ w64 (row .deadline) -ℤ toZ w64 (s .since + s .remaining)))) ≡ marginAt row s
 unfolding marginAt marginOf
 margin-some row s a b c l =
-    rw (lt-ltb _ _ l)
-    (ap margin-is (toZ-ofZ w64 _ (margin-fits row s a b c) ∙ themselves (row .deadline) (s .since + s .remaining) a (omega arith) ∙ sym (less-twice (row .deadline) (s .since) (s .remaining))))
+    rw (lt-ltb _ _ l, toZ-ofZ w64 _ (margin-fits row s a b c), themselves (row .deadline) (s .since + s .remaining) a (omega arith), less-twice)
 
 -- `margin_on`
 module _ (s l : List ℕ) (k : ℕ) (c : Refusal) (e : outcome c ≡ checkMargin (sheetIn s) (stateIn l) k) where
   pub margin-is-refused : (a b : ℕ) → c ≡ Refused a b → refused-by a b ≡ margin (sheetIn s) (stateIn l) k
   unfolding margin
-  margin-is-refused a b f = rw (sym e ∙ ap outcome f)
+  margin-is-refused a b f = rw (sym e, f)
 
   module _ (f : c ≡ Accepted) where
     checked : Ready (sheetIn s) (stateIn l) × (k < sheetIn s .count)
@@ -56,7 +55,7 @@ module _ (s l : List ℕ) (k : ℕ) (c : Refusal) (e : outcome c ≡ checkMargin
     -- the record of the row stands in the list
     module _ (x : RowState) (ex : x ≡ recordIn l k) where
       is-job : x .job ≡ recordAt (stateIn l) k .job
-      is-job = ap (λ (y : RowState). y .job) (ex ∙ kept-record (sheetIn s) l (checked .0 .sheet-legal) (checked .0 .state-legal) k (checked .1))
+      is-job = rw (ex, kept-record (sheetIn s) l (checked .0 .sheet-legal) (checked .0 .state-legal) k (checked .1))
 
       job-is : LegalJob (rowAt (sheetIn s) k) (x .job)
       job-is = rw is-job (legal-state-is (sheetIn s) (stateIn l) (checked .0 .most-rows) (checked .0 .state-legal) .rows k (checked .1))
@@ -69,4 +68,4 @@ module _ (s l : List ℕ) (k : ℕ) (c : Refusal) (e : outcome c ≡ checkMargin
 
       pub listed-margin : (row : Row) → row ≡ rowAt (sheetIn s) k → (a : MarginAnswer) → a ≡ marginAt row (x .job) → a ≡ margin (sheetIn s) (stateIn l) k
       unfolding margin
-      listed-margin row er a g = rw (sym e ∙ ap outcome f) (g ∙ ap₂ marginAt er is-job)
+      listed-margin row er a g = rw (sym e, f) (rw (er, is-job) at g)

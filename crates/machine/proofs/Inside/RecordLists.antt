@@ -1,19 +1,7 @@
 -- Records of a state's list, as they are read and written in place. Assumes nothing.
-use Rattle.basis.specs.Prelude.{ℕ, zero, suc, _+_, _*_, _≤_, _<_, _≡_, refl, sym, ap, ap₂, _∙_, true, false, List, ⊎-elim, length, getD, set, length-set, getD-set-same, getD-set-other, ext-getD, arith, le-refl, eq-or-lt-of-le, add-one, lt-ltb, le-ltb, eq-eqb}
-use Rattle.machine.proofs.Names.{mostRows, upto, lt-or-le, all-same, all-true, upto-below, upto-past, length-upto, getD-all, numberAt, filled-read, RowState, recordOf, noRecord, noState, stateOf, recordAt, recordWide, recordIn, stateLong, zeroAt, zeroFrom, spareIsZero, stateIn, putRecord, putTo, cleared}
-
--- `record_in`
-pub record-read : (l : List ℕ) (k : ℕ) → recordOf (record { remaining = numberAt l (k * recordWide); since = numberAt l (k * recordWide + 1) }) ≡ recordIn l k
-unfolding recordIn
-record-read l k = refl
-
--- `put_record`
-pub inside-next : (l : List ℕ) (k v : ℕ) → stateLong (k + 1) ≤ length l → k * recordWide + 1 < length (set l (k * recordWide) v)
-inside-next l k v r = simp length-set (omega arith)
-
-pub record-put : (l : List ℕ) (k : ℕ) (s : RowState) → set (set l (k * recordWide) (s .job .remaining)) (k * recordWide + 1) (s .job .since) ≡ putRecord l k s
-unfolding putRecord
-record-put l k s = refl
+use Rattle.basis.specs.Prelude.{ℕ, zero, suc, _+_, _*_, _≤_, _<_, _≡_, refl, sym, ap, _∙_, true, false, List, ⊎-elim, length, getD, set, length-set, getD-set-same, getD-set-other, ext-getD, arith, le-refl, eq-or-lt-of-le, add-one}
+use Rattle.machine.proofs.Names.{mostRows, upto, lt-or-le, upto-below, upto-past, length-upto, getD-all, numberAt, filled-read, RowState, noRecord, noState, stateOf, recordAt, recordWide, recordIn, stateLong, spareIsZero, stateIn, putRecord, putTo, cleared}
+use Rattle.machine.proofs.Inside.Zeros.{all-zero, each-zero}
 
 -- one record that is written, read
 module _ (l : List ℕ) (k : ℕ) (s : RowState) where
@@ -24,30 +12,23 @@ module _ (l : List ℕ) (k : ℕ) (s : RowState) where
   -- another number is as it was
   put-other : (i : ℕ) → (i ≡ k * recordWide → ⊥) → (i ≡ k * recordWide + 1 → ⊥) → numberAt (putRecord l k s) i ≡ numberAt l i
   unfolding putRecord
-  put-other i a b =
-      getD-set-other (set l (k * recordWide) (s .job .remaining)) (k * recordWide + 1) i (s .job .since) 0 b ∙ getD-set-other l (k * recordWide) i (s .job .remaining) 0 a
+  put-other i a b = rw (getD-set-other, getD-set-other)
 
   put-here : stateLong (k + 1) ≤ length l → recordIn (putRecord l k s) k ≡ s
   unfolding putRecord recordIn
   put-here r =
-      let first = set l (k * recordWide) (s .job .remaining) in
-      let a = getD-set-other first (k * recordWide + 1) (k * recordWide) (s .job .since) 0 (λ e. omega arith) ∙ getD-set-same l (k * recordWide) (s .job .remaining) 0 (omega arith) in
-      let b = getD-set-same first (k * recordWide + 1) (s .job .since) 0 (simp length-set (omega arith)) in
-      λ i. recordOf (record { remaining = a i; since = b i })
+      rw (
+        getD-set-other (set l (k * recordWide) (s .job .remaining)) (k * recordWide + 1) (k * recordWide) (s .job .since) 0 (λ e. omega arith),
+        getD-set-same l (k * recordWide) (s .job .remaining) 0 (omega arith),
+        getD-set-same (set l (k * recordWide) (s .job .remaining)) (k * recordWide + 1) (s .job .since) 0 (simp length-set (omega arith)),
+      )
 
   put-elsewhere : (j : ℕ) → (j ≡ k → ⊥) → recordIn (putRecord l k s) j ≡ recordIn l j
   unfolding recordIn
-  put-elsewhere j d =
-      let a = put-other (j * recordWide) (λ e. d (omega arith)) (λ e. omega arith) in
-      let b = put-other (j * recordWide + 1) (λ e. omega arith) (λ e. d (omega arith)) in
-      λ i. recordOf (record { remaining = a i; since = b i })
+  put-elsewhere j d = rw (put-other (j * recordWide) (λ e. d (omega arith)) (λ e. omega arith), put-other (j * recordWide + 1) (λ e. omega arith) (λ e. d (omega arith)))
 
 -- the first n records that are written, read
 module _ (f : ℕ → RowState) (l : List ℕ) where
-  pub put-none : l ≡ putTo 0 f l
-  unfolding putTo
-  put-none = refl
-
   pub length-put-to : (n : ℕ) → length (putTo n f l) ≡ length l
   unfolding putTo
   length-put-to zero = refl
@@ -60,10 +41,7 @@ module _ (f : ℕ → RowState) (l : List ℕ) where
 
   pub put-record-past : (n k : ℕ) → n ≤ k → recordIn (putTo n f l) k ≡ recordIn l k
   unfolding recordIn
-  put-record-past n k h =
-      let a = put-past n (k * recordWide) (omega arith) in
-      let b = put-past n (k * recordWide + 1) (omega arith) in
-      λ i. recordOf (record { remaining = a i; since = b i })
+  put-record-past n k h = rw (put-past n (k * recordWide) (omega arith), put-past n (k * recordWide + 1) (omega arith))
 
   pub put-record-below : (n k : ℕ) → k < n → stateLong n ≤ length l → recordIn (putTo n f l) k ≡ f k
   unfolding putTo
@@ -90,8 +68,7 @@ record-of-none l k e = rw e (getD-all mostRows k noRecord)
 
 -- a list with room for every record and no more has no spare number
 pub spare-of-full : (l : List ℕ) → length l ≡ stateLong mostRows → spareIsZero l ≡ true
-unfolding zeroFrom zeroAt
-spare-of-full l long = all-true (length l) (zeroAt (stateLong mostRows) l) (λ i b. rw (lt-ltb i (stateLong mostRows) (omega (arith, long))))
+spare-of-full l long = all-zero (stateLong mostRows) l (λ i b a. absurd (omega arith))
 
 pub state-rows-long : (l : List ℕ) → spareIsZero l ≡ true → length (stateIn l .rows) ≡ mostRows
 unfolding stateIn
@@ -106,64 +83,43 @@ records-all f l m a b e =
 -- the state of a list whose first n records are written
 module _ (n : ℕ) (f : ℕ → RowState) (l : List ℕ) (spare : spareIsZero l ≡ true) (few : n ≤ mostRows) (room : stateLong n ≤ length l) where
   spare-put : spareIsZero (putTo n f l) ≡ true
-  unfolding zeroFrom zeroAt
-  spare-put =
-      rw (length-put-to f l n)
-      (all-same (length l) (zeroAt (stateLong mostRows) (putTo n f l)) (zeroAt (stateLong mostRows) l)
-      (λ i b. ⊎-elim (λ a. rw (lt-ltb i (stateLong mostRows) a)) (λ a. rw (put-past f l n i (omega arith))) (lt-or-le i (stateLong mostRows)))
-      ∙ spare)
+  spare-put = all-zero (stateLong mostRows) (putTo n f l) (λ i b a. rw (put-past f l n i (omega arith)) (each-zero (stateLong mostRows) l spare i a))
 
   pub state-put : stateIn (putTo n f l) ≡ stateOf (upto n f (stateIn l .rows))
   unfolding stateIn
   state-put =
+      let own : List RowState = upto mostRows (recordIn l) (noState .rows) in
+      let long : length own ≡ mostRows = length-upto mostRows (recordIn l) (noState .rows) in
       rw (spare-put, spare)
-      (ap stateOf
-      (records-all (recordIn (putTo n f l)) (noState .rows) (upto n f (upto mostRows (recordIn l) (noState .rows))) refl
-      (length-upto n f (upto mostRows (recordIn l) (noState .rows)) ∙ length-upto mostRows (recordIn l) (noState .rows))
-      (λ i there. ⊎-elim
-      (λ a. put-record-below f l n i a room ∙ sym (upto-below n f (upto mostRows (recordIn l) (noState .rows)) noRecord i a (rw (length-upto mostRows (recordIn l) (noState .rows)) few)))
-      (λ a. put-record-past f l n i a ∙ sym (upto-past n f (upto mostRows (recordIn l) (noState .rows)) noRecord i a ∙ upto-below mostRows (recordIn l) (noState .rows) noRecord i there (le-refl mostRows)))
+      (ap stateOf (records-all (recordIn (putTo n f l)) (noState .rows) (upto n f own) refl (length-upto n f own ∙ long)
+      (λ i there. ⊎-elim (λ a. put-record-below f l n i a room ∙ sym (upto-below n f own noRecord i a (omega arith)))
+      (λ a. put-record-past f l n i a ∙ sym (upto-past n f own noRecord i a ∙ upto-below mostRows (recordIn l) (noState .rows) noRecord i there (le-refl mostRows)))
       (lt-or-le i n))))
 
 -- the same records make the same list
 pub put-agree : (n : ℕ) (f g : ℕ → RowState) (l : List ℕ) → ((k : ℕ) → k < n → f k ≡ g k) → putTo n f l ≡ putTo n g l
 unfolding putTo
 put-agree zero f g l e = refl
-put-agree (suc n) f g l e = ap₂ (λ (x : List ℕ) (s : RowState). putRecord x n s) (put-agree n f g l (λ k b. e k (omega arith))) (e n (omega arith))
+put-agree (suc n) f g l e = rw (put-agree n f g l (λ k b. e k (omega arith)), e n (omega arith))
 
 -- a list's own records, put into another list, are its own numbers
 pub put-own : (l l₀ : List ℕ) (n i : ℕ) → i < stateLong n → stateLong n ≤ length l₀ → numberAt (putTo n (recordIn l) l₀) i ≡ numberAt l i
 unfolding putTo recordIn
 put-own l l₀ zero i b r = absurd (omega arith)
-put-own l l₀ (suc n) i b r = ⊎-elim (λ a. below a (put-own l l₀ n i a (omega arith))) here (lt-or-le i (stateLong n))
-  where
-    below : i < stateLong n → numberAt (putTo n (recordIn l) l₀) i ≡ numberAt l i → numberAt (putTo (suc n) (recordIn l) l₀) i ≡ numberAt l i
-    below a so = put-other (putTo n (recordIn l) l₀) n (recordIn l n) i (λ e. omega arith) (λ e. omega arith) ∙ so
-
-    same : recordIn (putTo (suc n) (recordIn l) l₀) n ≡ recordIn l n
-    same = put-record-below (recordIn l) l₀ (suc n) n (omega arith) r
-
-    here : stateLong n ≤ i → numberAt (putTo (suc n) (recordIn l) l₀) i ≡ numberAt l i
-    here a = ⊎-elim
-        (λ m. let e : i ≡ n * recordWide = omega arith in rw e (ap (λ (s : RowState). s .job .remaining) same))
-        (λ m. let e : i ≡ n * recordWide + 1 = omega arith in rw e (ap (λ (s : RowState). s .job .since) same))
-        (lt-or-le i (n * recordWide + 1))
+put-own l l₀ (suc n) i b r =
+    let same = put-record-below (recordIn l) l₀ (suc n) n (omega arith) r in
+    ⊎-elim (λ a. put-other (putTo n (recordIn l) l₀) n (recordIn l n) i (λ e. omega arith) (λ e. omega arith) ∙ put-own l l₀ n i a (omega arith))
+    (λ a. ⊎-elim (λ m. let e : i ≡ n * recordWide = omega arith in rw e (λ j. same j .job .remaining))
+    (λ m. let e : i ≡ n * recordWide + 1 = omega arith in rw e (λ j. same j .job .since)) (lt-or-le i (n * recordWide + 1))) (lt-or-le i (stateLong n))
 
 -- a list of zeros hands over the state of zeros
 module _ (l : List ℕ) (none : (i : ℕ) → numberAt l i ≡ 0) where
   pub zeros-spare : spareIsZero l ≡ true
-  unfolding zeroFrom zeroAt
-  zeros-spare =
-      all-true (length l) (zeroAt (stateLong mostRows) l)
-      (λ i b. ⊎-elim (λ a. rw (lt-ltb i (stateLong mostRows) a)) (λ a. rw (le-ltb i (stateLong mostRows) a, eq-eqb (numberAt l i) 0 (none i))) (lt-or-le i (stateLong mostRows)))
-
-  zeros-record : (k : ℕ) → recordIn l k ≡ noRecord
-  unfolding recordIn
-  zeros-record k = λ i. recordOf (record { remaining = none (k * recordWide) i; since = none (k * recordWide + 1) i })
+  zeros-spare = all-zero (stateLong mostRows) l (λ i b a. none i)
 
   pub zeros-state : stateIn l ≡ noState
-  unfolding stateIn
-  zeros-state = rw zeros-spare (ap stateOf (records-all (recordIn l) (noState .rows) (noState .rows) refl refl (λ k there. zeros-record k ∙ sym (getD-all mostRows k noRecord))))
+  unfolding stateIn recordIn
+  zeros-state = rw zeros-spare (ap stateOf (records-all (recordIn l) (noState .rows) (noState .rows) refl refl (λ k there. rw (none, none, getD-all))))
 
 pub cleared-none : (l : List ℕ) (i : ℕ) → numberAt (cleared l) i ≡ 0
 cleared-none l i = filled-read (λ i. 0) l i (λ b. refl)

@@ -1,14 +1,7 @@
 -- What each step of a slot does to a row's job, as facts. Assumes nothing.
-use Rattle.basis.specs.Prelude.{ℕ, _+_, _-_, _≤_, _<_, _≡_, refl, sym, _∙_, Bool, true, false, ltb, eqb, _⊎_, inl, inr, ⊎-elim, arith, lt-ltb, le-ltb, eq-eqb, ne-eqb, ltb-false, eqb-true, eqb-false}
+use Rattle.basis.specs.Prelude.{ℕ, _+_, _-_, _≤_, _<_, _≡_, refl, sym, _∙_, Bool, true, false, ltb, eqb, _⊎_, ⊎-elim, arith, lt-ltb, le-ltb, eq-eqb, ne-eqb, ltb-false}
 use Rattle.records.proofs.Names.{pick, both, accepted, refused, Row, Job, RowState, Aged, hasJob, released, worked, older, aged, missed, ended, codeAtEnd, checkRow, agedRow}
 use Rattle.basis.proofs.Inside.Words.{lt-or-le}
-
-same-or-not : (a b : ℕ) → (a ≡ b) ⊎ (a ≡ b → ⊥)
-same-or-not a b = go (eqb a b) refl
-  where
-    go : (t : Bool) → eqb a b ≡ t → (a ≡ b) ⊎ (a ≡ b → ⊥)
-    go true e = inl (eqb-true a b e)
-    go false e = inr (eqb-false a b e)
 
 -- 1. releases
 pub released-none : (s : Job) → released 0 s ≡ s
@@ -24,10 +17,6 @@ pub worked-near : (ran : Bool) (s : Job) → (worked ran s .remaining ≤ s .rem
 unfolding worked
 worked-near true s = (omega arith, omega arith)
 worked-near false s = (omega arith, omega arith)
-
-pub worked-since : (ran : Bool) (s : Job) → worked ran s .since ≡ s .since
-unfolding worked
-worked-since ran s = refl
 
 pub worked-one : (ran : Bool) (s : Job) → ran ≡ true → worked ran s .remaining ≡ s .remaining - 1
 unfolding worked
@@ -69,7 +58,12 @@ module _ (row : Row) (s : Job) where
       go false = refl
 
   pub ended-less : ended row s .remaining ≤ s .remaining
-  ended-less = ⊎-elim (λ e. omega (arith, ended-at e)) (λ d. omega (arith, ended-else d)) (same-or-not (s .since) (row .deadline))
+  unfolding ended missed
+  ended-less = go (both (hasJob s) (eqb (s .since) (row .deadline)))
+    where
+      go : (t : Bool) → pick t 0 (s .remaining) ≤ s .remaining
+      go true = omega arith
+      go false = omega arith
 
   pub ended-since : ended row s .since ≡ s .since
   unfolding ended

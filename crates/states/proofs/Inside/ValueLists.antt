@@ -1,5 +1,5 @@
 -- A sheet that is put into a list, and what is answered of the sheet in a list. Assumes nothing.
-use Rattle.basis.specs.Prelude.{ℕ, _+_, _*_, _≤_, _≡_, refl, ap, ap₂, _∙_, List, length, set, replicate, length-set, arith, le-refl}
+use Rattle.basis.specs.Prelude.{ℕ, _+_, _*_, _≤_, _≡_, refl, sym, ap, _∙_, List, length, set, replicate, length-set, arith, le-refl}
 use Rattle.states.proofs.Names.{mostRows, Outcome, outcome, Refusal, upto, upto-set, Sheet, RowState, State, noState, stateOf, recordAt, held, recordWide, recordIn, stateLong, stateIn, putRecord, putTo, freshOn, runIn, ranIn, put-more, records-all, state-put, spare-of-full, state-rows-long, checkSlot, checkRun, FreshAnswer, freshAnswer, runAnswer, fresh, run, MarginAnswer, margin}
 use Rattle.sheet.specs.Lists.{filled, sheetIn, sheetCell, sheetLong}
 use Rattle.sheet.proofs.RoundTrip.{whole-sheet-comes-back}
@@ -9,41 +9,35 @@ use Rattle.machine.proofs.StatesAfter.{fresh-of-zeros, run-listed-back}
 
 -- `listed`
 pub sheet-in-list : (h : Sheet) (l l₀ : List ℕ) → l ≡ filled (sheetCell h) l₀ → length (h .rows) ≡ mostRows → sheetLong mostRows ≤ length l₀ → sheetIn l ≡ h
-sheet-in-list h l l₀ e long room = ap sheetIn e ∙ whole-sheet-comes-back h l₀ long room
+sheet-in-list h l l₀ e long room = rw (e, whole-sheet-comes-back)
 
 -- each call by value, by its call on lists: `fresh`
 module _ (h : Sheet) (s : List ℕ) (eh : sheetIn s ≡ h) where
   pub fresh-by-list : (r : Refusal) (l′ : List ℕ) → freshAnswer (outcome r) l′ ≡ freshOn (sheetIn s) (replicate (stateLong mostRows) 0) → (u : State) → u ≡ stateIn l′ → freshAnswer (outcome r) u ≡ fresh h
-  fresh-by-list r l′ f u eu =
-      ap (freshAnswer (outcome r)) eu
-      ∙ ap (λ (x : FreshAnswer (List ℕ)). freshAnswer (x .outcome) (stateIn (x .state))) f
-      ∙ fresh-of-zeros (sheetIn s)
-      ∙ ap fresh eh
+  fresh-by-list r l′ f u eu = rw (eu, sym eh) (ap (λ (x : FreshAnswer (List ℕ)). freshAnswer (x .outcome) (stateIn (x .state))) f ∙ fresh-of-zeros (sheetIn s))
 
   -- a run, a margin, and the checks of a slot and of a run
   module _ (l : List ℕ) (t : State) (et : stateIn l ≡ t) where
     pub run-by-list : (rel cs : List ℕ) (r : Done) (l′ ds : List ℕ) → ranIn r l′ ds ≡ runIn (sheetIn s) l rel cs → (u : State) → u ≡ stateIn l′
         → runAnswer (r .done) (outcome (r .refusal)) u ds ≡ run h t rel cs
-    run-by-list rel cs r l′ ds f u eu =
-        ap (λ (x : State). ranIn r x ds) eu ∙ run-listed-back (sheetIn s) l rel cs r l′ ds f ∙ ap₂ (λ (g : Sheet) (x : State). run g x rel cs) eh et
+    run-by-list rel cs r l′ ds f u eu = rw (eu, sym eh, sym et) (run-listed-back (sheetIn s) l rel cs r l′ ds f)
 
     pub margin-by-list : (k : ℕ) (x : MarginAnswer) → x ≡ margin (sheetIn s) (stateIn l) k → x ≡ margin h t k
-    margin-by-list k x f = f ∙ ap₂ (λ (g : Sheet) (y : State). margin g y k) eh et
+    margin-by-list k x f = rw (eh, et) at f
 
     pub slot-check-by-list : (rel : List ℕ) (room : ℕ) (x : Outcome) → x ≡ checkSlot (sheetIn s) (stateIn l) rel room → x ≡ checkSlot h t rel room
-    slot-check-by-list rel room x f = f ∙ ap₂ (λ (g : Sheet) (y : State). checkSlot g y rel room) eh et
+    slot-check-by-list rel room x f = rw (eh, et) at f
 
     pub run-check-by-list : (rel : List ℕ) (room : ℕ) (x : Outcome) → x ≡ checkRun (sheetIn s) (stateIn l) rel room → x ≡ checkRun h t rel room
-    run-check-by-list rel room x f = f ∙ ap₂ (λ (g : Sheet) (y : State). checkRun g y rel room) eh et
+    run-check-by-list rel room x f = rw (eh, et) at f
 
 -- `state_list`
 pub state-in-list : (t : Value) (l l₀ : List ℕ) (i : ℕ) → i ≤ mostRows → mostRows ≤ i → l ≡ putTo i (recordAt (held t)) l₀ → l₀ ≡ replicate (stateLong mostRows) 0 → length (t .rows) ≡ mostRows → stateIn l ≡ held t
 state-in-list t l l₀ i a b e z long =
     let q : i ≡ mostRows = omega arith in
     let room : length l₀ ≡ stateLong mostRows = ap length z in
-    ap stateIn (e ∙ ap (λ (k : ℕ). putTo k (recordAt (held t)) l₀) q)
-    ∙ state-put mostRows (recordAt (held t)) l₀ (spare-of-full l₀ room) (le-refl mostRows) (omega arith)
-    ∙ ap stateOf (records-all (recordAt (held t)) (stateIn l₀ .rows) (t .rows) (state-rows-long l₀ (spare-of-full l₀ room)) long (λ k there. refl))
+    rw (e, q, state-put mostRows (recordAt (held t)) l₀ (spare-of-full l₀ room) (le-refl mostRows) (omega arith))
+    (ap stateOf (records-all (recordAt (held t)) (stateIn l₀ .rows) (t .rows) (state-rows-long l₀ (spare-of-full l₀ room)) long (λ k there. refl)))
 
 pub list-more : (t : Value) (l l₀ : List ℕ) (i : ℕ) → l ≡ putTo i (recordAt (held t)) l₀
     → set (set l (i * recordWide) (recordAt (held t) i .job .remaining)) (i * recordWide + 1) (recordAt (held t) i .job .since) ≡ putTo (i + 1) (recordAt (held t)) l₀
@@ -62,5 +56,4 @@ module _ (l : List ℕ) (t₀ t : Value) (i : ℕ) (so-far : t .rows ≡ upto i 
   unfolding stateIn
   records-done z a b long =
       let e : i ≡ mostRows = omega arith in
-      let z′ : t₀ .rows ≡ noState .rows = ap (λ (x : State). x .rows) z in
-      rw (spare-of-full l long) (ap stateOf (rw (e, z′) at so-far))
+      let z′ : t₀ .rows ≡ noState .rows = λ i. z i .rows in rw (spare-of-full l long) (ap stateOf (rw (e, z′) at so-far))

@@ -6,27 +6,14 @@ use Rattle.machine.proofs.places.is_legal_in as this
 
 abbrev Inv-loop : this.Tie.InvT-loop
 Inv-loop sheet list n long i₀ i =
-    (n ≡ sheetIn sheet .count)
-    × (i ≤ n)
-    × (n ≤ mostRows)
-    × (sheetLong n ≤ length sheet)
-    × (long ≡ stateLong n)
-    × (long ≤ length list)
-    × (legal (sheetIn sheet) ≡ true)
-    × (true ≡ allOf i (legalIn (sheetIn sheet) list))
-
-abbrev μ-loop : this.Tie.MeasureT-loop
-μ-loop sheet list n long i₀ i = n - i
-
-loop-holds : this.Tie.Need-loop-holds Inv-loop μ-loop
-unfolding allOf
-loop-holds c = (search needs, search needs, search legal-in-fits, search legal-sheet-long, search needs, search needs, search needs, refl)
-
-loop-again : this.Tie.Need-loop-again Inv-loop μ-loop
-loop-again c = (search needs, search needs, search needs, search needs, search needs, search needs, search needs, search legal-in-more)
+    (n ≡ sheetIn sheet .count) × (i ≤ n) × (n ≤ mostRows) × (sheetLong n ≤ length sheet) × (long ≡ stateLong n) × (long ≤ length list)
+    × (legal (sheetIn sheet) ≡ true) × (true ≡ allOf i (legalIn (sheetIn sheet) list))
 
 pub is-legal-in-spec : {M : Type 1} → this.Statement.statement M
+unfolding allOf
 is-legal-in-spec =
-    this.Tie.close (this.Tie.spec Inv-loop μ-loop (λ c. search record-scaled) (λ c. search legal-in-short) loop-holds
+    this.Tie.close (this.Tie.spec Inv-loop (λ sheet list n long i₀ i. n - i) (λ c. search record-scaled) (λ c. search legal-in-short)
+    (λ c. (search needs, search needs, search legal-in-fits, search legal-sheet-long, search needs, search needs, search needs, refl))
     (λ c κs. (search needs, search needs)) (λ c κs. (search needs, search needs)) (λ c κs. search needs) (λ c. search needs) (λ c. search needs)
-    loop-again (λ c. search legal-in-fails) (λ c κs. search needs) (λ c. search legal-in-done))
+    (λ c. (search needs, search needs, search needs, search needs, search needs, search needs, search needs, search legal-in-more))
+    (λ c. search legal-in-fails) (λ c κs. search needs) (λ c. search legal-in-done))

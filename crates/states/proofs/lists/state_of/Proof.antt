@@ -7,19 +7,9 @@ use Rattle.states.proofs.lists.state_of as this
 abbrev Inv-loop : this.Tie.InvT-loop
 Inv-loop list state₀ i₀ state i = (i ≤ mostRows) × (length list ≡ stateLong mostRows) × (state .rows ≡ upto i (recordIn list) (state₀ .rows))
 
-abbrev μ-loop : this.Tie.MeasureT-loop
-μ-loop list state₀ i₀ state i = mostRows - i
-
-loop-holds : this.Tie.Need-loop-holds Inv-loop μ-loop
-unfolding upto
-loop-holds c = (search needs, search needs, refl)
-
-loop-again : this.Tie.Need-loop-again Inv-loop μ-loop
-unfolding recordIn
-loop-again c = (search needs, search needs, search records-more)
-
 pub state-of-spec : {M : Type 1} → this.Statement.statement M
+unfolding upto recordIn
 state-of-spec =
-    this.Tie.close (this.Tie.spec Inv-loop μ-loop (λ c κs. search needs) loop-holds (λ c. search needs) (λ c. search needs) (λ c. search needs)
+    this.Tie.close (this.Tie.spec Inv-loop (λ list state₀ i₀ state i. mostRows - i) (λ c κs. search needs) (λ c. (search needs, search needs, refl))
     (λ c. search needs) (λ c. search needs) (λ c. search needs) (λ c. search needs) (λ c. search needs) (λ c. search needs) (λ c. search needs)
-    loop-again (λ c. search records-done))
+    (λ c. search needs) (λ c. search needs) (λ c. search needs) (λ c. (search needs, search needs, search records-more)) (λ c. search records-done))

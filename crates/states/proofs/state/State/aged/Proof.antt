@@ -6,25 +6,14 @@ use Rattle.states.proofs.state.State.aged as this
 
 abbrev Inv-loop : this.Tie.InvT-loop
 Inv-loop codes₀ sheet state₀ n i₀ codes state i =
-    (i ≤ n)
-    × (n ≤ mostRows)
-    × (n ≤ length codes₀)
-    × (length codes ≡ length codes₀)
-    × (state .rows ≡ upto i (agedRecord sheet (held state₀) codes₀) (state₀ .rows))
-    × (codes ≡ upto i (agedCode sheet (held state₀) codes₀) codes₀)
-
-abbrev μ-loop : this.Tie.MeasureT-loop
-μ-loop codes₀ sheet state₀ n i₀ codes state i = n - i
-
-loop-holds : this.Tie.Need-loop-holds Inv-loop μ-loop
-unfolding upto
-loop-holds c = (search needs, search needs, search needs, refl, refl, refl)
-
-loop-again : this.Tie.Need-loop-again Inv-loop μ-loop
-loop-again c = (search needs, search needs, search needs, search needs, search aged-rows, search aged-codes)
+    (i ≤ n) × (n ≤ mostRows) × (n ≤ length codes₀) × (length codes ≡ length codes₀)
+    × (state .rows ≡ upto i (agedRecord sheet (held state₀) codes₀) (state₀ .rows)) × (codes ≡ upto i (agedCode sheet (held state₀) codes₀) codes₀)
 
 pub aged-spec : {M : Type 1} → this.Statement.statement M
+unfolding upto
 aged-spec =
-    this.Tie.close (this.Tie.spec Inv-loop μ-loop loop-holds (λ c. search needs) (λ c. search needs) (λ c. search needs) (λ c. search needs)
-    (λ c. search needs) (λ c κs. search needs) (λ c. search needs) (λ c. search needs) (λ c. search needs) (λ c. search needs) (λ c. search needs)
-    loop-again (λ c. search needs) (λ c. (search rows-done, search upto-whole)))
+    this.Tie.close (this.Tie.spec Inv-loop (λ codes₀ sheet state₀ n i₀ codes state i. n - i) (λ c. (search needs, search needs, search needs, refl, refl, refl))
+    (λ c. search needs) (λ c. search needs) (λ c. search needs) (λ c. search needs) (λ c. search needs) (λ c κs. search needs) (λ c. search needs)
+    (λ c. search needs) (λ c. search needs) (λ c. search needs) (λ c. search needs)
+    (λ c. (search needs, search needs, search needs, search needs, search aged-rows, search aged-codes)) (λ c. search needs)
+    (λ c. (search rows-done, search upto-whole)))

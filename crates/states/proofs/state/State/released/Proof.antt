@@ -7,15 +7,10 @@ use Rattle.states.proofs.state.State.released as this
 abbrev Inv-loop : this.Tie.InvT-loop
 Inv-loop releases state₀ n i₀ state i = (i ≤ n) × (n ≤ mostRows) × (n ≤ length releases) × (state .rows ≡ upto i (releasedAt (held state₀) releases) (state₀ .rows))
 
-abbrev μ-loop : this.Tie.MeasureT-loop
-μ-loop releases state₀ n i₀ state i = n - i
-
-loop-holds : this.Tie.Need-loop-holds Inv-loop μ-loop
-unfolding upto
-loop-holds c = (search needs, search needs, search needs, refl)
-
 pub released-spec : {M : Type 1} → this.Statement.statement M
+unfolding upto
 released-spec =
-    this.Tie.close (this.Tie.spec Inv-loop μ-loop loop-holds (λ c. search needs) (λ c. search needs) (λ c. search needs) (λ c. search needs)
+    this.Tie.close (this.Tie.spec Inv-loop (λ releases state₀ n i₀ state i. n - i) (λ c. (search needs, search needs, search needs, refl))
+    (λ c. search needs) (λ c. search needs) (λ c. search needs) (λ c. search needs)
     (λ c κs. search needs) (λ c. search needs) (λ c. search needs) (λ c. search needs) (λ c. search needs)
     (λ c. (search needs, search needs, search needs, search released-more)) (λ c. search rows-done))
