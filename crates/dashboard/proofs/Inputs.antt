@@ -22,8 +22,7 @@ first-bytes-decide-the-text s = ⊎-elim long (λ h. ap verdictText (take-all (l
   where
     long : longestSheet + 1 < length s → verdictText (take (longestSheet + 1) s) ≡ verdictText s
     long h =
-        by-outcome s
-        (λ e. absurd (omega (arith, read-is-short s e)))
+        by-outcome s (λ e. absurd (omega (arith, read-is-short s e)))
         (λ k p e.
         refused-prints-one-line (take (longestSheet + 1) s) k p (ap (λ (a : Outcome × Sheet). a .0) (first-bytes-decide s) ∙ e)
         ∙ sym (refused-prints-one-line s k p e))

@@ -66,5 +66,4 @@ no-row-zero k p rest e = let z : _≡_ {A = ℕ} 0x30 0x4E = ap (λ (t : List �
 
 -- where row 0 is printed every row is reported: a sheet with a zero in threads, separation, deadline or budget prints no row
 pub printed-rows-are-reported : (s rest : List ℕ) → verdictText s ≡ 0x30 ∷ rest → (i : ℕ) → i < reading s .1 .count → Reported (rowAt (reading s .1) i)
-printed-rows-are-reported s rest t =
-    by-outcome s (read-is-reported s) (λ k p e. absurd (no-row-zero k p rest (sym t ∙ refused-prints-one-line s k p e)))
+printed-rows-are-reported s rest t = by-outcome s (read-is-reported s) (λ k p e. absurd (no-row-zero k p rest (sym t ∙ refused-prints-one-line s k p e)))

@@ -34,8 +34,7 @@ lines-are-short : (label : ℕ → List ℕ) (result : ℕ → Word) (n : ℕ) �
 unfolding lines sum
 lines-are-short label result zero l s = omega arith
 lines-are-short label result (suc n) l s =
-    rw length-append
-    (omega (
+    rw length-append (omega (
       arith,
       lines-are-short label result n (λ i k. l i (omega arith)) (λ i k. s i (omega arith)),
       line-is-short n (label n) (result n) (l n (omega arith)) (s n (omega arith)),
@@ -49,8 +48,7 @@ ending-is-short false = omega arith
 
 module _ (label : ℕ → List ℕ) (h : Sheet) (fine : Legal h) where
   small : (i : ℕ) → i < h .count → Small (resultOf passes h i)
-  small i l e =
-      omega (arith, bound-in-range passes passes-local h i e, fine .rows i l)
+  small i l e = omega (arith, bound-in-range passes passes-local h i e, fine .rows i l)
 
   board-is-short : ((i : ℕ) → i < h .count → length (label i) ≤ longestLabel) → length (board label h) ≤ longestText
   unfolding board longestText

@@ -56,8 +56,7 @@ ends-in-holds-is-green s t =
     let all : Bool = holds passes (reading s .1) in
     let q = ends-same (l .before) (t .before) (ending all) holdsLine (sym (l .whole) ∙ sym (accepted-prints-its-rows s e) ∙ t .whole) (ending-long all) in
     let yes : holds passes (reading s .1) ≡ true = ending-holds all q in
-    rw (e, yes))
-    (λ k p e. absurd (no-verdict-is-not-holds k p (t .before) (sym (refused-prints-one-line s k p e) ∙ t .whole)))
+    rw (e, yes)) (λ k p e. absurd (no-verdict-is-not-holds k p (t .before) (sym (refused-prints-one-line s k p e) ∙ t .whole)))
 
 green-is-accepted : (s : List ℕ) → greenOf s ≡ true → (reading s .0 ≡ accepted) × (holds passes (reading s .1) ≡ true)
 unfolding greenOf

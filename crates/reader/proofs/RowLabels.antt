@@ -41,8 +41,7 @@ label-of-row s i l = go (sheet s 0) refl l
     go (ok h n) e g =
         let f = found s i h n e g in
         let b = bounded longestLabel 6 6 _ _ _ _ (f .lies .head) in
-        simp (e, lt-ltb i (length (h .entries)) g, f .head)
-        (record {
+        simp (e, lt-ltb i (length (h .entries)) g, f .head) (record {
           some = b .positive;
           short = b .not-over;
           inside = f .lies .inside;

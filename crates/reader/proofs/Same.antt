@@ -9,8 +9,7 @@ use Rattle.reader.specs.declared.whole.Reading.{Reading}
 -- an answer stands for one value of the code
 pub reading-one-to-one : (a b : Reading) → outcomeAndSheet a ≡ outcomeAndSheet b → a ≡ b
 reading-one-to-one a b e =
-    ap₂ (λ (r : Refusal) (h : Sheet). record { refusal = r; sheet = h })
-    (outcome-one-to-one (a .refusal) (b .refusal) (ap (λ (x : Outcome × Sheet). x .0) e))
+    ap₂ (λ (r : Refusal) (h : Sheet). record { refusal = r; sheet = h }) (outcome-one-to-one (a .refusal) (b .refusal) (ap (λ (x : Outcome × Sheet). x .0) e))
     (ap (λ (x : Outcome × Sheet). x .1) e)
 
 -- `read`

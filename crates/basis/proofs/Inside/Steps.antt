@@ -16,8 +16,7 @@ pub refuse-same : {A : Type 0} {k p j q : ℕ} → _≡_ {A = Step A} (refuse k 
 refuse-same e = (cc, cc)
 
 -- where readers that follow each other accept, each accepts
-pub after-ok : {A B R : Type 0} (x : Step A) (f : A → ℕ → Step B) {b : B} {n : ℕ} → after x f ≡ ok b n
-    → ((a : A) (m : ℕ) → x ≡ ok a m → f a m ≡ ok b n → R) → R
+pub after-ok : {A B R : Type 0} (x : Step A) (f : A → ℕ → Step B) {b : B} {n : ℕ} → after x f ≡ ok b n → ((a : A) (m : ℕ) → x ≡ ok a m → f a m ≡ ok b n → R) → R
 after-ok (ok a m) f e k = k a m refl e
 after-ok (refuse j p) f e k = absurd (never-ok refl e)
 

@@ -14,8 +14,7 @@ lesser-evenly c d a b w x y z f g =
     rw e (omega (arith, f, mul-le-mul-left {m = min a x} {n = a} c (omega arith), mul-le-mul-left {m = min b y} {n = b} d (omega arith))))
     (λ l.
     let e : min w z ≡ z = omega arith in
-    rw e (omega (arith, g, mul-le-mul-left {m = min a x} {n = x} c (omega arith), mul-le-mul-left {m = min b y} {n = y} d (omega arith))))
-    (lt-or-le w z)
+    rw e (omega (arith, g, mul-le-mul-left {m = min a x} {n = x} c (omega arith), mul-le-mul-left {m = min b y} {n = y} d (omega arith)))) (lt-or-le w z)
 
 module _ (C T : ℕ) (pos : 1 ≤ T) (fits : C ≤ T) where
   at-lt : (a r : ℕ) → r < T → ω C T (a * T + r) ≡ a * C + min C r
@@ -88,10 +87,8 @@ module _ (C T : ℕ) (pos : 1 ≤ T) (fits : C ≤ T) where
     where
       part : (r : ℕ) → r < T → r * C ≤ min C r * T
       part r l =
-          ⊎-elim
-          (λ h. let z : min C r ≡ r = omega arith in rw z (mul-le-mul-left r fits))
-          (λ h. let z : min C r ≡ C = omega arith in rw z (omega (arith, mul-le-mul-left C (le-of-lt l))))
-          (lt-or-le r C)
+          ⊎-elim (λ h. let z : min C r ≡ r = omega arith in rw z (mul-le-mul-left r fits))
+          (λ h. let z : min C r ≡ C = omega arith in rw z (omega (arith, mul-le-mul-left C (le-of-lt l)))) (lt-or-le r C)
 
   -- within one period it is above the straight line from its value at the start to that at the end
   pub ω-evenly : (x c d : ℕ) → x % T + (c + d) ≤ T → c * ω C T x + d * ω C T (x + (c + d)) ≤ (c + d) * ω C T (x + d)

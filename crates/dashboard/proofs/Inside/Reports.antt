@@ -47,9 +47,7 @@ module _ (s list parts results : List ℕ) (room : Roomy s list parts results) (
     pub verdict-accepted : (buffer : List ℕ) (q : Page) → q ≡ said (buffer, 0) (lines (lineLabel Own s) (wordAt rs) n ++ ending h) → q ≡ written (verdictText s) buffer
     unfolding lineLabel
     verdict-accepted buffer q f =
-        said-is-written q _ buffer
-        (f
-        ∙ ap (said (buffer, 0))
+        said-is-written q _ buffer (f ∙ ap (said (buffer, 0))
         (board-is (reading s .1) (ownLabel s) (wordAt rs) n h count-is (judged-word s list parts results (outcome a) h l b rs e accepts) (judged-holds s list parts results (outcome a) h l b rs e accepts)
         ∙ text-of Accepted g))
 

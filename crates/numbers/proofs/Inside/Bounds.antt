@@ -7,16 +7,10 @@ use Rattle.numbers.proofs.Inside.Groups.{one-less, ends, over, low, las
 pub inside : (g first least : ℕ) (s : List ℕ) (at v n : ℕ) → groups g first least s at ≡ ok v n → (at < n) × (n ≤ length s)
 inside zero first least s at v n e = absurd (never-ok (over 0 first least s at (omega arith)) e)
 inside (suc g) first least s at v n e =
-    ⊎-elim
-    (λ h. ⊎-elim
-    (λ b. ⊎-elim
-    (λ l. absurd (never-ok (low (suc g) first least s at (zero-lt-suc g) h b l) e))
-    (λ l. only h (sym (last (suc g) first least s at (zero-lt-suc g) h b l) ∙ e))
-    (lt-or-le (getD s at 0) least))
+    ⊎-elim (λ h. ⊎-elim (λ b. ⊎-elim (λ l. absurd (never-ok (low (suc g) first least s at (zero-lt-suc g) h b l) e))
+    (λ l. only h (sym (last (suc g) first least s at (zero-lt-suc g) h b l) ∙ e)) (lt-or-le (getD s at 0) least))
     (λ b. several (λ u m e₁. inside g first 1 s (at + 1) u m e₁) (groups g first 1 s (at + 1)) refl (sym (simp one-less at (more (suc g) first least s at (zero-lt-suc g) h b)) ∙ e))
-    (lt-or-le (getD s at 0) 128))
-    (λ h. absurd (never-ok (ends (suc g) first least s at (zero-lt-suc g) h) e))
-    (lt-or-le at (length s))
+    (lt-or-le (getD s at 0) 128)) (λ h. absurd (never-ok (ends (suc g) first least s at (zero-lt-suc g) h) e)) (lt-or-le at (length s))
   where
     only : at < length s → ok (getD s at 0) (at + 1) ≡ ok v n → (at < n) × (n ≤ length s)
     only h e₁ = let en : at + 1 ≡ n = cc in omega arith

@@ -44,8 +44,7 @@ scaled-none (ok u n) = ap (λ (k : ℕ). ok k n) (omega arith)
 scaled-none (refuse k p) = refl
 
 pub scaled-more : (v w d : ℕ) (x : Step ℕ) → scaled v w (after x (λ u n. ok (d + 128 * u) n)) ≡ scaled (v + d * w) (w * 128) x
-scaled-more v w d (ok u n) =
-    ap (λ (k : ℕ). ok k n) (omega (arith, add-mul d (128 * u) w, mul-assoc 128 u w, mul-assoc u w 128))
+scaled-more v w d (ok u n) = ap (λ (k : ℕ). ok k n) (omega (arith, add-mul d (128 * u) w, mul-assoc 128 u w, mul-assoc u w 128))
 scaled-more v w d (refuse k p) = refl
 
 pub again : (v w g first least : ℕ) (s : List ℕ) (at : ℕ) → 0 < g → at < length s → 128 ≤ getD s at 0
@@ -60,8 +59,7 @@ room-more w (suc left) pos = rw (one-less left, pow-succ' 128 left) (mul-assoc w
 
 pub room-one : (w left : ℕ) → 0 < left → w * 128 ≤ w * 128 ^ left
 room-one w zero pos = absurd (not-suc-le-zero pos)
-room-one w (suc left) pos =
-    mul-le-mul-left w (omega (arith, pow-succ' 128 left, one-le-pow left 128 (omega arith)))
+room-one w (suc left) pos = mul-le-mul-left w (omega (arith, pow-succ' 128 left, one-le-pow left 128 (omega arith)))
 
 pub digit-room : (v w d : ℕ) → v < w → d < 128 → v + d * w < w * 128
 digit-room v w d h l = let e : d * w ≤ 127 * w = mul-le-mul-right w (omega arith) in omega arith

@@ -13,11 +13,8 @@ spelt-grows : (g u v : ℕ) → u ≤ v → length (spelt g u) ≤ length (spelt
 unfolding spelt
 spelt-grows zero u v h = omega arith
 spelt-grows (suc g) u v h =
-    ⊎-elim
-    (λ a. ⊎-elim
-    (λ b. omega (arith, ap length (spelt-one g u a), ap length (spelt-one g v b)))
-    (λ b. omega (arith, ap length (spelt-one g u a), ap length (spelt-more g v b)))
-    (lt-or-le v 128))
+    ⊎-elim (λ a. ⊎-elim (λ b. omega (arith, ap length (spelt-one g u a), ap length (spelt-one g v b)))
+    (λ b. omega (arith, ap length (spelt-one g u a), ap length (spelt-more g v b))) (lt-or-le v 128))
     (λ a. omega (arith, ap length (spelt-more g u a), ap length (spelt-more g v (omega arith)), spelt-grows g (u / 128) (v / 128) (omega arith)))
     (lt-or-le u 128)
 
@@ -27,16 +24,10 @@ module _ (g first least : ℕ) (s : List ℕ) (at : ℕ) (x : Step ℕ) (e : gro
       → (at < length s → least ≤ getD s at 0 → getD s at 0 < 128 → x ≡ ok (getD s at 0) (at + 1) → R)
       → (at < length s → 128 ≤ getD s at 0 → x ≡ after (groups g first 1 s (at + 1)) (λ v n. ok (getD s at 0 - 128 + 128 * v) n) → R) → R
   by-group f₁ f₂ f₃ f₄ =
-      ⊎-elim
-      (λ h. ⊎-elim
-      (λ b. ⊎-elim
-      (λ l. f₂ h (sym e ∙ low (suc g) first least s at (zero-lt-suc g) h b l))
-      (λ l. f₃ h l b (sym e ∙ last (suc g) first least s at (zero-lt-suc g) h b l))
-      (lt-or-le (getD s at 0) least))
-      (λ b. f₄ h b (sym e ∙ simp one-less at (more (suc g) first least s at (zero-lt-suc g) h b)))
-      (lt-or-le (getD s at 0) 128))
-      (λ h. f₁ (sym e ∙ ends (suc g) first least s at (zero-lt-suc g) h))
-      (lt-or-le at (length s))
+      ⊎-elim (λ h. ⊎-elim (λ b. ⊎-elim (λ l. f₂ h (sym e ∙ low (suc g) first least s at (zero-lt-suc g) h b l))
+      (λ l. f₃ h l b (sym e ∙ last (suc g) first least s at (zero-lt-suc g) h b l)) (lt-or-le (getD s at 0) least))
+      (λ b. f₄ h b (sym e ∙ simp one-less at (more (suc g) first least s at (zero-lt-suc g) h b))) (lt-or-le (getD s at 0) 128))
+      (λ h. f₁ (sym e ∙ ends (suc g) first least s at (zero-lt-suc g) h)) (lt-or-le at (length s))
 
 -- what is read takes as many bytes as its value does
 record Taken (g least at v n : ℕ) : Type 0 where
@@ -46,9 +37,7 @@ record Taken (g least at v n : ℕ) : Type 0 where
 taken : (g first least : ℕ) (s : List ℕ) (at v n : ℕ) → least ≤ 1 → groups g first least s at ≡ ok v n → Taken g least at v n
 taken zero first least s at v n l e = absurd (never-ok (over 0 first least s at (omega arith)) e)
 taken (suc g) first least s at v n l e =
-    by-group g first least s at (ok v n) e
-    (λ q. absurd (never-ok q refl))
-    (λ h q. absurd (never-ok q refl))
+    by-group g first least s at (ok v n) e (λ q. absurd (never-ok q refl)) (λ h q. absurd (never-ok q refl))
     (λ h m b q.
     let (ev, en) = ok-same q in
     record { not-less = omega arith; bytes = omega (arith, ap length (spelt-one g v (omega arith))) })
@@ -72,11 +61,9 @@ groups-refuses zero first least s at k p l e =
     let (a, b) = refuse-same {A = ℕ} (sym (over 0 first least s at (omega arith)) ∙ e) in
     bytes-refusal-as s a b (bytes-refusal s 3 first (omega arith) (omega arith) l)
 groups-refuses (suc g) first least s at k p l e =
-    by-group g first least s at (refuse k p) e
-    (λ q. let (a, b) = refuse-same q in bytes-refusal-as s (sym a) (sym b) (bytes-end-refusal s))
+    by-group g first least s at (refuse k p) e (λ q. let (a, b) = refuse-same q in bytes-refusal-as s (sym a) (sym b) (bytes-end-refusal s))
     (λ h q. let (a, b) = refuse-same q in bytes-refusal-as s (sym a) (sym b) (bytes-refusal s 3 first (omega arith) (omega arith) l))
-    (λ h m b q. absurd (never-ok (sym q) refl))
-    (λ h b q. several (λ j i e₁. groups-refuses g first 1 s (at + 1) j i l e₁) (groups g first 1 s (at + 1)) refl q)
+    (λ h m b q. absurd (never-ok (sym q) refl)) (λ h b q. several (λ j i e₁. groups-refuses g first 1 s (at + 1) j i l e₁) (groups g first 1 s (at + 1)) refl q)
   where
     several : ((j i : ℕ) → groups g first 1 s (at + 1) ≡ refuse j i → BytesRefusal s j i) → (x : Step ℕ) → groups g first 1 s (at + 1) ≡ x
         → refuse k p ≡ after x (λ u m. ok (getD s at 0 - 128 + 128 * u) m) → BytesRefusal s k p
@@ -120,8 +107,7 @@ up-to-alike most under beyond at s t e =
     let r : ℕ → Reader ℕ = λ v. pick (eqb v 0) (refuse-at under at) (pick (leb v most) (give v) (refuse-at beyond at)) in
     ap (λ (y : Step ℕ). after y (λ v n. r v s n)) e ∙ go (number t at)
   where
-    go : (x : Step ℕ)
-        → after x (λ v n. pick (eqb v 0) (refuse-at under at) (pick (leb v most) (give v) (refuse-at beyond at)) s n)
+    go : (x : Step ℕ) → after x (λ v n. pick (eqb v 0) (refuse-at under at) (pick (leb v most) (give v) (refuse-at beyond at)) s n)
         ≡ after x (λ v n. pick (eqb v 0) (refuse-at under at) (pick (leb v most) (give v) (refuse-at beyond at)) t n)
     go (ok v n) =
         pick-alike (eqb v 0) (refuse-at under at) (pick (leb v most) (give v) (refuse-at beyond at)) s t n refl

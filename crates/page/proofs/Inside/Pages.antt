@@ -67,8 +67,7 @@ unfolding said
 said-at [] x y = pair (simp take-nil) (omega arith)
 said-at (b ∷ t) x [] = ap (λ (p : Page). said p t) (put-full b x) ∙ said-at t x [] ∙ pair (simp drop-nil) (omega arith)
 said-at (b ∷ t) x (a ∷ y) =
-    ap (λ (p : Page). said p t) (put-room b x a y)
-    ∙ said-at t (x ++ (b ∷ [])) y
+    ap (λ (p : Page). said p t) (put-room b x a y) ∙ said-at t (x ++ (b ∷ [])) y
     ∙ pair (append-assoc x (b ∷ []) (take (length y) t ++ drop (length t) y)) (omega (arith, length-append x (b ∷ [])))
 
 -- what is said from the start is written

@@ -49,7 +49,6 @@ plain-ok (suc k) s at bs n e =
       next = omega (arith, r .next);
       long = ap length (sym ec) ∙ ap suc (r .long);
       bytes =
-          sym ec
-          ∙ ap₂ (λ (x : ℕ) (l : List ℕ). x ∷ l) (sym eb) (r .bytes ∙ ap (λ (j : ℕ). take k (drop j s)) (sym em ∙ add-one at))
+          sym ec ∙ ap₂ (λ (x : ℕ) (l : List ℕ). x ∷ l) (sym eb) (r .bytes ∙ ap (λ (j : ℕ). take k (drop j s)) (sym em ∙ add-one at))
           ∙ ap (take (suc k)) (sym (drop-cons s at 0 there));
     }

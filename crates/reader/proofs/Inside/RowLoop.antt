@@ -14,8 +14,7 @@ split m (suc i) k s at es next e =
     after-ok (entry m s at) _ e λ x q e₁ e₂.
     after-ok (entries m i s q) _ e₂ λ gs l e₃ e₄.
     let z : suc i + k ≡ suc (i + k) = omega arith in
-    ap (λ (j : ℕ). mapStep nothing (entries m j s at)) z
-    ∙ simp e₁ (map-step-after nothing (λ (zs : List Entry). x ∷ zs) (entries m (i + k) s q))
+    ap (λ (j : ℕ). mapStep nothing (entries m j s at)) z ∙ simp e₁ (map-step-after nothing (λ (zs : List Entry). x ∷ zs) (entries m (i + k) s q))
     ∙ split m i k s q gs l e₃ ∙ ap (λ (j : ℕ). mapStep nothing (entries m k s j)) (ok-same e₄ .1)
 
 -- before the first row

@@ -71,8 +71,7 @@ module _ (s : List ℕ) (o : Outcome) (l b : List ℕ) (e : lists o l b ≡ read
   part-was-read k h p ep =
       let number : (i : ℕ) → i < labelsLong mostRows → numberAt b i ≡ labelCell s i =
       λ i l. ap (λ (x : Lists). numberAt (x .1 .1) i) whole ∙ filled-read (labelCell s) (zeros (labelsLong mostRows)) i (λ z. absurd (omega (arith, zeros-long (labelsLong mostRows)))) in
-      ep
-      ∙ ap₂ (λ (x y : ℕ). record { start = x; long = y }) (number (k * 2) (omega arith) ∙ first-cell (λ j. labelIn s j .start) (λ j. labelIn s j .long) k)
+      ep ∙ ap₂ (λ (x y : ℕ). record { start = x; long = y }) (number (k * 2) (omega arith) ∙ first-cell (λ j. labelIn s j .start) (λ j. labelIn s j .long) k)
       (number (k * 2 + 1) (omega arith) ∙ second-cell (λ j. labelIn s j .start) (λ j. labelIn s j .long) k)
 
   pub parts-were-read : (k : ℕ) → k < mostRows → partIn b k ≡ labelIn s k

@@ -31,8 +31,7 @@ cell-past h n past i b =
 pub no-sheet-cell : (i : ℕ) → sheetCell noSheet i ≡ 0
 unfolding listCell
 no-sheet-cell i =
-    ⊎-elim (λ a. rw (eq-eqb i 0 (omega arith)))
-    (λ a. ⊎-elim (λ b. rw (ne-eqb i 0 (λ z. omega arith), eq-eqb i 1 (omega arith)))
+    ⊎-elim (λ a. rw (eq-eqb i 0 (omega arith))) (λ a. ⊎-elim (λ b. rw (ne-eqb i 0 (λ z. omega arith), eq-eqb i 1 (omega arith)))
     (λ b. rw (ne-eqb i 0 (λ z. omega arith), ne-eqb i 1 (λ z. omega arith)) (ap (λ (row : Row). rowCell row ((i - 2) % 4)) (getD-all mostRows ((i - 2) / 4) noRow) ∙ cell-of-none ((i - 2) % 4)))
     (lt-or-le i 2)) (lt-or-le i 1)
 
@@ -46,8 +45,7 @@ unfolding rowOf
 row-there i r e =
     ⊎-elim (λ a. let f : r ≡ 0 = e ∙ rw (lt-ltb i 2 a) in omega arith)
     (λ a. ⊎-elim (λ b. let f : r ≡ (i - 2) / 4 = e ∙ rw (le-ltb i 2 a, lt-leb (sheetLong mostRows) i b) in omega (arith, div-add-mod' (i - 2) 4))
-    (λ b. let f : r ≡ 0 = e ∙ rw (le-ltb i 2 a, le-leb (sheetLong mostRows) i b) in omega arith) (lt-or-le i (sheetLong mostRows)))
-    (lt-or-le i 2)
+    (λ b. let f : r ≡ 0 = e ∙ rw (le-ltb i 2 a, le-leb (sheetLong mostRows) i b) in omega arith) (lt-or-le i (sheetLong mostRows))) (lt-or-le i 2)
 
 -- the length of an array of structs
 pub unmapped : {A B : Type 0} (f : A → B) (l : List A) (n : ℕ) → length (map f l) ≡ n → length l ≡ n
@@ -71,12 +69,9 @@ module _ (h : Sheet) (i : ℕ) (row : Row) where
 pub cell-found : (h : Sheet) (i r : ℕ) → length (h .rows) ≡ mostRows → r ≡ rowOf i → (v : ℕ) → v ≡ cellBy (h .processors) (h .count) (rowAt h r) i → v ≡ sheetCell h i
 unfolding rowOf
 cell-found h i r long e v f =
-    ⊎-elim (λ a. f ∙ at-head h i (rowAt h r) a)
-    (λ a. ⊎-elim
+    ⊎-elim (λ a. f ∙ at-head h i (rowAt h r) a) (λ a. ⊎-elim
     (λ b. let q : r ≡ (i - 2) / 4 = e ∙ rw (le-ltb i 2 a, lt-leb (sheetLong mostRows) i b) in f ∙ at-row h i (rowAt h r) a b (ap (rowAt h) q))
-    (λ b. f ∙ at-end h i (rowAt h r) long b)
-    (lt-or-le i (sheetLong mostRows)))
-    (lt-or-le i 2)
+    (λ b. f ∙ at-end h i (rowAt h r) long b) (lt-or-le i (sheetLong mostRows))) (lt-or-le i 2)
 
 -- and its store fills one place more
 pub cell-stored : (h : Sheet) (l₀ l : List ℕ) (i r : ℕ) → l ≡ upto i (sheetCell h) l₀ → length (h .rows) ≡ mostRows → r ≡ rowOf i → (v : ℕ) → v ≡ cellBy (h .processors) (h .count) (rowAt h r) i

@@ -35,8 +35,7 @@ pub cleared-is-filled : (f : ℕ → ℕ) (from : ℕ) (l m : List ℕ) → m �
 unfolding filled clearedCell
 cleared-is-filled f from l m em room past =
     let long : length m ≡ length l = ap length em ∙ length-upto from f l in
-    ext-getD 0 (filled (clearedCell from m) m) (filled f l)
-    (length-filled (clearedCell from m) m ∙ long ∙ sym (length-filled f l))
+    ext-getD 0 (filled (clearedCell from m) m) (filled f l) (length-filled (clearedCell from m) m ∙ long ∙ sym (length-filled f l))
     (λ i b. let there : i < length l = omega (arith, length-filled (clearedCell from m) m) in
     let same : clearedCell from m i ≡ f i =
     ⊎-elim (λ a. rw (lt-ltb i from a, em) (upto-below from f l 0 i a room)) (λ a. rw (le-ltb i from a) (sym (past i a))) (lt-or-le i from) in

@@ -17,8 +17,7 @@ module _ (l : List ℕ) (rows : List Row) (i : ℕ) (so-far : rows ≡ upto i (r
   pub rows-more : (row : Row) → row ≡ rowIn l i → set rows i row ≡ upto (i + 1) (rowIn l) (noRows mostRows)
   rows-more row e = upto-set i (rowIn l) rows (noRows mostRows) row so-far e
 
-  pub sheet-read : (m n : ℕ) → i ≤ mostRows → mostRows ≤ i → m ≡ numberAt l 0 → n ≡ numberAt l 1
-      → record { processors = m; count = n; rows = rows } ≡ sheetIn l
+  pub sheet-read : (m n : ℕ) → i ≤ mostRows → mostRows ≤ i → m ≡ numberAt l 0 → n ≡ numberAt l 1 → record { processors = m; count = n; rows = rows } ≡ sheetIn l
   unfolding sheetIn
   sheet-read m n a b em en =
       let e : i ≡ mostRows = omega arith in

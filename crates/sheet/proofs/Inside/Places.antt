@@ -14,8 +14,7 @@ unfolding sheetIn
 count-handed l n e = e
 
 -- `row_inside`
-pub numbers-handed : (l : List ℕ) (k : ℕ) → k < mostRows
-    → _≡_ {A = Row}
+pub numbers-handed : (l : List ℕ) (k : ℕ) → k < mostRows → _≡_ {A = Row}
     (record { threads = numberAt l (k * 4 + 2); separation = numberAt l (k * 4 + 3); deadline = numberAt l (k * 4 + 4); budget = numberAt l (k * 4 + 5) })
     (rowAt (sheetIn l) k)
 unfolding rowIn

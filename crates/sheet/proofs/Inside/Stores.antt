@@ -28,7 +28,6 @@ module _ (m n : ℕ) (rows : ℕ → Row) where
   pub rows-agree : (rows′ : ℕ → Row) → ((k : ℕ) → k < n → rows k ≡ rows′ k) → (i : ℕ) → i < sheetLong n → listCell m n rows i ≡ listCell m n rows′ i
   unfolding listCell
   rows-agree rows′ same i l =
-      ⊎-elim (λ a. rw (eq-eqb i 0 (omega arith)))
-      (λ a. ⊎-elim (λ b. rw (ne-eqb i 0 (λ z. omega arith), eq-eqb i 1 (omega arith)))
+      ⊎-elim (λ a. rw (eq-eqb i 0 (omega arith))) (λ a. ⊎-elim (λ b. rw (ne-eqb i 0 (λ z. omega arith), eq-eqb i 1 (omega arith)))
       (λ b. rw (ne-eqb i 0 (λ z. omega arith), ne-eqb i 1 (λ z. omega arith))
       (ap (λ (row : Row). rowCell row ((i - 2) % 4)) (same ((i - 2) / 4) (omega (arith, div-add-mod' (i - 2) 4))))) (lt-or-le i 2)) (lt-or-le i 1)

@@ -22,15 +22,6 @@ below t = and 1 kinds.ps (falls 1 kinds.ps _<_ μ t) own.Pre
 pub +put-digits-spec : {M : Type 1} → statement M
 +put-digits-spec =
     close μ λ t.
-    lts.spec (put-reads.Asked, put-reads.Learnt, below t, own.Post) (at t) own.Post
-    (λ c. search needs)
-    (λ c. search needs)
-    (λ c κs. search needs)
-    (λ c. search needs)
-    (λ c. search digit-said)
-    (λ c κs. search needs)
-    (λ c. search needs)
-    (λ c. search needs)
-    (λ c κs. search needs)
-    (λ c. search needs)
-    (λ c. search digits-said)
+    lts.spec (put-reads.Asked, put-reads.Learnt, below t, own.Post) (at t) own.Post (λ c. search needs) (λ c. search needs) (λ c κs. search needs)
+    (λ c. search needs) (λ c. search digit-said) (λ c κs. search needs) (λ c. search needs) (λ c. search needs) (λ c κs. search needs)
+    (λ c. search needs) (λ c. search digits-said)
