@@ -1,6 +1,6 @@
 -- An accepted sheet is legal: every range of the table holds of what is handed over, and rows past n are zero. Assumes nothing.
-use Rattle.basis.specs.Prelude.{ℕ, zero, suc, _+_, _-_, _<_, _≡_, refl, sym, ap, subst, _∙_, true, ⊎-elim, List, _∷_, map, arith, not-suc-le-zero, le-of-suc-le-suc, length, getD, length-map, List·getD-append, List·getD-eq-default, getD-replicate, length-replicate, getD-append-add}
-use Rattle.reader.proofs.Names.{mostProcessors, mostRows, mostSeparation, accepted, refused, Step, ok, refuse, after-ok, ok-same, lt-or-le, upTo, bounded, Entry, Held, entryRow, label, entryBy, entry, entriesBy, entries, sheet, noRow, rowAt, legal, ZeroPast, LegalRow, Legal, noRows, padded, noSheet, sheetHeld, readingOf, reading, Row}
+use Rattle.basis.specs.Prelude.{ℕ, _+_, _-_, _<_, _≡_, refl, ap, _∙_, true, ⊎-elim, List, map, arith, length, getD, length-map, List·getD-append, List·getD-eq-default, getD-replicate, length-replicate, getD-append-add}
+use Rattle.reader.proofs.Names.{mostProcessors, mostRows, accepted, refused, Step, ok, refuse, lt-or-le, bounded, Held, entryRow, entries, sheet, noRow, rowAt, legal, ZeroPast, LegalRow, Legal, noRows, padded, noSheet, sheetHeld, readingOf, reading, Row}
 use Rattle.reader.proofs.Inside.LabelPlaces.{whole, entries-legal}
 use Rattle.reader.proofs.Inside.Heads.{headed}
 use Rattle.sheet.proofs.Legality.{legal-says}

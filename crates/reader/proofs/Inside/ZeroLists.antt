@@ -74,9 +74,6 @@ module _ (s : List ℕ) (o : Outcome) (l b : List ℕ) (e : lists o l b ≡ read
       ep ∙ ap₂ (λ (x y : ℕ). record { start = x; long = y }) (number (k * 2) (omega arith) ∙ first-cell (λ j. labelIn s j .start) (λ j. labelIn s j .long) k)
       (number (k * 2 + 1) (omega arith) ∙ second-cell (λ j. labelIn s j .start) (λ j. labelIn s j .long) k)
 
-  pub parts-were-read : (k : ℕ) → k < mostRows → partIn b k ≡ labelIn s k
-  parts-were-read k h = part-was-read k h (partIn b k) refl
-
 -- no label past the rows that a sheet may have
 pub no-part : (s : List ℕ) (k : ℕ) → mostRows ≤ k → nowhere ≡ labelIn s k
 no-part s k h = sym (no-label s k (go (sheet s 0) refl))
