@@ -3,16 +3,6 @@ use Rattle.basis.specs.Prelude.{ℕ, _+_, _*_, _<_, _≡_, List}
 use Rattle.sheet.proofs.Names.{mostRows, rowAt, Row, numberAt, rowIn, sheetIn}
 use Rattle.sheet.proofs.Inside.ListRows.{row-handed}
 
--- `processors`
-pub processors-handed : (l : List ℕ) (m : ℕ) → m ≡ numberAt l 0 → m ≡ sheetIn l .processors
-unfolding sheetIn
-processors-handed l m e = e
-
--- `count`
-pub count-handed : (l : List ℕ) (n : ℕ) → n ≡ numberAt l 1 → n ≡ sheetIn l .count
-unfolding sheetIn
-count-handed l n e = e
-
 -- `row_inside`
 pub numbers-handed : (l : List ℕ) (k : ℕ) → k < mostRows → _≡_ {A = Row}
     (record { threads = numberAt l (k * 4 + 2); separation = numberAt l (k * 4 + 3); deadline = numberAt l (k * 4 + 4); budget = numberAt l (k * 4 + 5) })
