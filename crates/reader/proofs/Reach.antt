@@ -8,8 +8,8 @@ use Rattle.reader.proofs.Inside.LabelPlaces.{whole}
 use Rattle.reader.proofs.Inside.Heads.{headed}
 
 -- a number from 1 to most, where limit is no less, and what follows it
-tame-number : {A : Type 0} (limit most under beyond : ℕ) (f : ℕ → Reader A) {b c : ℕ} → most ≤ limit → 3 ≤ under → under ≤ 9 → 3 ≤ beyond → beyond ≤ 9
-    → ((v : ℕ) → v ≤ most → Tame (f v) b c) → mostGroups ≤ width limit + b → Tame (upTo most under beyond >>= f) (width limit + b) (width limit + c)
+tame-number : {A : Type 0} (limit most under beyond : ℕ) (f : ℕ → Reader A) {o b c : ℕ} → most ≤ limit → 3 ≤ under → under ≤ 9 → 3 ≤ beyond → beyond ≤ 9
+    → ((v : ℕ) → v ≤ most → Tame o (f v) b c) → mostGroups ≤ width limit + b → Tame o (upTo most under beyond >>= f) (width limit + b) (width limit + c)
 tame-number limit most under beyond f h a b c d U g =
     tame-then (upTo most under beyond) f (tame-more mostGroups (width limit) (omega arith) (width-grows most limit h) (tame-up-to most under beyond a b c d))
     (λ s at v n l e. U v (bounded most under beyond s at v n e .not-over)) g
@@ -23,14 +23,14 @@ groups-separation : mostGroups ≤ width mostSeparation
 unfolding width spelt
 groups-separation = omega arith
 
-tame-plain : (k : ℕ) → Tame (plain k) k k
+tame-plain : {o : ℕ} (k : ℕ) → Tame o (plain k) k k
 unfolding plain
 tame-plain zero = tame-give []
 tame-plain (suc k) =
     tame-more (suc k) (suc k) (omega arith) (omega arith) (tame-tested isPlain (λ b. plain k >>= (λ bs. give (b ∷ bs))) 6
-    (λ b. tame-then (plain k) _ (tame-plain k) (λ s at bs n l e. tame-give (b ∷ bs)) (omega arith)) (omega arith) (omega arith))
+    (λ p b. tame-then (plain k) _ (tame-plain k) (λ s at bs n l e. tame-give (b ∷ bs)) (omega arith)) (omega arith) (omega arith))
 
-tame-label : Tame label (width longestLabel + longestLabel) (width longestLabel + longestLabel)
+tame-label : {o : ℕ} → Tame o label (width longestLabel + longestLabel) (width longestLabel + longestLabel)
 unfolding labelBy
 tame-label =
     tame-number longestLabel longestLabel 6 6 _ (omega arith) (omega arith) (omega arith) (omega arith) (omega arith)
@@ -38,7 +38,7 @@ tame-label =
     groups-label
 
 -- threads, separation, deadline, budget
-tame-entry : (m : ℕ) → m ≤ mostProcessors → Tame (entry m) longestRow longestRow
+tame-entry : {o : ℕ} (m : ℕ) → m ≤ mostProcessors → Tame o (entry m) longestRow longestRow
 unfolding entryBy longestRow
 tame-entry m few =
     tame-then label _ tame-label
@@ -51,7 +51,7 @@ tame-entry m few =
     (λ C h₄. tame-give (record { label = l; row = record { threads = t; separation = T; deadline = D; budget = C } })) (omega (arith, groups-separation))))
     (omega (arith, groups-separation))) (omega (arith, groups-separation))) (omega (arith, groups-separation))) (omega arith)
 
-tame-entries : (m n : ℕ) → m ≤ mostProcessors → Tame (entries m n) (n * longestRow) (n * longestRow)
+tame-entries : {o : ℕ} (m n : ℕ) → m ≤ mostProcessors → Tame o (entries m n) (n * longestRow) (n * longestRow)
 unfolding entriesBy
 tame-entries m zero few = tame-more (0 * longestRow) (0 * longestRow) (omega arith) (omega arith) (tame-give [])
 tame-entries m (suc n) few =
@@ -62,7 +62,7 @@ groups-rows : mostGroups ≤ mostRows * longestRow
 unfolding longestRow width spelt
 groups-rows = omega arith
 
-tame-head : Tame head (length markBytes + (width mostProcessors + (width mostRows + mostGroups))) (length markBytes + (width mostProcessors + (width mostRows + 0)))
+tame-head : {o : ℕ} → Tame o head (length markBytes + (width mostProcessors + (width mostRows + mostGroups))) (length markBytes + (width mostProcessors + (width mostRows + 0)))
 unfolding headBy
 tame-head =
     tame-then (marked markBytes) _ (tame-marked markBytes)
@@ -71,7 +71,7 @@ tame-head =
     (λ m h₁. tame-number mostRows mostRows 5 5 _ (omega arith) (omega arith) (omega arith) (omega arith) (omega arith)
     (λ k h₂. tame-more mostGroups 0 (omega arith) (omega arith) (tame-give (record { processors = m; count = k }))) (omega arith)) (omega arith)) (omega arith)
 
-tame-body : (m n : ℕ) → m ≤ mostProcessors → n ≤ mostRows → Tame (body m n) (mostRows * longestRow + 1) (mostRows * longestRow)
+tame-body : {o : ℕ} (m n : ℕ) → m ≤ mostProcessors → n ≤ mostRows → Tame o (body m n) (mostRows * longestRow + 1) (mostRows * longestRow)
 unfolding bodyBy
 tame-body m n few h =
     let most : n * longestRow ≤ mostRows * longestRow = mul-le-mul-right longestRow h in
@@ -80,7 +80,7 @@ tame-body m n few h =
     (omega arith))
 
 -- a whole sheet looks at one byte more than the longest has
-pub tame-sheet : Tame sheet (longestSheet + 1) longestSheet
+pub tame-sheet : Tame 0 sheet (longestSheet + 1) longestSheet
 unfolding sheetBy headBy longestSheet
 tame-sheet =
     tame-more (longestSheet + 1) longestSheet (omega arith) (omega arith) (tame-then head _ tame-head
@@ -116,4 +116,4 @@ refusal-is-listed s k p e = go (sheet s 0) refl e
     go : (x : Step Held) → sheet s 0 ≡ x → readingOf x .0 ≡ refused k p → BytesRefusal s k p
     go (ok h n) q f = let z : _≡_ {A = ℕ} 0 1 = cc in absurd (omega arith)
     go (refuse j i) q f =
-        bytes-refusal-as s (cc) (cc) (tame-sheet .refuses s 0 j i (omega arith) q)
+        bytes-refusal-as s (cc) (cc) (tame-sheet .refuses s 0 j i (omega arith) (omega arith) q)

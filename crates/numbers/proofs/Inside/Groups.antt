@@ -1,6 +1,6 @@
 -- Laws of `groups`: a turn of it, by the tests that a reader makes; what a value scaled and added to is.
-use Rattle.basis.specs.Prelude.{ℕ, zero, suc, _+_, _-_, _*_, _^_, _≤_, _<_, _≡_, refl, ap, _∙_, List, arith, not-suc-le-zero, mul-assoc, add-mul, mul-le-mul-left, mul-le-mul-right, one-le-pow, pow-succ', length, getD, lt-ltb, le-ltb}
-use Rattle.numbers.proofs.Names.{Step, ok, refuse, after, groups}
+use Rattle.basis.specs.Prelude.{ℕ, zero, suc, _+_, _-_, _*_, _^_, _≤_, _<_, _≡_, refl, sym, ap, _∙_, ⊎-elim, List, arith, zero-lt-suc, not-suc-le-zero, mul-assoc, add-mul, mul-le-mul-left, mul-le-mul-right, one-le-pow, pow-succ', length, getD, lt-ltb, le-ltb}
+use Rattle.numbers.proofs.Names.{Step, ok, refuse, after, groups, lt-or-le, never-ok, after-ok, ok-same}
 
 pub one-less : (g : ℕ) → suc g - 1 ≡ g
 one-less g = omega arith
@@ -33,6 +33,17 @@ pub over : (g first least : ℕ) (s : List ℕ) (at : ℕ) → g ≤ 0 → group
 unfolding groups
 over zero first least s at none = refl
 over (suc g) first least s at none = absurd (not-suc-le-zero none)
+
+-- a number that was read: a last group, or one with more after it
+pub by-group : {R : Type 0} (g first least : ℕ) (s : List ℕ) (at : ℕ) {v n : ℕ} → groups (suc g) first least s at ≡ ok v n
+    → (at < length s → least ≤ getD s at 0 → getD s at 0 < 128 → getD s at 0 ≡ v → at + 1 ≡ n → R)
+    → (at < length s → 128 ≤ getD s at 0 → (u : ℕ) → groups g first 1 s (at + 1) ≡ ok u n → getD s at 0 - 128 + 128 * u ≡ v → R) → R
+by-group g first least s at e f₁ f₂ =
+    ⊎-elim (λ h. ⊎-elim (λ b. ⊎-elim (λ l. absurd (never-ok (low (suc g) first least s at (zero-lt-suc g) h b l) e))
+    (λ l. let (ev, en) = ok-same (sym (last (suc g) first least s at (zero-lt-suc g) h b l) ∙ e) in f₁ h l b ev en) (lt-or-le (getD s at 0) least))
+    (λ b. after-ok (groups g first 1 s (at + 1)) _ (sym (simp one-less at (more (suc g) first least s at (zero-lt-suc g) h b)) ∙ e) λ u m e₁ e₂.
+    let (ev, en) = ok-same e₂ in f₂ h b u (e₁ ∙ ap (ok u) en) ev) (lt-or-le (getD s at 0) 128))
+    (λ h. absurd (never-ok (ends (suc g) first least s at (zero-lt-suc g) h) e)) (lt-or-le at (length s))
 
 -- what was read before, and the weight of what is still to be read
 abbrev pub scaled : ℕ → ℕ → Step ℕ → Step ℕ
