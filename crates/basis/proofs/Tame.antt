@@ -34,13 +34,7 @@ pub bytes-end-refusal : (s : List ℕ) → BytesRefusal s 2 (length s)
 bytes-end-refusal s = record { at-least = omega arith; at-most = omega arith; inside = omega arith; one = λ e. absurd (omega arith); two = λ e. refl }
 
 pub bytes-refusal-as : (s : List ℕ) {k p j q : ℕ} → k ≡ j → p ≡ q → BytesRefusal s k p → BytesRefusal s j q
-bytes-refusal-as s e f r = record {
-  at-least = omega (arith, r .at-least);
-  at-most = omega (arith, r .at-most);
-  inside = omega (arith, r .inside);
-  one = λ g. omega (arith, r .one (omega arith));
-  two = λ g. omega (arith, r .two (omega arith));
-}
+bytes-refusal-as s e f r = rw (← e, ← f) r
 
 -- a step that is refused where a test fails
 pub test-refusal : {A : Type 0} (s : List ℕ) (x : Step A) (t : Bool) (j q : ℕ) {k p : ℕ} → BytesRefusal s j q → (t ≡ true → x ≡ refuse k p → BytesRefusal s k p)

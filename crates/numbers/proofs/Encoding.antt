@@ -16,16 +16,10 @@ number-is-below s at v n bs e = number-spelled s at v n bs e .not-over
 
 -- a step stands for one answer of the code
 pub step-one-to-one : (a b : Number) → step a ≡ step b → a ≡ b
-step-one-to-one (Is v n) (Is w m) e =
-    let ev : v ≡ w = cc in
-    let en : n ≡ m = cc in
-    cc
+step-one-to-one (Is v n) (Is w m) e = cc
 step-one-to-one (Is v n) (Refused k p) e = let z : _≡_ {A = ℕ} 0 1 = cc in absurd (omega arith)
 step-one-to-one (Refused k p) (Is v n) e = let z : _≡_ {A = ℕ} 0 1 = cc in absurd (omega arith)
-step-one-to-one (Refused k p) (Refused j q) e =
-    let ek : k ≡ j = cc in
-    let ep : p ≡ q = cc in
-    cc
+step-one-to-one (Refused k p) (Refused j q) e = cc
 
 -- `read_number`
 pub read-number-same : (s : List ℕ) (at : ℕ) (a b : Number) → step a ≡ number s at → step b ≡ number s at → a ≡ b

@@ -115,5 +115,4 @@ refusal-is-listed s k p e = go (sheet s 0) refl e
   where
     go : (x : Step Held) → sheet s 0 ≡ x → readingOf x .0 ≡ refused k p → BytesRefusal s k p
     go (ok h n) q f = let z : _≡_ {A = ℕ} 0 1 = cc in absurd (omega arith)
-    go (refuse j i) q f =
-        bytes-refusal-as s (cc) (cc) (tame-sheet .refuses s 0 j i (omega arith) (omega arith) q)
+    go (refuse j i) q f = bytes-refusal-as s (cc) (cc) (tame-sheet .refuses s 0 j i (omega arith) (omega arith) q)
