@@ -1,5 +1,5 @@
 -- The bytes that a program reads decide the text. Assumes nothing.
-use Rattle.basis.specs.Prelude.{ℕ, _+_, _≤_, _<_, _≡_, refl, sym, ap, _∙_, ⊎-elim, List, arith, length, take, take-all}
+use Rattle.basis.specs.Prelude.{ℕ, _+_, _≤_, _≡_, refl, sym, ap, _∙_, ⊎-elim, List, arith, length, take, take-all}
 use Rattle.dashboard.proofs.Names.{Outcome, accepted, Step, ok, refuse, lt-or-le, spelt, width, Held, sheet, readingOf, reading, longestRow, longestSheet, Sheet, accepted-is-short, first-bytes-decide, verdictText, inputSize}
 use Rattle.dashboard.proofs.Outcomes.{refused-prints-one-line, by-outcome}
 
@@ -18,11 +18,7 @@ read-is-short s e = go (sheet s 0) refl e
 -- what stands past them changes nothing
 pub first-bytes-decide-the-text : (s : List ℕ) → verdictText (take inputSize s) ≡ verdictText s
 unfolding inputSize
-first-bytes-decide-the-text s = ⊎-elim long (λ h. ap verdictText (take-all (longestSheet + 1) s h)) (lt-or-le (longestSheet + 1) (length s))
-  where
-    long : longestSheet + 1 < length s → verdictText (take (longestSheet + 1) s) ≡ verdictText s
-    long h =
-        by-outcome s (λ e. absurd (omega (arith, read-is-short s e)))
-        (λ k p e.
-        refused-prints-one-line (take (longestSheet + 1) s) k p (ap (λ (a : Outcome × Sheet). a .0) (first-bytes-decide s) ∙ e)
-        ∙ sym (refused-prints-one-line s k p e))
+first-bytes-decide-the-text s =
+    ⊎-elim (λ h. by-outcome s (λ e. absurd (omega (arith, read-is-short s e)))
+    (λ k p e. refused-prints-one-line (take (longestSheet + 1) s) k p (ap (λ (a : Outcome × Sheet). a .0) (first-bytes-decide s) ∙ e) ∙ sym (refused-prints-one-line s k p e)))
+    (λ h. ap verdictText (take-all (longestSheet + 1) s h)) (lt-or-le (longestSheet + 1) (length s))

@@ -38,11 +38,8 @@ module _ (k : ℕ) (l : k < mostRows) where
   few : amounts fullSheet (bounds (resultOf passes fullSheet)) k (slots mostSeparation) k .0 ≤ k
   unfolding amounts
   few =
-      omega (
-        arith,
-        sum-le k (λ i. amountOf fullSheet (bounds (resultOf passes fullSheet)) k (slots mostSeparation) i .0) (λ i. 1) one,
-        sum-most k 1 (λ i. 1) (λ i. omega arith),
-      )
+      let ones = sum-le k (λ i. amountOf fullSheet (bounds (resultOf passes fullSheet)) k (slots mostSeparation) i .0) (λ i. 1) one in
+      omega (arith, sum-most k 1 (λ i. 1) (λ i. omega arith))
 
   X-one : X fullSheet k (slots mostSeparation) .0 ≡ 1
   unfolding X

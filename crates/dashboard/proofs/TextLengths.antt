@@ -34,11 +34,9 @@ lines-are-short : (label : ℕ → List ℕ) (result : ℕ → Word) (n : ℕ) �
 unfolding lines sum
 lines-are-short label result zero l s = omega arith
 lines-are-short label result (suc n) l s =
-    rw length-append (omega (
-      arith,
-      lines-are-short label result n (λ i k. l i (omega arith)) (λ i k. s i (omega arith)),
-      line-is-short n (label n) (result n) (l n (omega arith)) (s n (omega arith)),
-    ))
+    let a = lines-are-short label result n (λ i k. l i (omega arith)) (λ i k. s i (omega arith)) in
+    let b = line-is-short n (label n) (result n) (l n (omega arith)) (s n (omega arith)) in
+    rw length-append (omega arith)
 
 -- ---- a sheet
 
@@ -91,9 +89,7 @@ longest-fits = omega (arith, longest-is-1084)
 
 whole : (t o : List ℕ) → length t ≤ textSize → textSize ≤ length o → written t o ≡ (t ++ drop (length t) o, length t)
 unfolding written
-whole t o h g =
-    let m : min (length t) (length o) ≡ length t = omega arith in
-    rw (take-all (length o) t (omega arith), m)
+whole t o h g = let m : min (length t) (length o) ≡ length t = omega arith in rw (take-all (length o) t (omega arith), m)
 
 pub verdict-is-whole : (s o : List ℕ) → textSize ≤ length o → written (verdictText s) o ≡ (verdictText s ++ drop (length (verdictText s)) o, length (verdictText s))
 verdict-is-whole s o = whole (verdictText s) o (omega (arith, verdict-is-short s, longest-fits))

@@ -11,11 +11,10 @@ module _ (label : ℕ → List ℕ) (result : ℕ → Word) where
   lines-end : (n : ℕ) → (lines label result n ≡ []) ⊎ EndsIn (lines label result n) newline
   unfolding lines line
   lines-end zero = inl refl
-  lines-end (suc n) =
-      inr (record {
-        before = lines label result n ++ (lineStart n (label n) ++ resultWords (result n));
-        whole = sym (append-assoc (lines label result n) (lineStart n (label n) ++ resultWords (result n)) newline);
-      })
+  lines-end (suc n) = inr (record {
+    before = lines label result n ++ (lineStart n (label n) ++ resultWords (result n));
+    whole = sym (append-assoc (lines label result n) (lineStart n (label n) ++ resultWords (result n)) newline);
+  })
 
 -- HOLDS or FAILS is the last line of a sheet's text
 board-ends : (label : ℕ → List ℕ) (h : Sheet) → LastLine (board label h) (ending (holds passes h))
