@@ -31,13 +31,17 @@ read-is-legal s h n e =
     λ i l. rw (row-held h i l, ← w .wide) (entries-legal (w .top .processors) (w .top .count) i s (w .from) (h .entries) (w .to) (w .all) (omega arith)) in
     record { some-processors = omega arith; most-processors = omega arith; some-rows = omega arith; most-rows = omega arith; rows = row }
 
--- what the reader accepts is legal, and zero past its rows
-pub accepted-is-legal : (s : List ℕ) → reading s .0 ≡ accepted → (legal (reading s .1) ≡ true) × ZeroPast (reading s .1)
-accepted-is-legal s e = go (sheet s 0) refl e
+-- what the reader accepts was read
+pub accepted-read : (s : List ℕ) → reading s .0 ≡ accepted → (h : Held) × (n : ℕ) × (sheet s 0 ≡ ok h n)
+accepted-read s e = go (sheet s 0) e
   where
-    go : (x : Step Held) → sheet s 0 ≡ x → readingOf x .0 ≡ accepted → (legal (readingOf x .1) ≡ true) × ZeroPast (readingOf x .1)
-    go (ok h n) q f = (legal-says (sheetHeld h) (read-is-legal s h n q), zero-past h)
-    go (refuse k p) q f = let z : _≡_ {A = ℕ} 0 1 = cc in absurd (omega arith)
+    go : (x : Step Held) → readingOf x .0 ≡ accepted → (h : Held) × (n : ℕ) × (x ≡ ok h n)
+    go (ok h n) f = (h, n, refl)
+    go (refuse k p) f = let z : _≡_ {A = ℕ} 0 1 = cc in absurd (omega arith)
+
+-- and is legal, and zero past its rows
+pub accepted-is-legal : (s : List ℕ) → reading s .0 ≡ accepted → (legal (reading s .1) ≡ true) × ZeroPast (reading s .1)
+accepted-is-legal s e = let (h, n, q) = accepted-read s e in rw q (legal-says (sheetHeld h) (read-is-legal s h n q), zero-past h)
 
 -- beside a refusal stands no sheet
 pub refused-is-no-sheet : (s : List ℕ) (k p : ℕ) → reading s .0 ≡ refused k p → reading s .1 ≡ noSheet

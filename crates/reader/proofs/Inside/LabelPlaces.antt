@@ -1,13 +1,13 @@
 -- A label of an accepted sheet: where its bytes are, and what the function that looks for it has shown. Assumes nothing.
-use Rattle.basis.specs.Prelude.{needs, ℕ, zero, suc, _+_, _≤_, _<_, _≡_, refl, sym, ap, ap₂, subst, _∙_, List, [], _∷_, map, arith, not-suc-le-zero, le-of-suc-le-suc, length, getD, take, drop, List·getD-map}
-use Rattle.reader.proofs.Names.{longestLabel, mostSeparation, ok, bounded, LegalRow, enough, end, after-ok, ok-same, enough-ok, end-ok, end-stays, upTo, noRow, Entry, Held, entryRow, entryLabel, plain, labelBy, label, entryBy, entry, entriesBy, entries, bodyBy, Head, head, sheetBy, sheet, labelHead, rowFrom, rowAfter}
+use Rattle.basis.specs.Prelude.{needs, ℕ, zero, suc, _+_, _≤_, _<_, _≡_, refl, sym, ap, ap₂, subst, _∙_, true, List, [], _∷_, map, arith, not-suc-le-zero, le-of-suc-le-suc, length, getD, take, drop, List·getD-map}
+use Rattle.reader.proofs.Names.{longestLabel, mostSeparation, ok, bounded, LegalRow, enough, end, after-ok, ok-same, enough-ok, end-ok, end-stays, upTo, noRow, Entry, Held, entryRow, entryLabel, isPlain, labelBy, label, entryBy, entry, entriesBy, entries, bodyBy, Head, head, sheetBy, sheet, labelHead, rowFrom, rowAfter}
 use Rattle.reader.proofs.Inside.Plain.{plain-ok}
 
 -- a label's length was read first, and its bytes are a part of the sheet's
 pub record Lies (s : List ℕ) (at : ℕ) (bs : List ℕ) : Type 0 where
   pub start : ℕ
   pub head : upTo longestLabel 6 6 s at ≡ ok (length bs) start
-  pub read : plain (length bs) s start ≡ ok bs (start + length bs)
+  pub plainly : (j : ℕ) → j < length bs → isPlain (getD s (start + j) 0) ≡ true
   pub inside : start + length bs ≤ length s
   pub bytes : bs ≡ take (length bs) (drop start s)
 
@@ -21,7 +21,7 @@ label-lies s at bs n e =
     record {
       start = st;
       head = e₁ ∙ ap (λ (j : ℕ). ok j st) (sym (r .long));
-      read = ap₂ (λ (i : ℕ) (j : ℕ). plain i s j) (r .long) em ∙ e₄ ∙ ap (ok bs) (omega (arith, r .next, r .long));
+      plainly = λ j h. rw em (r .plainly j (omega (arith, r .long)));
       inside = omega (arith, r .long);
       bytes = r .bytes ∙ ap₂ (λ (i : ℕ) (j : ℕ). take i (drop j s)) (sym (r .long)) (sym em);
     }

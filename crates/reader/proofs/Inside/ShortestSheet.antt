@@ -1,9 +1,10 @@
 -- How short an accepted sheet can be: six bytes before its rows, and six for each. Assumes nothing.
-use Rattle.basis.specs.Prelude.{ℕ, zero, suc, _+_, _*_, _≤_, _≡_, refl, List, arith, length}
-use Rattle.reader.proofs.Names.{longestLabel, mostProcessors, mostRows, accepted, Step, ok, refuse, enough, after-ok, ok-same, enough-ok, upTo, bounded, Entry, Held, entryLabel, labelBy, label, entry, entriesBy, entries, sheet, readingOf, reading}
+use Rattle.basis.specs.Prelude.{ℕ, zero, suc, _+_, _*_, _≤_, _≡_, List, arith, length}
+use Rattle.reader.proofs.Names.{longestLabel, mostProcessors, mostRows, accepted, ok, enough, after-ok, ok-same, enough-ok, upTo, bounded, Entry, entryLabel, labelBy, label, entry, entriesBy, entries, reading}
 use Rattle.reader.proofs.Inside.LabelPlaces.{rowed, whole}
 use Rattle.reader.proofs.Inside.Heads.{headed}
 use Rattle.reader.proofs.Inside.Plain.{plain-ok}
+use Rattle.reader.proofs.LegalSheets.{accepted-read}
 
 -- a label: its length, and a byte at least
 label-bytes : (s : List ℕ) (at : ℕ) (bs : List ℕ) (n : ℕ) → label s at ≡ ok bs n → at + 2 ≤ n
@@ -26,14 +27,11 @@ entries-bytes m (suc k) s at es n e h =
 
 -- a whole sheet
 pub accepted-is-not-shorter : (s : List ℕ) → reading s .0 ≡ accepted → 6 + reading s .1 .count * 6 ≤ length s
-accepted-is-not-shorter s e = go (sheet s 0) refl e
-  where
-    go : (x : Step Held) → sheet s 0 ≡ x → readingOf x .0 ≡ accepted → 6 + readingOf x .1 .count * 6 ≤ length s
-    go (refuse k p) q f = let z : _≡_ {A = ℕ} 0 1 = cc in absurd (omega arith)
-    go (ok h n) q f =
-        let w = whole s h n q in
-        let t = headed s (w .top) (w .from) (w .before) in
-        let m = bounded mostProcessors 4 4 s 4 _ _ (t .processors) in
-        let c = bounded mostRows 5 5 s _ _ _ (t .count) in
-        let all = entries-bytes (w .top .processors) (w .top .count) s (w .from) (h .entries) (w .to) (w .all) (c .in-bytes) in
-        omega arith
+accepted-is-not-shorter s e =
+    let (h, n, q) = accepted-read s e in
+    let w = whole s h n q in
+    let t = headed s (w .top) (w .from) (w .before) in
+    let m = bounded mostProcessors 4 4 s 4 _ _ (t .processors) in
+    let c = bounded mostRows 5 5 s _ _ _ (t .count) in
+    let all = entries-bytes (w .top .processors) (w .top .count) s (w .from) (h .entries) (w .to) (w .all) (c .in-bytes) in
+    rw q (omega arith)
