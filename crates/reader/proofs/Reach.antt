@@ -15,13 +15,9 @@ tame-number limit most under beyond f h a b c d U g =
     (λ s at v n l e. U v (bounded most under beyond s at v n e .not-over)) g
 
 -- what the limits have to be: a number has no more groups than it and what must follow it can take
-groups-label : mostGroups ≤ width longestLabel + longestLabel
-unfolding width spelt
-groups-label = omega arith
-
-groups-separation : mostGroups ≤ width mostSeparation
-unfolding width spelt
-groups-separation = omega arith
+groups-fit : (mostGroups ≤ width longestLabel + longestLabel) × (mostGroups ≤ width mostSeparation) × (mostGroups ≤ mostRows * longestRow)
+unfolding longestRow width spelt
+groups-fit = omega arith
 
 tame-plain : {o : ℕ} (k : ℕ) → Tame o (plain k) k k
 unfolding plain
@@ -35,7 +31,7 @@ unfolding labelBy
 tame-label =
     tame-number longestLabel longestLabel 6 6 _ (omega arith) (omega arith) (omega arith) (omega arith) (omega arith)
     (λ k few. tame-more longestLabel longestLabel (omega arith) (omega arith) (tame-then (enough k) (λ u. plain k) (tame-enough k) (λ s at u n l e. tame-plain k) (omega arith)))
-    groups-label
+    (groups-fit .0)
 
 -- threads, separation, deadline, budget
 tame-entry : {o : ℕ} (m : ℕ) → m ≤ mostProcessors → Tame o (entry m) longestRow longestRow
@@ -48,8 +44,8 @@ tame-entry m few =
     (λ T h₂. tame-number mostSeparation T 7 8 _ h₂ (omega arith) (omega arith) (omega arith) (omega arith)
     (λ D h₃. tame-more (width mostSeparation) (width mostSeparation) (omega arith) (omega arith)
     (tame-number mostSeparation D 7 8 _ (omega arith) (omega arith) (omega arith) (omega arith) (omega arith)
-    (λ C h₄. tame-give (record { label = l; row = record { threads = t; separation = T; deadline = D; budget = C } })) (omega (arith, groups-separation))))
-    (omega (arith, groups-separation))) (omega (arith, groups-separation))) (omega (arith, groups-separation))) (omega arith)
+    (λ C h₄. tame-give (record { label = l; row = record { threads = t; separation = T; deadline = D; budget = C } })) (omega (arith, groups-fit))))
+    (omega (arith, groups-fit))) (omega (arith, groups-fit))) (omega (arith, groups-fit))) (omega arith)
 
 tame-entries : {o : ℕ} (m n : ℕ) → m ≤ mostProcessors → Tame o (entries m n) (n * longestRow) (n * longestRow)
 unfolding entriesBy
@@ -57,10 +53,6 @@ tame-entries m zero few = tame-more (0 * longestRow) (0 * longestRow) (omega ari
 tame-entries m (suc n) few =
     tame-more (suc n * longestRow) (suc n * longestRow) (omega arith) (omega arith) (tame-then (entry m) _ (tame-entry m few)
     (λ s at e k l q. tame-then (entries m n) _ (tame-entries m n few) (λ s₁ at₁ es k₁ l₁ q₁. tame-give (e ∷ es)) (omega arith)) (omega arith))
-
-groups-rows : mostGroups ≤ mostRows * longestRow
-unfolding longestRow width spelt
-groups-rows = omega arith
 
 tame-head : {o : ℕ} → Tame o head (length markBytes + (width mostProcessors + (width mostRows + mostGroups))) (length markBytes + (width mostProcessors + (width mostRows + 0)))
 unfolding headBy
@@ -87,7 +79,7 @@ tame-sheet =
     (λ s at h n l e.
     let r = headed s h n e in
     tame-body (h .processors) (h .count) (bounded mostProcessors 4 4 _ _ _ _ (r .processors) .not-over) (bounded mostRows 5 5 _ _ _ _ (r .count) .not-over))
-    (omega (arith, groups-rows)))
+    (omega (arith, groups-fit)))
 
 -- the longest sheet of the table
 pub longest-is-870 : longestSheet ≡ 870
