@@ -4,11 +4,12 @@ use Rattle.numbers.proofs.Names.{mostGroups, Bytes, ok, step, number, u
 use Rattle.basis.proofs.Same.{same-by}
 use Rattle.numbers.specs.declared.number.Number.{Number}
 use Rattle.numbers.specs.declared.number.Number.the-variants.{Is, Refused}
-use Rattle.numbers.proofs.OneSpelling.{number-spelled, one-spelling}
+use Rattle.numbers.proofs.OneSpelling.{number-spelled}
 
 -- two byte strings that read as the same value, each to its end, are the same bytes
 pub number-has-one-encoding : (s t : List ℕ) → Bytes s → Bytes t → (v : ℕ) → number s 0 ≡ ok v (length s) → number t 0 ≡ ok v (length t) → s ≡ t
-number-has-one-encoding s t bs bt v e f = sym (take-length s) ∙ one-spelling s t bs bt 0 0 v (length s) (length t) e f ∙ take-length t
+number-has-one-encoding s t bs bt v e f =
+    sym (take-length s) ∙ number-spelled s 0 v (length s) bs e .spelling ∙ sym (number-spelled t 0 v (length t) bt f .spelling) ∙ take-length t
 
 -- what is read is below 128 to the power of the most groups
 pub number-is-below : (s : List ℕ) (at v n : ℕ) → Bytes s → number s at ≡ ok v n → v < 128 ^ mostGroups

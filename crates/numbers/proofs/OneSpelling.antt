@@ -88,7 +88,3 @@ module _ (s : List ℕ) (at v : ℕ) where
   -- a value that is spelled at a place is read there
   pub number-back : (p q : List ℕ) → v < 128 ^ mostGroups → s ≡ p ++ (spell v ++ q) → at ≡ length p → number s at ≡ ok v (at + length (spell v))
   number-back p q h e a = read-back (mostGroups - 1) at 0 p q s at v h (omega arith) e a
-
--- two places where the same value is read have the same bytes there
-pub one-spelling : (s t : List ℕ) → Bytes s → Bytes t → (i j v n m : ℕ) → number s i ≡ ok v n → number t j ≡ ok v m → slice i n s ≡ slice j m t
-one-spelling s t bs bt i j v n m e f = number-spelled s i v n bs e .spelling ∙ sym (number-spelled t j v m bt f .spelling)

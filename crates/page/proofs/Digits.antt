@@ -14,17 +14,14 @@ enough (suc j) (suc k) n h g =
     ap (λ (l : List ℕ). pick (ltb n 10) ((0x30 + n) ∷ []) (l ++ ((0x30 + n % 10) ∷ [])))
     (enough j k (n / 10) (omega (arith, pow-succ' 10 (suc j))) (omega (arith, pow-succ' 10 (suc k))))
 
-one-digit : (n : ℕ) → n < 10 → decimal n ≡ (0x30 + n) ∷ []
-unfolding decimal digits
-one-digit n h = simp (lt-ltb _ _ h)
-
 more-digits : (n : ℕ) → n < 2 ^ 64 → 10 ≤ n → decimal n ≡ decimal (n / 10) ++ ((0x30 + n % 10) ∷ [])
 unfolding decimal digits
 more-digits n f h = simp (le-ltb _ _ h) (ap (λ (l : List ℕ). l ++ ((0x30 + n % 10) ∷ [])) (enough 18 19 (n / 10) (omega arith) (omega arith)))
 
 -- `put_number`
 pub digit-said : (p q : Page) (n : ℕ) → n < 10 → q ≡ said p ((0x30 + n) ∷ []) → q ≡ said p (decimal n)
-digit-said p q n h e = rw (one-digit n h) e
+unfolding decimal digits
+digit-said p q n h e = simp (lt-ltb _ _ h) e
 
 pub digits-said : (p q r : Page) (n : ℕ) → n < 2 ^ 64 → 10 ≤ n → q ≡ said p (decimal (n / 10)) → r ≡ said q ((0x30 + n % 10) ∷ []) → r ≡ said p (decimal n)
 digits-said p q r n k h e f = rw (more-digits n k h) (two-said p q r _ _ e f)

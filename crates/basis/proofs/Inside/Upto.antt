@@ -8,10 +8,6 @@ module _ {A : Type 0} where
   unfolding upto
   upto-none f l = refl
 
-  pub upto-more : (n : ℕ) (f : ℕ → A) (l : List A) → set (upto n f l) n (f n) ≡ upto (n + 1) f l
-  unfolding upto
-  upto-more n f l = rw add-one
-
   pub length-upto : (n : ℕ) (f : ℕ → A) (l : List A) → length (upto n f l) ≡ length l
   unfolding upto
   length-upto zero f l = refl
@@ -28,7 +24,8 @@ module _ {A : Type 0} where
   upto-read i f l l₀ d e = ap (λ (x : List A). getD x i d) e ∙ upto-past i f l₀ d i (le-refl i)
 
   pub upto-set : (i : ℕ) (f : ℕ → A) (l l₀ : List A) (v : A) → l ≡ upto i f l₀ → v ≡ f i → set l i v ≡ upto (i + 1) f l₀
-  upto-set i f l l₀ v e k = cc (upto-more i f l₀)
+  unfolding upto
+  upto-set i f l l₀ v e k = rw (e, k, add-one)
 
   -- below n the list has f's values
   pub upto-below : (n : ℕ) (f : ℕ → A) (l : List A) (d : A) (k : ℕ) → k < n → n ≤ length l → getD (upto n f l) k d ≡ f k

@@ -1,5 +1,5 @@
 -- Reading into lent lists: each way out of the functions that read and hand over. Assumes nothing.
-use Rattle.basis.specs.Prelude.{ℕ, _≤_, _<_, _≡_, sym, ap, subst, _∙_, List, arith, length, lt-ltb, le-ltb, le-leb, lt-leb}
+use Rattle.basis.specs.Prelude.{ℕ, _≤_, _<_, _≡_, sym, ap, subst, _∙_, List, arith, length, lt-ltb, le-ltb, le-leb}
 use Rattle.reader.proofs.Names.{mostRows, upto, ok, mapStep, Outcome, accepted, refused, pairs-agree, got, map-step-ok, map-step-no, upto-agree, upto-below, bounded, rowAt, numberAt, listCell, sheetLong, rows-agree, Entry, Held, entries, bodyBy, head, sheetBy, sheet, labelHead, sheetHeld, labelIn, labelsLong, labelCell, intoLists, readInto, passedStep, nothing, headOf, headStep, rowAfter, labelFrom, labelAfter, rowsIn, partsIn, Took, handedOver, Part, Passed}
 use Rattle.reader.specs.declared.head.HeadRead.{HeadRead}
 use Rattle.reader.specs.declared.head.HeadRead.the-variants as head-variants
@@ -9,20 +9,10 @@ use Rattle.reader.proofs.Inside.LabelPlaces.{entries-length, row-was-re
 use Rattle.reader.proofs.Inside.Heads.{headed}
 
 -- `hand_over`
-module _ (n : ℕ) (own parts list labels : List ℕ) where
-  pub no-room : length list < sheetLong n → (refused 15 0, (list, labels)) ≡ handedOver n own parts list labels
-  unfolding handedOver
-  no-room l = simp (lt-leb (sheetLong n) (length list) l)
-
-  module _ (r : sheetLong n ≤ length list) where
-    pub no-room-for-labels : length labels < labelsLong n → (refused 15 0, (list, labels)) ≡ handedOver n own parts list labels
-    unfolding handedOver
-    no-room-for-labels l = simp (le-leb (sheetLong n) (length list) r, lt-leb (labelsLong n) (length labels) l)
-
-    pub both-handed-over : labelsLong n ≤ length labels → (l b : List ℕ) → l ≡ upto (sheetLong n) (numberAt own) list → b ≡ upto (labelsLong n) (numberAt parts) labels
-        → (accepted, (l, b)) ≡ handedOver n own parts list labels
-    unfolding handedOver
-    both-handed-over q l b el eb = simp (le-leb (sheetLong n) (length list) r, le-leb (labelsLong n) (length labels) q, el, eb)
+pub both-handed-over : (n : ℕ) (own parts list labels : List ℕ) → sheetLong n ≤ length list → labelsLong n ≤ length labels → (l b : List ℕ) → l ≡ upto (sheetLong n) (numberAt own) list
+    → b ≡ upto (labelsLong n) (numberAt parts) labels → (accepted, (l, b)) ≡ handedOver n own parts list labels
+unfolding handedOver
+both-handed-over n own parts list labels r q l b el eb = simp (le-leb (sheetLong n) (length list) r, le-leb (labelsLong n) (length labels) q, el, eb)
 
 -- `read_into`
 module _ (s : List ℕ) (x : HeadRead) (e : headStep x ≡ head s 0) where

@@ -1,6 +1,6 @@
 -- The loop over the rows: what its lists have, a row more, and its ends. Assumes nothing.
 use Rattle.basis.specs.Prelude.{ℕ, zero, suc, _+_, _-_, _≤_, _<_, _≡_, refl, sym, ap, subst, _∙_, List, _∷_, arith, le-antisymm, length, set, length-set}
-use Rattle.reader.proofs.Names.{upto, ok, refuse, mapStep, pair-stored, got, ok-same, after-ok, map-step-ok, map-step-no, map-step-after, length-upto, upto-over, listCell, sheetLong, Row, head-stored, row-stored, Entry, entryRow, entry, entriesBy, entries, labelsLong, entryStep, EntryAt, nothing, rowFrom, rowAfter, labelFrom, labelAfter, putRow, putPart, rowsIn, partsIn, Part}
+use Rattle.reader.proofs.Names.{upto, ok, refuse, mapStep, pair-stored, got, ok-same, after-ok, map-step-ok, map-step-no, map-step-after, length-upto, upto-over, listCell, sheetLong, Row, row-stored, Entry, entryRow, entry, entriesBy, entries, labelsLong, entryStep, EntryAt, nothing, rowFrom, rowAfter, labelFrom, labelAfter, putRow, putPart, rowsIn, partsIn, Part}
 use Rattle.reader.specs.declared.row.EntryRead.{EntryRead}
 use Rattle.reader.specs.declared.row.EntryRead.the-variants as entry-variants
 
@@ -19,8 +19,8 @@ abbrev begunList : ℕ → ℕ → List ℕ → List ℕ
 begunList m n l = set (set l 0 m) 1 n
 
 begun-is : (m n : ℕ) (s : List ℕ) (at : ℕ) (l : List ℕ) → begunList m n l ≡ rowsIn m n s at 0 l
-unfolding rowsIn
-begun-is m n s at l = head-stored m n (rowAfter m s at) l
+unfolding rowsIn upto listCell
+begun-is m n s at l = refl
 
 rows-over : (m n : ℕ) (s : List ℕ) (at i : ℕ) (l : List ℕ) → sheetLong i ≤ length l → rowsIn m n s at i (begunList m n l) ≡ rowsIn m n s at i l
 unfolding rowsIn

@@ -1,6 +1,6 @@
 -- What is read into lists of zeros that have room for every row. Assumes nothing.
 use Rattle.basis.specs.Prelude.{ℕ, _+_, _*_, _-_, _≤_, _<_, _≡_, refl, sym, ap, ap₂, _∙_, List, arith, length, set, length-append, length-map, length-replicate, le-leb}
-use Rattle.reader.proofs.Names.{mostRows, upto, Step, ok, refuse, Outcome, accepted, refused, first-cell, second-cell, pair-zero, upto-set, upto-whole, noRow, noSheet, numberAt, filled, sheetIn, sheetCell, sheetLong, Sheet, whole-sheet-comes-back, Held, sheet, sheetHeld, readingOf, reading, nowhere, rowsRead, labelIn, noParts, labelsIn, labelsLong, labelCell, intoLists, readInto, partIn, Part}
+use Rattle.reader.proofs.Names.{mostRows, upto, Step, ok, refuse, Outcome, accepted, refused, first-cell, second-cell, pair-zero, upto-set, noRow, noSheet, numberAt, filled, sheetIn, sheetCell, sheetLong, Sheet, whole-sheet-comes-back, Held, sheet, sheetHeld, readingOf, reading, nowhere, rowsRead, labelIn, noParts, labelsLong, labelCell, intoLists, readInto, partIn, Part}
 use Rattle.sheet.proofs.Inside.Cells.{cell-past, no-sheet-cell}
 use Rattle.sheet.proofs.Inside.FilledLists.{zeros, zeros-long, filled-read, zeros-filled}
 use Rattle.reader.proofs.LegalSheets.{zero-past, read-is-legal}
@@ -76,10 +76,6 @@ pub no-part : (s : List ℕ) (k : ℕ) → mostRows ≤ k → nowhere ≡ labelI
 no-part s k h = sym (no-label s k (omega (arith, rows-fit s)))
 
 -- `label_parts`
-module _ (s b : List ℕ) (parts : List Part) (i : ℕ) (so-far : parts ≡ upto i (labelIn s) noParts) where
-  pub one-part-more : i < mostRows → ((k : ℕ) → k < mostRows → partIn b k ≡ labelIn s k) → (p : Part) → p ≡ partIn b i → set parts i p ≡ upto (i + 1) (labelIn s) noParts
-  one-part-more h all p ep = upto-set i (labelIn s) parts noParts p so-far (ep ∙ all i h)
-
-  pub all-parts : i ≤ mostRows → mostRows ≤ i → parts ≡ labelsIn s
-  unfolding labelsIn
-  all-parts h g = upto-whole mostRows i (labelIn s) parts noParts so-far h g
+pub one-part-more : (s b : List ℕ) (parts : List Part) (i : ℕ) → parts ≡ upto i (labelIn s) noParts → i < mostRows → ((k : ℕ) → k < mostRows → partIn b k ≡ labelIn s k) → (p : Part) → p ≡ partIn b i
+    → set parts i p ≡ upto (i + 1) (labelIn s) noParts
+one-part-more s b parts i so-far h all p ep = upto-set i (labelIn s) parts noParts p so-far (ep ∙ all i h)

@@ -1,7 +1,7 @@
 -- The numbers at the places of a sheet's list, as the code finds them. Assumes nothing.
-use Rattle.basis.specs.Prelude.{ℕ, _+_, _-_, _*_, _/_, _%_, _≤_, _<_, _≡_, sym, ap, _∙_, List, map, ⊎-elim, length, set, length-map, List·getD-eq-default, arith, mod-lt, div-add-mod', lt-ltb, le-ltb, le-leb, lt-leb, eq-eqb, ne-eqb}
+use Rattle.basis.specs.Prelude.{ℕ, _+_, _-_, _*_, _/_, _%_, _≤_, _<_, _≡_, sym, ap, _∙_, List, map, ⊎-elim, length, length-map, List·getD-eq-default, arith, mod-lt, div-add-mod', lt-ltb, le-ltb, le-leb, lt-leb, eq-eqb, ne-eqb}
 use lib.Arith.{digits-div, digits-mod}
-use Rattle.sheet.proofs.Names.{mostRows, upto, getD-all, pick-same, upto-set, lt-or-le, noRow, rowAt, noSheet, Row, Sheet, rowCell, listCell, sheetCell, sheetLong, rowOf, cellBy}
+use Rattle.sheet.proofs.Names.{mostRows, getD-all, pick-same, lt-or-le, noRow, rowAt, noSheet, Row, Sheet, rowCell, listCell, sheetCell, sheetLong, rowOf, cellBy}
 
 -- number j of row k of a list
 pub cell-of : (m n : ℕ) (rows : ℕ → Row) (i k j : ℕ) → i ≡ k * 4 + j + 2 → j < 4 → listCell m n rows i ≡ rowCell (rows k) j
@@ -68,8 +68,3 @@ cell-found h i r long e v f =
     ⊎-elim (λ a. f ∙ at-head h i (rowAt h r) a) (λ a. ⊎-elim
     (λ b. let q : r ≡ (i - 2) / 4 = e ∙ rw (le-ltb i 2 a, lt-leb (sheetLong mostRows) i b) in f ∙ at-row h i (rowAt h r) a b (ap (rowAt h) q))
     (λ b. f ∙ at-end h i (rowAt h r) long b) (lt-or-le i (sheetLong mostRows))) (lt-or-le i 2)
-
--- and its store fills one place more
-pub cell-stored : (h : Sheet) (l₀ l : List ℕ) (i r : ℕ) → l ≡ upto i (sheetCell h) l₀ → length (h .rows) ≡ mostRows → r ≡ rowOf i → (v : ℕ) → v ≡ cellBy (h .processors) (h .count) (rowAt h r) i
-    → set l i v ≡ upto (i + 1) (sheetCell h) l₀
-cell-stored h l₀ l i r so-far long e v f = upto-set i (sheetCell h) l l₀ v so-far (cell-found h i r long e v f)

@@ -25,6 +25,3 @@ module _ (l : List ℕ) (rows : List Row) (i : ℕ) (so-far : rows ≡ upto i (r
 pub row-in-sheet : (l : List ℕ) (k : ℕ) → k < mostRows → rowAt (sheetIn l) k ≡ rowIn l k
 unfolding sheetIn
 row-in-sheet l k h = upto-below mostRows (rowIn l) (noRows mostRows) noRow k h (le-refl mostRows)
-
-pub row-handed : (l : List ℕ) (k : ℕ) → k < mostRows → rowIn l k ≡ rowAt (sheetIn l) k
-row-handed l k b = sym (row-in-sheet l k b)

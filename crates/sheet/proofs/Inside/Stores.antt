@@ -4,11 +4,6 @@ use Rattle.sheet.proofs.Names.{upto, upto-set, lt-or-le, Row, rowCell, 
 use Rattle.sheet.proofs.Inside.Cells.{cell-of}
 
 module _ (m n : ℕ) (rows : ℕ → Row) where
-  -- processors and the number of rows
-  pub head-stored : (l : List ℕ) → set (set l 0 m) 1 n ≡ upto (sheetLong 0) (listCell m n rows) l
-  unfolding upto listCell
-  head-stored l = refl
-
   -- a row more
   pub row-stored : (k : ℕ) (l l₀ : List ℕ) → l ≡ upto (sheetLong k) (listCell m n rows) l₀ → (row : Row) → row ≡ rows k
       → set (set (set (set l (k * 4 + 2) (row .threads)) (k * 4 + 3) (row .separation)) (k * 4 + 4) (row .deadline)) (k * 4 + 5) (row .budget)
