@@ -1,17 +1,13 @@
 -- How long a text can be: any is whole in the buffer that the programs lend. Assumes nothing.
 use Rattle.basis.specs.Prelude.{ℕ, zero, suc, _+_, _*_, _≤_, _<_, min, _≡_, refl, Bool, true, false, List, _++_, arith, length, drop, length-append, length-take, take-all}
-use Rattle.dashboard.proofs.Names.{mostRows, longestLabel, mostSeparation, sum, sum-grows, accepted, Held, sheet, Legal, readingOf, reading, rowsRead, Sheet, accepted-is-legal, legal-is, label-of-row, Step, ok, refuse, passes, Word, bound, none, unreached, isBound, valueOf, resultOf, holds, bound-in-range, passes-local, digits, decimal, mostDigits, boundWord, resultWords, lineStart, line, holdsLine, ending, refusedBy, noVerdict, ownLabel, lines, board, verdictText, referenceText, written, longestLine, longestText, textSize, decimal-grows, decimal-is-short}
+use Rattle.dashboard.proofs.Names.{mostRows, longestLabel, mostSeparation, sum, sum-grows, accepted, sheet, Legal, reading, rowsRead, Sheet, accepted-read, accepted-is-legal, legal-is, label-of-row, passes, Word, bound, none, unreached, isBound, valueOf, resultOf, holds, bound-in-range, passes-local, digits, decimal, mostDigits, boundWord, resultWords, lineStart, line, holdsLine, ending, refusedBy, noVerdict, ownLabel, lines, board, verdictText, referenceText, written, longestLine, longestText, textSize, decimal-grows, decimal-is-short}
 use Rattle.dashboard.proofs.Cases.{reference-is}
 use Rattle.dashboard.proofs.Outcomes.{by-outcome, accepted-prints-its-rows, refused-prints-one-line}
 
 -- what the limits have to be: the bound of the longest line is no shorter than the word unreached, and the longest text is no shorter than a refusal
-wide-separation : 5 ≤ length (decimal mostSeparation)
-unfolding decimal digits
-wide-separation = omega arith
-
-refusal-fits : 13 + 2 * mostDigits ≤ longestText
+limits : (5 ≤ length (decimal mostSeparation)) × (13 + 2 * mostDigits ≤ longestText)
 unfolding longestText longestLine decimal digits sum
-refusal-fits = omega arith
+limits = omega arith
 
 -- ---- a line
 
@@ -22,8 +18,8 @@ Small w = isBound w ≡ true → valueOf w .0 ≤ mostSeparation
 result-is-short : (w : Word) → Small w → length (resultWords w) ≤ length boundWord + length (decimal mostSeparation)
 unfolding resultWords
 result-is-short (bound r) h = rw length-append (omega (arith, decimal-grows r mostSeparation (h refl)))
-result-is-short none h = omega (arith, wide-separation)
-result-is-short unreached h = omega (arith, wide-separation)
+result-is-short none h = omega (arith, limits)
+result-is-short unreached h = omega (arith, limits)
 
 line-is-short : (row : ℕ) (label : List ℕ) (w : Word) → length label ≤ longestLabel → Small w → length (line row label w) ≤ longestLine row
 unfolding line lineStart longestLine
@@ -56,11 +52,7 @@ module _ (label : ℕ → List ℕ) (h : Sheet) (fine : Legal h) where
 
 -- the labels of a sheet that was read
 rows-of : (s : List ℕ) → reading s .0 ≡ accepted → rowsRead (sheet s 0) ≡ reading s .1 .count
-rows-of s e = go (sheet s 0) e
-  where
-    go : (x : Step Held) → readingOf x .0 ≡ accepted → rowsRead x ≡ readingOf x .1 .count
-    go (ok h n) f = refl
-    go (refuse k p) f = let z : _≡_ {A = ℕ} 0 1 = cc in absurd (omega arith)
+rows-of s e = let (h, n, q) = accepted-read s e in rw q
 
 own-label-is-short : (s : List ℕ) → reading s .0 ≡ accepted → (i : ℕ) → i < reading s .1 .count → length (ownLabel s i) ≤ longestLabel
 unfolding ownLabel
@@ -68,7 +60,7 @@ own-label-is-short s e i l = rw length-take (omega (arith, label-of-row s i (rw 
 
 no-verdict-is-short : (k p : ℕ) → length (noVerdict k p) ≤ longestText
 unfolding noVerdict refusedBy
-no-verdict-is-short k p = simp length-append (omega (arith, decimal-is-short k, decimal-is-short p, refusal-fits))
+no-verdict-is-short k p = simp length-append (omega (arith, decimal-is-short k, decimal-is-short p, limits))
 
 -- the text of any bytes is no longer than the longest
 pub verdict-is-short : (s : List ℕ) → length (verdictText s) ≤ longestText
