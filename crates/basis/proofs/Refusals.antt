@@ -8,10 +8,7 @@ pub outcome-one-to-one : (a b : Refusal) → outcome a ≡ outcome b → a ≡ b
 outcome-one-to-one Accepted Accepted e = refl
 outcome-one-to-one Accepted (Refused k p) e = let z : _≡_ {A = ℕ} 0 1 = cc in absurd (omega arith)
 outcome-one-to-one (Refused k p) Accepted e = let z : _≡_ {A = ℕ} 0 1 = cc in absurd (omega arith)
-outcome-one-to-one (Refused k p) (Refused j q) e =
-    let ek : k ≡ j = cc in
-    let ep : p ≡ q = cc in
-    cc
+outcome-one-to-one (Refused k p) (Refused j q) e = cc
 
 -- `is_accepted`
 pub is-accepted-same : (r : Refusal) (a b : Bool) → a ≡ isAccepted (outcome r) → b ≡ isAccepted (outcome r) → a ≡ b

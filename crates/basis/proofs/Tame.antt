@@ -2,7 +2,7 @@
 use Rattle.basis.specs.Prelude.{ℕ, suc, _+_, _≤_, _<_, _≡_, refl, sym, ap, ap₂, _∙_, Bool, true, false, List, [], _∷_, arith, length, getD, ltb, leb, eqb, lt-ltb, le-leb}
 use Rattle.basis.specs.Words.{pick, both}
 use Rattle.basis.specs.Readers.{Step, ok, refuse, Reader, after, _>>=_, give, refuse-at, here, byte, enough, end, begins, marked}
-use Rattle.basis.proofs.Inside.Steps.{never-ok, ok-same, refuse-same, after-ok, passed, byte-ok, enough-ok, end-stays, marked-ok}
+use Rattle.basis.proofs.Inside.Steps.{never-ok, ok-same, refuse-same, after-ok, byte-ok, enough-ok, end-stays, marked-ok}
 use Rattle.basis.proofs.Inside.Words.{both-right}
 
 -- a refusal of the bytes s: a number from 1 to 9 and a place in them, which is 0 for 1 and the length for 2
@@ -19,10 +19,10 @@ pub record Agree (l : ℕ) (s t : List ℕ) : Type 0 where
   pub right : l ≤ length t
   pub same : (i : ℕ) → i < l → getD s i 0 ≡ getD t i 0
 
--- r looks at b bytes at most and goes on by c at most
-pub record Tame {A : Type 0} (r : Reader A) (b c : ℕ) : Type 0 where
+-- r looks at b bytes at most and goes on by c at most; it may refuse at the place o, too, that was passed before
+pub record Tame {A : Type 0} (o : ℕ) (r : Reader A) (b c : ℕ) : Type 0 where
   pub ends : (s : List ℕ) (at : ℕ) (a : A) (n : ℕ) → at ≤ length s → r s at ≡ ok a n → (n ≤ at + c) × (n ≤ length s)
-  pub refuses : (s : List ℕ) (at k p : ℕ) → at ≤ length s → r s at ≡ refuse k p → BytesRefusal s k p
+  pub refuses : (s : List ℕ) (at k p : ℕ) → o ≤ length s → at ≤ length s → r s at ≡ refuse k p → BytesRefusal s k p
   pub alike : (l : ℕ) (s t : List ℕ) → Agree l s t → (at : ℕ) → at + b ≤ l → r s at ≡ r t at
 
 -- a number that is not 1 or 2, at a place in the bytes
@@ -34,13 +34,7 @@ pub bytes-end-refusal : (s : List ℕ) → BytesRefusal s 2 (length s)
 bytes-end-refusal s = record { at-least = omega arith; at-most = omega arith; inside = omega arith; one = λ e. absurd (omega arith); two = λ e. refl }
 
 pub bytes-refusal-as : (s : List ℕ) {k p j q : ℕ} → k ≡ j → p ≡ q → BytesRefusal s k p → BytesRefusal s j q
-bytes-refusal-as s e f r = record {
-  at-least = omega (arith, r .at-least);
-  at-most = omega (arith, r .at-most);
-  inside = omega (arith, r .inside);
-  one = λ g. omega (arith, r .one (omega arith));
-  two = λ g. omega (arith, r .two (omega arith));
-}
+bytes-refusal-as s e f r = rw (← e, ← f) r
 
 -- a step that is refused where a test fails
 pub test-refusal : {A : Type 0} (s : List ℕ) (x : Step A) (t : Bool) (j q : ℕ) {k p : ℕ} → BytesRefusal s j q → (t ≡ true → x ≡ refuse k p → BytesRefusal s k p)
@@ -48,26 +42,41 @@ pub test-refusal : {A : Type 0} (s : List ℕ) (x : Step A) (t : Bool) (j q : �
 test-refusal s x true j q h f e = f refl e
 test-refusal s x false j q h f e = let (a, b) = refuse-same e in bytes-refusal-as s a b h
 
-pub tame-give : {A : Type 0} (a : A) → Tame (give a) 0 0
+pub tame-give : {A : Type 0} {o : ℕ} (a : A) → Tame o (give a) 0 0
 tame-give a = record {
   ends = λ s at x n l e. let (_, en) = ok-same e in (omega arith, omega arith);
-  refuses = λ s at k p l e. absurd (never-ok e refl);
+  refuses = λ s at k p h l e. absurd (never-ok e refl);
   alike = λ l s t h at k. refl;
 }
 
-pub tame-more : {A : Type 0} {r : Reader A} {b c : ℕ} (b′ c′ : ℕ) → b ≤ b′ → c ≤ c′ → Tame r b c → Tame r b′ c′
+pub tame-more : {A : Type 0} {o : ℕ} {r : Reader A} {b c : ℕ} (b′ c′ : ℕ) → b ≤ b′ → c ≤ c′ → Tame o r b c → Tame o r b′ c′
 tame-more b′ c′ h k T = record {
   ends = λ s at a n l e. let (x, y) = T .ends s at a n l e in (omega arith, y);
   refuses = T .refuses;
   alike = λ l s t g at j. T .alike l s t g at (omega arith);
 }
 
+-- a place that is passed, a refusal at it, and a choice
+pub tame-here : {A : Type 0} {o b c : ℕ} (r : ℕ → Reader A) → ((p : ℕ) → Tame p (r p) b c) → Tame o (here >>= r) b c
+tame-here r U = record { ends = λ s at. U at .ends s at; refuses = λ s at k p h l. U at .refuses s at k p l l; alike = λ l s t g at. U at .alike l s t g at }
+
+pub tame-refuse : {A : Type 0} (o k b c : ℕ) → 3 ≤ k → k ≤ 9 → Tame {A = A} o (refuse-at k o) b c
+tame-refuse {A} o k b c low high = record {
+  ends = λ s at a n l e. absurd (never-ok refl e);
+  refuses = λ s at j p h l e. let (x, y) = refuse-same {A = A} e in bytes-refusal-as s x y (bytes-refusal s k o low high h);
+  alike = λ l s t g at h. refl;
+}
+
+pub tame-pick : {A : Type 0} {o b c : ℕ} (t : Bool) (r q : Reader A) → Tame o r b c → Tame o q b c → Tame o (pick t r q) b c
+tame-pick true r q T U = T
+tame-pick false r q T U = U
+
 -- one reader after another
-module _ {A B : Type 0} (r : Reader A) (f : A → Reader B) {b c b′ c′ : ℕ} (T : Tame r b c)
-    (U : (s : List ℕ) (at : ℕ) (a : A) (n : ℕ) → at ≤ length s → r s at ≡ ok a n → Tame (f a) b′ c′) (h : b ≤ c + b′) where
-  then-refuses : (s : List ℕ) (at k p : ℕ) → at ≤ length s → (x : Step A) → r s at ≡ x → after x (λ a n. f a s n) ≡ refuse k p → BytesRefusal s k p
-  then-refuses s at k p l (ok a n) e q = U s at a n l e .refuses s n k p (T .ends s at a n l e .1) q
-  then-refuses s at k p l (refuse j i) e q = let (ek, ep) = refuse-same q in T .refuses s at k p l (e ∙ ap₂ (λ (x : ℕ) (y : ℕ). refuse x y) ek ep)
+module _ {A B : Type 0} (r : Reader A) (f : A → Reader B) {o b c b′ c′ : ℕ} (T : Tame o r b c)
+    (U : (s : List ℕ) (at : ℕ) (a : A) (n : ℕ) → at ≤ length s → r s at ≡ ok a n → Tame o (f a) b′ c′) (h : b ≤ c + b′) where
+  then-refuses : (s : List ℕ) (at k p : ℕ) → o ≤ length s → at ≤ length s → (x : Step A) → r s at ≡ x → after x (λ a n. f a s n) ≡ refuse k p → BytesRefusal s k p
+  then-refuses s at k p i l (ok a n) e q = U s at a n l e .refuses s n k p i (T .ends s at a n l e .1) q
+  then-refuses s at k p i l (refuse j z) e q = let (ek, ep) = refuse-same q in T .refuses s at k p i l (e ∙ ap₂ (λ (x : ℕ) (y : ℕ). refuse x y) ek ep)
 
   then-alike : (l : ℕ) (s t : List ℕ) → Agree l s t → (at : ℕ) → at + (c + b′) ≤ l → (x : Step A) → r s at ≡ x → r t at ≡ x
       → after x (λ a n. f a s n) ≡ after x (λ a n. f a t n)
@@ -76,23 +85,23 @@ module _ {A B : Type 0} (r : Reader A) (f : A → Reader B) {b c b′ c′ : ℕ
       U s at a n i e .alike l s t g n (omega (arith, T .ends s at a n i e .0))
   then-alike l s t g at k (refuse j p) e q = refl
 
-  pub tame-then : Tame (r >>= f) (c + b′) (c + c′)
+  pub tame-then : Tame o (r >>= f) (c + b′) (c + c′)
   tame-then = record {
     ends = λ s at z n l e.
         after-ok (r s at) _ e λ a m e₁ e₂.
         let (x, y) = T .ends s at a m l e₁ in
         let (u, v) = U s at a m l e₁ .ends s m z n y e₂ in
         (omega arith, v);
-    refuses = λ s at k p l e. then-refuses s at k p l (r s at) refl e;
+    refuses = λ s at k p i l e. then-refuses s at k p i l (r s at) refl e;
     alike = λ l s t g at k.
         let e : r s at ≡ r t at = T .alike l s t g at (omega arith) in
         then-alike l s t g at k (r s at) refl (sym e) ∙ ap (λ (x : Step A). after x (λ a n. f a t n)) e;
   }
 
-pub tame-enough : (k : ℕ) → Tame (enough k) k 0
+pub tame-enough : {o : ℕ} (k : ℕ) → Tame o (enough k) k 0
 tame-enough k = record {
   ends = λ s at u n l e. let (h, en) = enough-ok k s at u n e in (omega arith, omega arith);
-  refuses = λ s at j p l e. test-refusal s (ok tt at) (leb (at + k) (length s)) 2 (length s) (bytes-end-refusal s) (λ t q. absurd (never-ok q refl)) e;
+  refuses = λ s at j p h l e. test-refusal s (ok tt at) (leb (at + k) (length s)) 2 (length s) (bytes-end-refusal s) (λ t q. absurd (never-ok q refl)) e;
   alike = λ l s t g at h. simp (le-leb (at + k) (length s) (omega (arith, g .left)), le-leb (at + k) (length t) (omega (arith, g .right)));
 }
 
@@ -100,10 +109,10 @@ end-refuses : (s : List ℕ) (at k p : ℕ) → at ≤ length s → (t : Bool) �
 end-refuses s at k p l true e = let (a, b) = refuse-same {A = Unit {0}} e in bytes-refusal-as s a b (bytes-refusal s 9 at (omega arith) (omega arith) l)
 end-refuses s at k p l false e = absurd (never-ok e refl)
 
-pub tame-end : Tame end 1 0
+pub tame-end : {o : ℕ} → Tame o end 1 0
 tame-end = record {
   ends = λ s at u n l e. let en = end-stays s at u n e in (omega arith, omega arith);
-  refuses = λ s at k p l e. end-refuses s at k p l (ltb at (length s)) e;
+  refuses = λ s at k p h l e. end-refuses s at k p l (ltb at (length s)) e;
   alike = λ l s t g at h. simp (lt-ltb at (length s) (omega (arith, g .left)), lt-ltb at (length t) (omega (arith, g .right)));
 }
 
@@ -122,10 +131,10 @@ begins-alike (b ∷ bs) (x ∷ s) [] h k e = absurd (omega arith)
 begins-alike (b ∷ bs) (x ∷ s) (y ∷ t) h k e =
     ap₂ both (ap (λ (z : ℕ). eqb z b) (e 0 (omega arith))) (begins-alike bs s t (omega arith) (omega arith) (λ i l. e (suc i) (omega arith)))
 
-pub tame-marked : (bs : List ℕ) → Tame (marked bs) (length bs) (length bs)
+pub tame-marked : {o : ℕ} (bs : List ℕ) → Tame o (marked bs) (length bs) (length bs)
 tame-marked bs = record {
   ends = λ s at u n l e. let (is, en) = marked-ok bs s at u n e in (omega arith, omega (arith, begins-long bs s is));
-  refuses = λ s at k p l e. test-refusal s (ok tt (length bs)) (begins bs s) 1 0 (first s) (λ t q. absurd (never-ok q refl)) e;
+  refuses = λ s at k p h l e. test-refusal s (ok tt (length bs)) (begins bs s) 1 0 (first s) (λ t q. absurd (never-ok q refl)) e;
   alike = λ l s t g at h.
       ap (λ (x : Bool). pick x (ok tt (length bs)) (refuse 1 0))
       (begins-alike bs s t (omega (arith, g .left)) (omega (arith, g .right)) (λ i k. g .same i (omega arith)));
@@ -134,42 +143,15 @@ tame-marked bs = record {
     first : (s : List ℕ) → BytesRefusal s 1 0
     first s = record { at-least = omega arith; at-most = omega arith; inside = omega arith; one = λ e. refl; two = λ e. absurd (omega arith) }
 
-pub tame-byte : Tame byte 1 1
+pub tame-byte : {o : ℕ} → Tame o byte 1 1
 tame-byte = record {
   ends = λ s at b n l e. let (h, _, en) = byte-ok s at b n e in (omega arith, omega arith);
-  refuses = λ s at k p l e. test-refusal s (ok (getD s at 0) (at + 1)) (ltb at (length s)) 2 (length s) (bytes-end-refusal s) (λ t q. absurd (never-ok q refl)) e;
+  refuses = λ s at k p h l e. test-refusal s (ok (getD s at 0) (at + 1)) (ltb at (length s)) 2 (length s) (bytes-end-refusal s) (λ t q. absurd (never-ok q refl)) e;
   alike = λ l s t g at h. simp (lt-ltb at (length s) (omega (arith, g .left)), lt-ltb at (length t) (omega (arith, g .right)), g .same at (omega arith));
 }
 
--- a choice between readers, each of which does not tell two inputs apart
-pub pick-alike : {A : Type 0} (b : Bool) (r q : Reader A) (s t : List ℕ) (n : ℕ) → r s n ≡ r t n → q s n ≡ q t n → pick b r q s n ≡ pick b r q t n
-pick-alike true r q s t n e f = e
-pick-alike false r q s t n e f = f
-
 -- a byte that is tested, refused by j at its place, and followed by a reader
-module _ {A : Type 0} (test : ℕ → Bool) (r : ℕ → Reader A) (j : ℕ) {b c : ℕ} (U : (x : ℕ) → Tame (r x) b c) (low : 3 ≤ j) (high : j ≤ 9) where
-  tested-refuses : (s : List ℕ) (at k p : ℕ) → at ≤ length s → (y : Step ℕ) → byte s at ≡ y → after y (λ x n. pick (test x) (r x) (refuse-at j at) s n) ≡ refuse k p → BytesRefusal s k p
-  tested-refuses s at k p l (ok x n) e q = go (test x) q
-    where
-      go : (t : Bool) → pick t (r x) (refuse-at j at) s n ≡ refuse k p → BytesRefusal s k p
-      go true q₁ = U x .refuses s n k p (tame-byte .ends s at x n l e .1) q₁
-      go false q₁ = let (ek, ep) = refuse-same q₁ in bytes-refusal-as s ek ep (bytes-refusal s j at low high l)
-  tested-refuses s at k p l (refuse i n) e q = let (ek, ep) = refuse-same {A = A} q in bytes-refusal-as s ek ep (tame-byte .refuses s at i n l e)
-
-  pub tame-tested : Tame (here >>= (λ place. byte >>= (λ x. pick (test x) (r x) (refuse-at j place)))) (1 + b) (1 + c)
-  tame-tested = record {
-    ends = λ s at a n l e.
-        after-ok (byte s at) _ e λ x m e₁ e₂.
-        let (_, e₃) = passed (r x) j at s m (test x) e₂ in
-        let (g, h) = tame-byte .ends s at x m l e₁ in
-        let (u, v) = U x .ends s m a n h e₃ in
-        (omega arith, v);
-    refuses = λ s at k p l e. tested-refuses s at k p l (byte s at) refl e;
-    alike = λ l s t g at k.
-        let x : ℕ = getD t at 0 in
-        let es : byte s at ≡ ok x (at + 1) = simp (lt-ltb at (length s) (omega (arith, g .left)), g .same at (omega arith)) in
-        let et : byte t at ≡ ok x (at + 1) = simp (lt-ltb at (length t) (omega (arith, g .right))) in
-        ap (λ (y : Step ℕ). after y (λ z n. pick (test z) (r z) (refuse-at j at) s n)) es
-        ∙ pick-alike (test x) (r x) (refuse-at j at) s t (at + 1) (U x .alike l s t g (at + 1) (omega arith)) refl
-        ∙ sym (ap (λ (y : Step ℕ). after y (λ z n. pick (test z) (r z) (refuse-at j at) t n)) et);
-  }
+pub tame-tested : {A : Type 0} (test : ℕ → Bool) (r : ℕ → Reader A) (j : ℕ) {o b c : ℕ} → ((p x : ℕ) → Tame p (r x) b c) → 3 ≤ j → j ≤ 9
+    → Tame o (here >>= (λ place. byte >>= (λ x. pick (test x) (r x) (refuse-at j place)))) (1 + b) (1 + c)
+tame-tested test r j {b = b} {c = c} U low high = tame-here _ (λ p.
+    tame-then byte _ tame-byte (λ s at x n l e. tame-pick (test x) (r x) (refuse-at j p) (U p x) (tame-refuse p j b c low high)) (omega arith))

@@ -14,8 +14,7 @@ module _ (text buffer after : List ℕ) (n : ℕ) (e : (after, n) ≡ written te
   pub written-part : n ≡ length (take n after)
   written-part = sym (length-take-le n after written-in-room)
 
--- the part of a buffer that the text fills is the text
-module _ (text buffer after : List ℕ) (n : ℕ) (e : (after, n) ≡ written text buffer) where
+  -- the part of a buffer that the text fills is the text
   part-is : written text buffer ≡ (text ++ drop (length text) buffer, length text) → take n after ≡ text
   part-is w = ap (λ (p : Page). take (p .1) (p .0)) (e ∙ w) ∙ take-at text (drop (length text) buffer) (length text) refl
 

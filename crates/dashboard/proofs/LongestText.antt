@@ -38,25 +38,18 @@ module _ (k : ℕ) (l : k < mostRows) where
   few : amounts fullSheet (bounds (resultOf passes fullSheet)) k (slots mostSeparation) k .0 ≤ k
   unfolding amounts
   few =
-      omega (
-        arith,
-        sum-le k (λ i. amountOf fullSheet (bounds (resultOf passes fullSheet)) k (slots mostSeparation) i .0) (λ i. 1) one,
-        sum-most k 1 (λ i. 1) (λ i. omega arith),
-      )
+      let ones = sum-le k (λ i. amountOf fullSheet (bounds (resultOf passes fullSheet)) k (slots mostSeparation) i .0) (λ i. 1) one in
+      omega (arith, sum-most k 1 (λ i. 1) (λ i. omega arith))
 
-  X-one : X fullSheet k (slots mostSeparation) .0 ≡ 1
-  unfolding X
-  X-one = rw (row-is k l) (omega arith)
-
-  q-all : q fullSheet k ≡ mostProcessors
-  unfolding q
-  q-all = rw (row-is k l) (omega arith)
+  right-side : X fullSheet k (slots mostSeparation) .0 * q fullSheet k ≡ mostProcessors
+  unfolding X q
+  right-side = rw (row-is k l) (omega arith)
 
   passes-at-once : passes fullSheet (bounds (resultOf passes fullSheet)) k (slots mostSeparation) ≡ true
   passes-at-once =
       passing-is-less fullSheet (bounds (resultOf passes fullSheet)) k (slots mostSeparation)
       ∙ lt-ltb (amounts fullSheet (bounds (resultOf passes fullSheet)) k (slots mostSeparation) k .0) (X fullSheet k (slots mostSeparation) .0 * q fullSheet k)
-      (rw (X-one, q-all) (omega (arith, few)))
+      (rw right-side (omega (arith, few)))
 
   bounded-at-once : Reached passes fullSheet k → resultOf passes fullSheet k ≡ bound mostSeparation
   bounded-at-once e =

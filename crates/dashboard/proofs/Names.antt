@@ -2,7 +2,6 @@
 pub use Rattle.basis.proofs.Inside.Sums.{sum-grows, sum-le, sum-most}
 pub use Rattle.basis.proofs.Inside.Words.{both-left, both-right, lt-or-le, true-not-false}
 pub use Rattle.basis.specs.Limits.{longestLabel, mostProcessors, mostRows, mostSeparation}
-pub use Rattle.basis.specs.Readers.{Step, ok, refuse}
 unfoldable pub use Rattle.basis.specs.Readers.{begins}
 pub use Rattle.basis.specs.Refusals.{Outcome, accepted, isAccepted, outcome, refused}
 unfoldable pub use Rattle.basis.specs.Words.{allOf, sum}
@@ -18,9 +17,9 @@ unfoldable pub use Rattle.dashboard.specs.Labels.{lineLabel, numbered, o
 pub use Rattle.dashboard.specs.Longest.{inputBuffer, textBuffer, textSize}
 unfoldable pub use Rattle.dashboard.specs.Longest.{inputSize, longestLine, longestText}
 pub use Rattle.dashboard.specs.Meaning.{EndsIn, LastLine, NoVerdict, Reported}
-pub use Rattle.dashboard.specs.Texts.{fixedCount, letter, prefix, textOf}
+pub use Rattle.dashboard.specs.Texts.{fixedCount, prefix, textOf}
 unfoldable pub use Rattle.dashboard.specs.Texts.{board, lines, referenceText, section, sections, verdictText}
-pub use Rattle.dashboard.specs.Words.{boundWord, ending, failsLine, holdsLine, newline, noVerdictWord, noneWord, space, unreachedWord}
+pub use Rattle.dashboard.specs.Words.{boundWord, ending, holdsLine, newline, noVerdictWord, noneWord, space, unreachedWord}
 unfoldable pub use Rattle.dashboard.specs.Words.{line, lineStart, noVerdict, refusedBy, resultWords}
 pub use Rattle.dashboard.specs.declared.line.Labels.the-variants.{Numbered, Own}
 unfoldable pub use Rattle.numbers.specs.Numbers.{groups, spelt, upToBy, width}
@@ -30,12 +29,12 @@ pub use Rattle.page.specs.Decimals.{mostDigits}
 unfoldable pub use Rattle.page.specs.Decimals.{decimal, digits}
 pub use Rattle.page.specs.Pages.{Page}
 unfoldable pub use Rattle.page.specs.Pages.{said, written}
-pub use Rattle.reader.proofs.LegalSheets.{accepted-is-legal, refused-is-no-sheet}
+pub use Rattle.reader.proofs.LegalSheets.{accepted-is-legal, accepted-read, refused-is-no-sheet}
 pub use Rattle.reader.proofs.Reach.{accepted-is-short, first-bytes-decide, refusal-is-listed}
 pub use Rattle.reader.proofs.RowLabels.{label-of-row, no-label}
-pub use Rattle.reader.specs.Answers.{reading, readingOf, rowsRead}
+pub use Rattle.reader.specs.Answers.{reading, rowsRead}
 unfoldable pub use Rattle.reader.specs.Answers.{labelIn}
-pub use Rattle.reader.specs.Form.{Held, sheet}
+pub use Rattle.reader.specs.Form.{sheet}
 unfoldable pub use Rattle.reader.specs.Form.{bodyBy, entriesBy, entryBy, headBy, labelBy, labelHead, plain, sheetBy}
 unfoldable pub use Rattle.reader.specs.Inside.Steps.{partIn}
 pub use Rattle.reader.specs.Lists.{labelsLong}

@@ -1,6 +1,6 @@
 -- NO VERDICT: the number after it is 1 to 9, and no row is printed of a sheet that the reader refuses. Assumes nothing.
 use Rattle.basis.specs.Prelude.{ℕ, zero, suc, _≤_, _<_, _≡_, refl, sym, ap, _∙_, List, _∷_, _++_, arith, length, getD, drop}
-use Rattle.dashboard.proofs.Names.{accepted, refused, rowAt, reading, Sheet, accepted-is-legal, legal-is, refusal-is-listed, passes, Word, resultOf, holds, Answer, boundsOf, digits, decimal, space, newline, lineStart, line, ending, noVerdictWord, refusedBy, noVerdict, ownLabel, lines, board, verdictText, Reported, NoVerdict}
+use Rattle.dashboard.proofs.Names.{accepted, rowAt, reading, Sheet, accepted-is-legal, legal-is, refusal-is-listed, passes, Word, resultOf, holds, Answer, boundsOf, digits, decimal, space, newline, lineStart, line, ending, noVerdictWord, refusedBy, noVerdict, ownLabel, lines, board, verdictText, Reported, NoVerdict}
 use Rattle.bound.proofs.Answers.{legal-answer}
 use Rattle.dashboard.proofs.Outcomes.{accepted-prints-its-rows, refused-prints-one-line, by-outcome}
 
@@ -29,26 +29,16 @@ after-word k p rest e = ap (drop (length noVerdictWord)) e
 
 -- a text that begins with NO VERDICT is the reader's refusal, by 1 to 9
 pub number-is-1-to-9 : (s rest : List ℕ) → verdictText s ≡ noVerdictWord ++ rest → NoVerdict s rest
-number-is-1-to-9 s rest t = by-outcome s never told
-  where
-    never : reading s .0 ≡ accepted → NoVerdict s rest
-    never e =
-        let (_, b) = board-begins (ownLabel s) (reading s .1) (legal-is (reading s .1) (accepted-is-legal s e .0) .some-rows) in
-        let q = sym (accepted-prints-its-rows s e ∙ b) ∙ t in
-        let z : _≡_ {A = ℕ} 0x30 0x4E = cc in
-        absurd (omega arith)
-
-    told : (k p : ℕ) → reading s .0 ≡ refused k p → NoVerdict s rest
-    told k p e =
-        let l = refusal-is-listed s k p e in
-        record {
-          number = k;
-          place = p;
-          from-reader = e;
-          some = l .at-least;
-          most = l .at-most;
-          follows = after-word k p rest (sym t ∙ refused-prints-one-line s k p e);
-        }
+number-is-1-to-9 s rest t =
+    by-outcome s (λ e.
+    let (_, b) = board-begins (ownLabel s) (reading s .1) (legal-is (reading s .1) (accepted-is-legal s e .0) .some-rows) in
+    let q = sym (accepted-prints-its-rows s e ∙ b) ∙ t in
+    let z : _≡_ {A = ℕ} 0x30 0x4E = cc in
+    absurd (omega arith))
+    (λ k p e.
+    let l = refusal-is-listed s k p e in
+    let after = after-word k p rest (sym t ∙ refused-prints-one-line s k p e) in
+    record { number = k; place = p; from-reader = e; some = l .at-least; most = l .at-most; follows = after })
 
 -- the bounds never refuse a sheet that was read
 pub bounds-follow-the-reader : (s : List ℕ) → reading s .0 ≡ accepted → boundsOf (reading s .1) .0 ≡ accepted
@@ -66,5 +56,4 @@ no-row-zero k p rest e = let z : _≡_ {A = ℕ} 0x30 0x4E = ap (λ (t : List �
 
 -- where row 0 is printed every row is reported: a sheet with a zero in threads, separation, deadline or budget prints no row
 pub printed-rows-are-reported : (s rest : List ℕ) → verdictText s ≡ 0x30 ∷ rest → (i : ℕ) → i < reading s .1 .count → Reported (rowAt (reading s .1) i)
-printed-rows-are-reported s rest t =
-    by-outcome s (read-is-reported s) (λ k p e. absurd (no-row-zero k p rest (sym t ∙ refused-prints-one-line s k p e)))
+printed-rows-are-reported s rest t = by-outcome s (read-is-reported s) (λ k p e. absurd (no-row-zero k p rest (sym t ∙ refused-prints-one-line s k p e)))

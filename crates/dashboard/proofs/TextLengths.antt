@@ -1,17 +1,13 @@
 -- How long a text can be: any is whole in the buffer that the programs lend. Assumes nothing.
 use Rattle.basis.specs.Prelude.{ℕ, zero, suc, _+_, _*_, _≤_, _<_, min, _≡_, refl, Bool, true, false, List, _++_, arith, length, drop, length-append, length-take, take-all}
-use Rattle.dashboard.proofs.Names.{mostRows, longestLabel, mostSeparation, sum, sum-grows, accepted, Held, sheet, Legal, readingOf, reading, rowsRead, Sheet, accepted-is-legal, legal-is, label-of-row, Step, ok, refuse, passes, Word, bound, none, unreached, isBound, valueOf, resultOf, holds, bound-in-range, passes-local, digits, decimal, mostDigits, boundWord, resultWords, lineStart, line, holdsLine, ending, refusedBy, noVerdict, ownLabel, lines, board, verdictText, referenceText, written, longestLine, longestText, textSize, decimal-grows, decimal-is-short}
+use Rattle.dashboard.proofs.Names.{mostRows, longestLabel, mostSeparation, sum, sum-grows, accepted, sheet, Legal, reading, rowsRead, Sheet, accepted-read, accepted-is-legal, legal-is, label-of-row, passes, Word, bound, none, unreached, isBound, valueOf, resultOf, holds, bound-in-range, passes-local, digits, decimal, mostDigits, boundWord, resultWords, lineStart, line, holdsLine, ending, refusedBy, noVerdict, ownLabel, lines, board, verdictText, referenceText, written, longestLine, longestText, textSize, decimal-grows, decimal-is-short}
 use Rattle.dashboard.proofs.Cases.{reference-is}
 use Rattle.dashboard.proofs.Outcomes.{by-outcome, accepted-prints-its-rows, refused-prints-one-line}
 
 -- what the limits have to be: the bound of the longest line is no shorter than the word unreached, and the longest text is no shorter than a refusal
-wide-separation : 5 ≤ length (decimal mostSeparation)
-unfolding decimal digits
-wide-separation = omega arith
-
-refusal-fits : 13 + 2 * mostDigits ≤ longestText
+limits : (5 ≤ length (decimal mostSeparation)) × (13 + 2 * mostDigits ≤ longestText)
 unfolding longestText longestLine decimal digits sum
-refusal-fits = omega arith
+limits = omega arith
 
 -- ---- a line
 
@@ -22,8 +18,8 @@ Small w = isBound w ≡ true → valueOf w .0 ≤ mostSeparation
 result-is-short : (w : Word) → Small w → length (resultWords w) ≤ length boundWord + length (decimal mostSeparation)
 unfolding resultWords
 result-is-short (bound r) h = rw length-append (omega (arith, decimal-grows r mostSeparation (h refl)))
-result-is-short none h = omega (arith, wide-separation)
-result-is-short unreached h = omega (arith, wide-separation)
+result-is-short none h = omega (arith, limits)
+result-is-short unreached h = omega (arith, limits)
 
 line-is-short : (row : ℕ) (label : List ℕ) (w : Word) → length label ≤ longestLabel → Small w → length (line row label w) ≤ longestLine row
 unfolding line lineStart longestLine
@@ -34,12 +30,9 @@ lines-are-short : (label : ℕ → List ℕ) (result : ℕ → Word) (n : ℕ) �
 unfolding lines sum
 lines-are-short label result zero l s = omega arith
 lines-are-short label result (suc n) l s =
-    rw length-append
-    (omega (
-      arith,
-      lines-are-short label result n (λ i k. l i (omega arith)) (λ i k. s i (omega arith)),
-      line-is-short n (label n) (result n) (l n (omega arith)) (s n (omega arith)),
-    ))
+    let a = lines-are-short label result n (λ i k. l i (omega arith)) (λ i k. s i (omega arith)) in
+    let b = line-is-short n (label n) (result n) (l n (omega arith)) (s n (omega arith)) in
+    rw length-append (omega arith)
 
 -- ---- a sheet
 
@@ -49,8 +42,7 @@ ending-is-short false = omega arith
 
 module _ (label : ℕ → List ℕ) (h : Sheet) (fine : Legal h) where
   small : (i : ℕ) → i < h .count → Small (resultOf passes h i)
-  small i l e =
-      omega (arith, bound-in-range passes passes-local h i e, fine .rows i l)
+  small i l e = omega (arith, bound-in-range passes passes-local h i e, fine .rows i l)
 
   board-is-short : ((i : ℕ) → i < h .count → length (label i) ≤ longestLabel) → length (board label h) ≤ longestText
   unfolding board longestText
@@ -60,11 +52,7 @@ module _ (label : ℕ → List ℕ) (h : Sheet) (fine : Legal h) where
 
 -- the labels of a sheet that was read
 rows-of : (s : List ℕ) → reading s .0 ≡ accepted → rowsRead (sheet s 0) ≡ reading s .1 .count
-rows-of s e = go (sheet s 0) e
-  where
-    go : (x : Step Held) → readingOf x .0 ≡ accepted → rowsRead x ≡ readingOf x .1 .count
-    go (ok h n) f = refl
-    go (refuse k p) f = let z : _≡_ {A = ℕ} 0 1 = cc in absurd (omega arith)
+rows-of s e = let (h, n, q) = accepted-read s e in rw q
 
 own-label-is-short : (s : List ℕ) → reading s .0 ≡ accepted → (i : ℕ) → i < reading s .1 .count → length (ownLabel s i) ≤ longestLabel
 unfolding ownLabel
@@ -72,7 +60,7 @@ own-label-is-short s e i l = rw length-take (omega (arith, label-of-row s i (rw 
 
 no-verdict-is-short : (k p : ℕ) → length (noVerdict k p) ≤ longestText
 unfolding noVerdict refusedBy
-no-verdict-is-short k p = simp length-append (omega (arith, decimal-is-short k, decimal-is-short p, refusal-fits))
+no-verdict-is-short k p = simp length-append (omega (arith, decimal-is-short k, decimal-is-short p, limits))
 
 -- the text of any bytes is no longer than the longest
 pub verdict-is-short : (s : List ℕ) → length (verdictText s) ≤ longestText
@@ -93,9 +81,7 @@ longest-fits = omega (arith, longest-is-1084)
 
 whole : (t o : List ℕ) → length t ≤ textSize → textSize ≤ length o → written t o ≡ (t ++ drop (length t) o, length t)
 unfolding written
-whole t o h g =
-    let m : min (length t) (length o) ≡ length t = omega arith in
-    rw (take-all (length o) t (omega arith), m)
+whole t o h g = let m : min (length t) (length o) ≡ length t = omega arith in rw (take-all (length o) t (omega arith), m)
 
 pub verdict-is-whole : (s o : List ℕ) → textSize ≤ length o → written (verdictText s) o ≡ (verdictText s ++ drop (length (verdictText s)) o, length (verdictText s))
 verdict-is-whole s o = whole (verdictText s) o (omega (arith, verdict-is-short s, longest-fits))

@@ -11,11 +11,10 @@ module _ (label : ℕ → List ℕ) (result : ℕ → Word) where
   lines-end : (n : ℕ) → (lines label result n ≡ []) ⊎ EndsIn (lines label result n) newline
   unfolding lines line
   lines-end zero = inl refl
-  lines-end (suc n) =
-      inr (record {
-        before = lines label result n ++ (lineStart n (label n) ++ resultWords (result n));
-        whole = sym (append-assoc (lines label result n) (lineStart n (label n) ++ resultWords (result n)) newline);
-      })
+  lines-end (suc n) = inr (record {
+    before = lines label result n ++ (lineStart n (label n) ++ resultWords (result n));
+    whole = sym (append-assoc (lines label result n) (lineStart n (label n) ++ resultWords (result n)) newline);
+  })
 
 -- HOLDS or FAILS is the last line of a sheet's text
 board-ends : (label : ℕ → List ℕ) (h : Sheet) → LastLine (board label h) (ending (holds passes h))
@@ -56,8 +55,7 @@ ends-in-holds-is-green s t =
     let all : Bool = holds passes (reading s .1) in
     let q = ends-same (l .before) (t .before) (ending all) holdsLine (sym (l .whole) ∙ sym (accepted-prints-its-rows s e) ∙ t .whole) (ending-long all) in
     let yes : holds passes (reading s .1) ≡ true = ending-holds all q in
-    rw (e, yes))
-    (λ k p e. absurd (no-verdict-is-not-holds k p (t .before) (sym (refused-prints-one-line s k p e) ∙ t .whole)))
+    rw (e, yes)) (λ k p e. absurd (no-verdict-is-not-holds k p (t .before) (sym (refused-prints-one-line s k p e) ∙ t .whole)))
 
 green-is-accepted : (s : List ℕ) → greenOf s ≡ true → (reading s .0 ≡ accepted) × (holds passes (reading s .1) ≡ true)
 unfolding greenOf

@@ -1,7 +1,7 @@
 -- A value has one spelling: what `groups` accepts is what `spelt` writes, and `groups` accepts that.
-use Rattle.basis.specs.Prelude.{ℕ, zero, suc, _+_, _-_, _*_, _/_, _%_, _^_, _≤_, _<_, _≡_, refl, sym, ap, ap₂, _∙_, _⊎_, ⊎-elim, List, [], _∷_, _++_, append-assoc, arith, add-one, pow-succ', zero-lt-suc, one-le-pow, length, getD, length-append, slice, slice-cons, slice-empty, getD-append-seam, lt-ltb, le-ltb}
-use Rattle.numbers.proofs.Names.{Bytes, Step, ok, refuse, after, mostGroups, groups, spelt, number, spell, never-ok, lt-or-le}
-use Rattle.numbers.proofs.Inside.Groups.{one-less, ends, over, low, last, more}
+use Rattle.basis.specs.Prelude.{ℕ, zero, suc, _+_, _-_, _*_, _/_, _%_, _^_, _≤_, _<_, _≡_, sym, ap, ap₂, _∙_, _⊎_, ⊎-elim, List, [], _∷_, _++_, append-assoc, arith, add-one, pow-succ', zero-lt-suc, one-le-pow, length, getD, length-append, slice, slice-cons, slice-empty, getD-append-seam, lt-ltb, le-ltb}
+use Rattle.numbers.proofs.Names.{Bytes, Step, ok, after, mostGroups, groups, spelt, number, spell, never-ok, lt-or-le}
+use Rattle.numbers.proofs.Inside.Groups.{one-less, over, last, more, by-group}
 
 pub spelt-one : (g v : ℕ) → v < 128 → spelt (suc g) v ≡ v ∷ []
 unfolding spelt
@@ -23,54 +23,28 @@ pub record Spelled (g least : ℕ) (s : List ℕ) (at v n : ℕ) : Type 0 where
 pub spelled : (g first least : ℕ) (s : List ℕ) → Bytes s → least ≤ 1 → (at v n : ℕ) → groups g first least s at ≡ ok v n → Spelled g least s at v n
 spelled zero first least s bs l1 at v n e = absurd (never-ok (over 0 first least s at (omega arith)) e)
 spelled (suc g) first least s bs l1 at v n e =
-    ⊎-elim
-    (λ h. ⊎-elim
-    (λ b. ⊎-elim
-    (λ l. absurd (never-ok (low (suc g) first least s at (zero-lt-suc g) h b l) e))
-    (λ l. only h b l)
-    (lt-or-le (getD s at 0) least))
-    (λ b. several h b (λ u m e₁. spelled g first 1 s bs (omega arith) (at + 1) u m e₁) (groups g first 1 s (at + 1)) refl (sym (simp one-less at (more (suc g) first least s at (zero-lt-suc g) h b)) ∙ e))
-    (lt-or-le (getD s at 0) 128))
-    (λ h. absurd (never-ok (ends (suc g) first least s at (zero-lt-suc g) h) e))
-    (lt-or-le at (length s))
-  where
-    only : at < length s → getD s at 0 < 128 → least ≤ getD s at 0 → Spelled (suc g) least s at v n
-    only h b l =
-        let e₁ : ok (getD s at 0) (at + 1) ≡ ok v n = sym (last (suc g) first least s at (zero-lt-suc g) h b l) ∙ e in
-        let ev : getD s at 0 ≡ v = cc in
-        let en : at + 1 ≡ n = cc in
-        record {
-          some-bytes = omega arith;
-          inside = omega arith;
-          not-less = omega arith;
-          not-over = omega (arith, pow-succ' 128 g, one-le-pow g 128 (omega arith));
-          spelling =
-              slice-cons at n s 0 (omega arith) (omega arith)
-              ∙ ap₂ (λ (x : ℕ) (m : ℕ). x ∷ slice m n s) ev (sym (add-one at) ∙ en)
-              ∙ ap (λ (l : List ℕ). v ∷ l) (slice-empty n s)
-              ∙ sym (spelt-one g v (omega arith));
-        }
-
-    several : at < length s → 128 ≤ getD s at 0 → ((u m : ℕ) → groups g first 1 s (at + 1) ≡ ok u m → Spelled g 1 s (at + 1) u m) → (x : Step ℕ) → groups g first 1 s (at + 1) ≡ x
-        → after x (λ u m. ok (getD s at 0 - 128 + 128 * u) m) ≡ ok v n → Spelled (suc g) least s at v n
-    several h b ih (ok u m) e₁ e₂ =
-        let r = ih u m e₁ in
-        let ev : getD s at 0 - 128 + 128 * u ≡ v = cc in
-        let en : m ≡ n = cc in
-        let eb : getD s at 0 ≡ 128 + v % 128 = omega (arith, bs at) in
-        let eu : u ≡ v / 128 = omega (arith, bs at) in
-        record {
-          some-bytes = omega arith;
-          inside = omega arith;
-          not-less = omega (arith, r .not-less);
-          not-over = omega (arith, pow-succ' 128 g, r .not-over, bs at);
-          spelling =
-              slice-cons at n s 0 (omega arith) (omega arith)
-              ∙ ap₂ (λ (x : ℕ) (m : ℕ). x ∷ slice m n s) eb (sym (add-one at))
-              ∙ ap (λ (l : List ℕ). (128 + v % 128) ∷ l) (ap (λ (k : ℕ). slice (at + 1) k s) (sym en) ∙ r .spelling ∙ ap (spelt g) eu)
-              ∙ sym (spelt-more g v (omega (arith, r .not-less)));
-        }
-    several h b ih (refuse k p) e₁ e₂ = absurd (never-ok refl e₂)
+    by-group g first least s at e (λ h l b ev en. record {
+      some-bytes = omega arith;
+      inside = omega arith;
+      not-less = omega arith;
+      not-over = omega (arith, pow-succ' 128 g, one-le-pow g 128 (omega arith));
+      spelling =
+          slice-cons at n s 0 (omega arith) (omega arith) ∙ ap₂ (λ (x : ℕ) (m : ℕ). x ∷ slice m n s) ev (sym (add-one at) ∙ en)
+          ∙ ap (λ (l : List ℕ). v ∷ l) (slice-empty n s) ∙ sym (spelt-one g v (omega arith));
+    })
+    (λ h b u e₁ ev.
+    let r = spelled g first 1 s bs (omega arith) (at + 1) u n e₁ in
+    let eb : getD s at 0 ≡ 128 + v % 128 = omega (arith, bs at) in
+    let eu : u ≡ v / 128 = omega (arith, bs at) in
+    record {
+      some-bytes = omega arith;
+      inside = omega arith;
+      not-less = omega arith;
+      not-over = omega (arith, pow-succ' 128 g, bs at);
+      spelling =
+          slice-cons at n s 0 (omega arith) (omega arith) ∙ ap₂ (λ (x : ℕ) (m : ℕ). x ∷ slice m n s) eb (sym (add-one at))
+          ∙ ap (λ (l : List ℕ). (128 + v % 128) ∷ l) (r .spelling ∙ ap (spelt g) eu) ∙ sym (spelt-more g v (omega arith));
+    })
 
 -- ---- the other way: what is spelled is read back
 
@@ -93,8 +67,7 @@ pub read-back : (g first least : ℕ) (p q s : List ℕ) (at v : ℕ) → v < 12
     → groups (suc g) first least s at ≡ ok v (at + length (spelt (suc g) v))
 read-back zero first least p q s at v h l e a = back-one 0 first least p q s at v h l e a
 read-back (suc g) first least p q s at v h l e a =
-    ⊎-elim
-    (λ b. back-one (suc g) first least p q s at v b l e a)
+    ⊎-elim (λ b. back-one (suc g) first least p q s at v b l e a)
     (λ b.
     let d : ℕ = 128 + v % 128 in
     let rest : List ℕ = spelt (suc g) (v / 128) in
@@ -104,8 +77,7 @@ read-back (suc g) first least p q s at v h l e a =
     read-back g first 1 (p ++ (d ∷ [])) q s (at + 1) (v / 128) (omega (arith, pow-succ' 128 (suc g))) (omega arith) (es ∙ sym (append-assoc p (d ∷ []) (rest ++ q))) (omega (arith, length-append p (d ∷ []))) in
     more (suc (suc g)) first least s at (zero-lt-suc (suc g)) (cut .0) (omega (arith, cut .1))
     ∙ ap (λ (x : Step ℕ). after x (λ u m. ok (getD s at 0 - 128 + 128 * u) m)) (ap (λ (k : ℕ). groups k first 1 s (at + 1)) (one-less (suc g)) ∙ ih)
-    ∙ ap₂ (λ (x : ℕ) (n : ℕ). ok x n) (omega (arith, cut .1)) (omega (arith, ap length (spelt-more (suc g) v b))))
-    (lt-or-le v 128)
+    ∙ ap₂ (λ (x : ℕ) (n : ℕ). ok x n) (omega (arith, cut .1)) (omega (arith, ap length (spelt-more (suc g) v b)))) (lt-or-le v 128)
 
 -- ---- the law of a number: its one spelling
 module _ (s : List ℕ) (at v : ℕ) where
@@ -116,7 +88,3 @@ module _ (s : List ℕ) (at v : ℕ) where
   -- a value that is spelled at a place is read there
   pub number-back : (p q : List ℕ) → v < 128 ^ mostGroups → s ≡ p ++ (spell v ++ q) → at ≡ length p → number s at ≡ ok v (at + length (spell v))
   number-back p q h e a = read-back (mostGroups - 1) at 0 p q s at v h (omega arith) e a
-
--- two places where the same value is read have the same bytes there
-pub one-spelling : (s t : List ℕ) → Bytes s → Bytes t → (i j v n m : ℕ) → number s i ≡ ok v n → number t j ≡ ok v m → slice i n s ≡ slice j m t
-one-spelling s t bs bt i j v n m e f = number-spelled s i v n bs e .spelling ∙ sym (number-spelled t j v m bt f .spelling)

@@ -14,18 +14,14 @@ enough (suc j) (suc k) n h g =
     ap (λ (l : List ℕ). pick (ltb n 10) ((0x30 + n) ∷ []) (l ++ ((0x30 + n % 10) ∷ [])))
     (enough j k (n / 10) (omega (arith, pow-succ' 10 (suc j))) (omega (arith, pow-succ' 10 (suc k))))
 
-one-digit : (n : ℕ) → n < 10 → decimal n ≡ (0x30 + n) ∷ []
-unfolding decimal digits
-one-digit n h = simp (lt-ltb _ _ h)
-
 more-digits : (n : ℕ) → n < 2 ^ 64 → 10 ≤ n → decimal n ≡ decimal (n / 10) ++ ((0x30 + n % 10) ∷ [])
 unfolding decimal digits
-more-digits n f h =
-    simp (le-ltb _ _ h) (ap (λ (l : List ℕ). l ++ ((0x30 + n % 10) ∷ [])) (enough 18 19 (n / 10) (omega arith) (omega arith)))
+more-digits n f h = simp (le-ltb _ _ h) (ap (λ (l : List ℕ). l ++ ((0x30 + n % 10) ∷ [])) (enough 18 19 (n / 10) (omega arith) (omega arith)))
 
 -- `put_number`
 pub digit-said : (p q : Page) (n : ℕ) → n < 10 → q ≡ said p ((0x30 + n) ∷ []) → q ≡ said p (decimal n)
-digit-said p q n h e = rw (one-digit n h) e
+unfolding decimal digits
+digit-said p q n h e = simp (lt-ltb _ _ h) e
 
 pub digits-said : (p q r : Page) (n : ℕ) → n < 2 ^ 64 → 10 ≤ n → q ≡ said p (decimal (n / 10)) → r ≡ said q ((0x30 + n % 10) ∷ []) → r ≡ said p (decimal n)
 digits-said p q r n k h e f = rw (more-digits n k h) (two-said p q r _ _ e f)
@@ -43,10 +39,7 @@ digits-grow : (k n m : ℕ) → n ≤ m → length (digits k n) ≤ length (digi
 unfolding digits
 digits-grow zero n m h = omega arith
 digits-grow (suc k) n m h =
-    by-test m 10
-    (λ e l. simp (e, lt-ltb n 10 (omega arith)) (omega arith))
-    (λ e l. by-test n 10
-    (λ f g. simp (e, f, length-append) (omega arith))
+    by-test m 10 (λ e l. simp (e, lt-ltb n 10 (omega arith)) (omega arith)) (λ e l. by-test n 10 (λ f g. simp (e, f, length-append) (omega arith))
     (λ f g. simp (e, f, length-append) (omega (arith, digits-grow k (n / 10) (m / 10) (omega arith)))))
 
 -- a larger number has no fewer
@@ -66,10 +59,7 @@ decimal-is-short n = digits-few mostDigits n
 -- the last byte of a number is a digit
 pub last-digit : (n : ℕ) → (before : List ℕ) × (d : ℕ) × (d < 10) × (decimal n ≡ before ++ ((0x30 + d) ∷ []))
 unfolding decimal digits
-last-digit n =
-    by-test n 10
-    (λ e l. ([], n, l, simp e))
-    (λ e l. (digits 19 (n / 10), n % 10, omega arith, simp e))
+last-digit n = by-test n 10 (λ e l. ([], n, l, simp e)) (λ e l. (digits 19 (n / 10), n % 10, omega arith, simp e))
 
 -- ---- what the digits stand for
 
@@ -82,8 +72,7 @@ digits-value : (k n : ℕ) → n < 10 ^ suc k → value (digits (suc k) n) ≡ n
 unfolding digits valueAfter
 digits-value zero n h = simp (lt-ltb n 10 h) (omega arith)
 digits-value (suc k) n h =
-    by-test n 10
-    (λ e l. simp e (omega arith))
+    by-test n 10 (λ e l. simp e (omega arith))
     (λ e l. simp e (value-more 0 (digits (suc k) (n / 10)) (n % 10) ∙ omega (arith, digits-value k (n / 10) (omega (arith, pow-succ' 10 (suc k))))))
 
 -- any number of the code, printed, reads back as itself

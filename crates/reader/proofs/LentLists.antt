@@ -15,14 +15,14 @@ outcome-is-the-readers s list labels r q =
 
 module _ (s list labels : List ℕ) (o : Outcome) (l b : List ℕ) (e : lists o l b ≡ readInto s list labels) where
   -- what the outcome is made of, and the lists where nothing is refused
-  outcome-of : Outcome
+  abbrev outcome-of : Outcome
   outcome-of = orElse (reading s .0) (orElse (roomFor (sheetLong (reading s .1 .count)) (length list)) (roomFor (labelsLong (reading s .1 .count)) (length labels)))
 
-  written : List ℕ × List ℕ
+  abbrev written : List ℕ × List ℕ
   written = (upto (sheetLong (reading s .1 .count)) (sheetCell (reading s .1)) list, upto (labelsLong (reading s .1 .count)) (labelCell s) labels)
 
   as-handed : lists o l b ≡ handed outcome-of written (list, labels)
-  unfolding readInto intoLists outcome-of written
+  unfolding readInto intoLists
   as-handed = e
 
   -- refused: both lists are as they were
@@ -42,7 +42,6 @@ module _ (s list labels : List ℕ) (o : Outcome) (l b : List ℕ) (e : lists o 
     done = handed-done written (list, labels) outcome-of (sym (ap (λ (x : Lists). x .0) as-handed) ∙ q)
 
     parts : (reading s .0 ≡ accepted) × (orElse (roomFor (sheetLong (reading s .1 .count)) (length list)) (roomFor (labelsLong (reading s .1 .count)) (length labels)) ≡ accepted)
-    unfolding outcome-of
     parts = both-accepted (reading s .0) _ (done .0)
 
     pub reader-accepts : reading s .0 ≡ accepted
@@ -55,11 +54,9 @@ module _ (s list labels : List ℕ) (o : Outcome) (l b : List ℕ) (e : lists o 
     labels-have-room = room-holds (labelsLong (reading s .1 .count)) (length labels) (both-accepted (roomFor (sheetLong (reading s .1 .count)) (length list)) _ (parts .1) .1)
 
     pub list-written : l ≡ upto (sheetLong (reading s .1 .count)) (sheetCell (reading s .1)) list
-    unfolding written
     list-written = ap (λ (x : Lists). x .1 .0) as-handed ∙ ap (λ (x : List ℕ × List ℕ). x .0) (done .1)
 
     pub labels-written : b ≡ upto (labelsLong (reading s .1 .count)) (labelCell s) labels
-    unfolding written
     labels-written = ap (λ (x : Lists). x .1 .1) as-handed ∙ ap (λ (x : List ℕ × List ℕ). x .1) (done .1)
 
     -- the list's count is the sheet's

@@ -26,7 +26,7 @@ unfoldable pub use Rattle.reader.specs.Lists.{intoLists, readInto}
 pub use Rattle.reader.specs.declared.labels.Parts.{Parts}
 pub use Rattle.reader.specs.declared.row.Part.{Part}
 pub use Rattle.reader.specs.declared.row.Passed.{Passed}
-pub use Rattle.sheet.proofs.Inside.Stores.{head-stored, row-stored, rows-agree}
+pub use Rattle.sheet.proofs.Inside.Stores.{row-stored, rows-agree}
 pub use Rattle.sheet.proofs.RoundTrip.{sheet-in-front, whole-sheet-comes-back}
 pub use Rattle.sheet.specs.Legal.{Legal, LegalRow, ZeroPast, noRow, rowAt}
 unfoldable pub use Rattle.sheet.specs.Legal.{legal}

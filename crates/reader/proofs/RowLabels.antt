@@ -1,28 +1,9 @@
 -- The laws of a label: where it is not empty it is 1 to 16 bytes of 21..7E inside the sheet, the very label that was read; and it is empty exactly where
 -- the reader refuses or the row number is n or more. Assumes nothing.
-use Rattle.basis.specs.Prelude.{ℕ, zero, suc, _+_, _≤_, _<_, _≡_, refl, sym, ap, _∙_, true, _⊎_, inl, inr, ⊎-elim, _↔_, List, [], map, arith, not-suc-le-zero, length, getD, take, drop, ltb, lt-ltb, le-ltb}
-use Rattle.reader.proofs.Names.{longestLabel, accepted, refused, Step, ok, refuse, byte, after-ok, ok-same, passed, byte-ok, lt-or-le, bounded, Held, entryLabel, isPlain, plain, sheet, labelHead, readingOf, reading, nowhere, rowsRead, partAfter, labelIn, Part}
+use Rattle.basis.specs.Prelude.{ℕ, _+_, _≤_, _<_, _≡_, refl, sym, ap, _∙_, true, _⊎_, inl, inr, ⊎-elim, _↔_, List, [], map, arith, not-suc-le-zero, length, getD, take, drop, ltb, lt-ltb, le-ltb}
+use Rattle.reader.proofs.Names.{longestLabel, accepted, refused, Step, ok, refuse, ok-same, lt-or-le, bounded, Held, entryLabel, isPlain, sheet, labelHead, readingOf, reading, nowhere, rowsRead, partAfter, labelIn, Part}
 use Rattle.basis.specs.Words.{pick}
 use Rattle.reader.proofs.Inside.LabelPlaces.{found}
-
--- each byte that was read as a label's is one that it may have
-plain-bytes : (k : ℕ) (s : List ℕ) (at : ℕ) (bs : List ℕ) (n : ℕ) → plain k s at ≡ ok bs n → (j : ℕ) → j < k → isPlain (getD s (at + j) 0) ≡ true
-unfolding plain
-plain-bytes zero s at bs n e j h = absurd (not-suc-le-zero h)
-plain-bytes (suc k) s at bs n e j h =
-    after-ok (byte s at) _ e λ b m e₁ e₂.
-    let (is, e₃) = passed _ 6 at s m (isPlain b) e₂ in
-    let (_, eb, em) = byte-ok s at b m e₁ in
-    after-ok (plain k s m) _ e₃ λ cs l e₄ e₅.
-    at-byte b m is eb em (λ i g. plain-bytes k s m cs l e₄ i g) j h
-  where
-    at-byte : (b m : ℕ) → isPlain b ≡ true → getD s at 0 ≡ b → at + 1 ≡ m → ((i : ℕ) → i < k → isPlain (getD s (m + i) 0) ≡ true) → (i : ℕ) → i < suc k → isPlain (getD s (at + i) 0) ≡ true
-    at-byte b m is eb em rest zero g =
-        let e₀ : at + 0 ≡ at = omega arith in
-        ap (λ (x : ℕ). isPlain (getD s x 0)) e₀ ∙ ap isPlain eb ∙ is
-    at-byte b m is eb em rest (suc i) g =
-        let e₀ : at + suc i ≡ m + i = omega arith in
-        ap (λ (x : ℕ). isPlain (getD s x 0)) e₀ ∙ rest i (omega arith)
 
 -- the part p of the bytes s is the label of row i
 pub record Labels (s : List ℕ) (i : ℕ) (p : Part) : Type 0 where
@@ -41,12 +22,11 @@ label-of-row s i l = go (sheet s 0) refl l
     go (ok h n) e g =
         let f = found s i h n e g in
         let b = bounded longestLabel 6 6 _ _ _ _ (f .lies .head) in
-        simp (e, lt-ltb i (length (h .entries)) g, f .head)
-        (record {
+        simp (e, lt-ltb i (length (h .entries)) g, f .head) (record {
           some = b .positive;
           short = b .not-over;
           inside = f .lies .inside;
-          plainly = plain-bytes (length (f .label)) s (f .lies .start) (f .label) _ (f .lies .read);
+          plainly = f .lies .plainly;
           is-read = λ k m q. sym (f .lies .bytes) ∙ sym (f .is) ∙ ap (λ (x : Held). getD (map entryLabel (x .entries)) i []) (ok-same (sym e ∙ q) .0);
         })
     go (refuse k p) e g = absurd (not-suc-le-zero g)

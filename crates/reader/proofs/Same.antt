@@ -1,5 +1,5 @@
 -- Equal answers of the reader and of the labels. Assumes nothing.
-use Rattle.basis.specs.Prelude.{ℕ, _≡_, sym, ap, ap₂, _∙_, List}
+use Rattle.basis.specs.Prelude.{ℕ, _≡_, sym, ap, _∙_, List}
 use denote.Ref.{RefT}
 use Rattle.reader.proofs.Names.{Outcome, outcome, outcome-one-to-one, outcomeAndSheet, reading, shown, part, labelIn, labelsIn, readInto, Part, Parts, Sheet}
 use Rattle.basis.specs.declared.refusal.Refusal.{Refusal}
@@ -9,9 +9,8 @@ use Rattle.reader.specs.declared.whole.Reading.{Reading}
 -- an answer stands for one value of the code
 pub reading-one-to-one : (a b : Reading) → outcomeAndSheet a ≡ outcomeAndSheet b → a ≡ b
 reading-one-to-one a b e =
-    ap₂ (λ (r : Refusal) (h : Sheet). record { refusal = r; sheet = h })
-    (outcome-one-to-one (a .refusal) (b .refusal) (ap (λ (x : Outcome × Sheet). x .0) e))
-    (ap (λ (x : Outcome × Sheet). x .1) e)
+    let r = outcome-one-to-one (a .refusal) (b .refusal) (ap (λ (x : Outcome × Sheet). x .0) e) in
+    λ i. record { refusal = r i; sheet = e i .1 }
 
 -- `read`
 pub read-same : (s : List ℕ) (a b : Reading) → outcomeAndSheet a ≡ reading s → outcomeAndSheet b ≡ reading s → a ≡ b

@@ -1,55 +1,26 @@
 -- A legal sheet is one whose every number is in its range. Assumes nothing.
-use Rattle.basis.specs.Prelude.{ℕ, _≡_, true}
-use Rattle.sheet.proofs.Names.{mostProcessors, mostRows, mostSeparation, within, both-left, both-right, both-true, at-least, at-most, within-true, all-at, all-true, rowAt, legalRow, legalAt, legal, LegalRow, Legal, Row, Sheet}
+use Rattle.basis.specs.Prelude.{ℕ, _<_, _≡_, true}
+use Rattle.sheet.proofs.Names.{mostProcessors, mostRows, allOf, within, both-left, both-right, both-true, at-least, at-most, within-true, all-at, all-true, rowAt, legalRow, legalAt, legal, LegalRow, Legal, Row, Sheet}
 
 legal-row-is : (m : ℕ) (row : Row) → legalRow m row ≡ true → LegalRow m row
 unfolding legalRow
-legal-row-is m row e =
-    let e₁ = both-right (within 1 m (row .threads)) _ e in
-    let e₂ = both-right (within 1 mostSeparation (row .separation)) _ e₁ in
-    let t = both-left (within 1 m (row .threads)) _ e in
-    let s = both-left (within 1 mostSeparation (row .separation)) _ e₁ in
-    let d = both-left (within 1 (row .separation) (row .deadline)) _ e₂ in
-    let c = both-right (within 1 (row .separation) (row .deadline)) _ e₂ in
-    record {
-      some-threads = at-least 1 m (row .threads) t;
-      most-threads = at-most 1 m (row .threads) t;
-      some-separation = at-least 1 mostSeparation (row .separation) s;
-      most-separation = at-most 1 mostSeparation (row .separation) s;
-      some-deadline = at-least 1 (row .separation) (row .deadline) d;
-      most-deadline = at-most 1 (row .separation) (row .deadline) d;
-      some-budget = at-least 1 (row .deadline) (row .budget) c;
-      most-budget = at-most 1 (row .deadline) (row .budget) c;
-    }
+legal-row-is m row e = search (both-left, both-right, at-least, at-most)
 
 legal-row-says : (m : ℕ) (row : Row) → LegalRow m row → legalRow m row ≡ true
 unfolding legalRow
-legal-row-says m row r =
-    both-true _ _ (within-true 1 m (row .threads) (r .some-threads) (r .most-threads))
-    (both-true _ _ (within-true 1 mostSeparation (row .separation) (r .some-separation) (r .most-separation))
-    (both-true _ _ (within-true 1 (row .separation) (row .deadline) (r .some-deadline) (r .most-deadline))
-    (within-true 1 (row .deadline) (row .budget) (r .some-budget) (r .most-budget))))
+legal-row-says m row r = search (both-true, within-true)
 
 -- a legal sheet is in the ranges
 pub legal-is : (h : Sheet) → legal h ≡ true → Legal h
 unfolding legal legalAt
 legal-is h e =
-    let e₁ = both-right (within 1 mostProcessors (h .processors)) _ e in
-    let m = both-left (within 1 mostProcessors (h .processors)) _ e in
-    let n = both-left (within 1 mostRows (h .count)) _ e₁ in
-    let r = both-right (within 1 mostRows (h .count)) _ e₁ in
-    record {
-      some-processors = at-least 1 mostProcessors (h .processors) m;
-      most-processors = at-most 1 mostProcessors (h .processors) m;
-      some-rows = at-least 1 mostRows (h .count) n;
-      most-rows = at-most 1 mostRows (h .count) n;
-      rows = λ i b. legal-row-is (h .processors) (rowAt h i) (all-at (h .count) (legalAt h) r i b);
-    }
+    let all = both-right (within 1 mostRows (h .count)) (allOf (h .count) (legalAt h)) (both-right (within 1 mostProcessors (h .processors)) _ e) in
+    let rows : (i : ℕ) → i < h .count → LegalRow (h .processors) (rowAt h i) = λ i b. legal-row-is (h .processors) (rowAt h i) (all-at (h .count) (legalAt h) all i b) in
+    search (both-left, both-right, at-least, at-most)
 
 -- and a sheet in the ranges is legal
 pub legal-says : (h : Sheet) → Legal h → legal h ≡ true
 unfolding legal legalAt
 legal-says h r =
-    both-true _ _ (within-true 1 mostProcessors (h .processors) (r .some-processors) (r .most-processors))
-    (both-true _ _ (within-true 1 mostRows (h .count) (r .some-rows) (r .most-rows))
-    (all-true (h .count) (legalAt h) (λ i l. legal-row-says (h .processors) (rowAt h i) (r .rows i l))))
+    let rows = all-true (h .count) (legalAt h) (λ i l. legal-row-says (h .processors) (rowAt h i) (r .rows i l)) in
+    search (both-true, within-true)

@@ -2,8 +2,8 @@
 pub use Rattle.basis.proofs.Inside.Lists.{getD-all}
 pub use Rattle.basis.proofs.Inside.Tests.{tests}
 pub use Rattle.basis.proofs.Inside.Upto.{length-upto, upto-below, upto-none, upto-past, upto-set}
-pub use Rattle.basis.proofs.Inside.Words.{all-at, all-fails, all-one-more, all-true, at-least, at-most, both-left, both-right, both-true, lt-or-le, within-true}
-pub use Rattle.basis.specs.Limits.{mostProcessors, mostRows, mostSeparation}
+pub use Rattle.basis.proofs.Inside.Words.{all-at, all-fails, all-one-more, all-true, at-least, at-most, both-left, both-right, both-true, lt-or-le, pick-same, within-true}
+pub use Rattle.basis.specs.Limits.{mostProcessors, mostRows}
 unfoldable pub use Rattle.basis.specs.Upto.{upto}
 pub use Rattle.basis.specs.Words.{both, within}
 unfoldable pub use Rattle.basis.specs.Words.{allOf}

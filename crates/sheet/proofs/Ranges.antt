@@ -1,6 +1,6 @@
 -- The check of the sheet in a list: a turn over its rows, and what each way out says. Assumes nothing.
 use Rattle.basis.specs.Prelude.{ℕ, _+_, _-_, _*_, _≤_, _<_, _≡_, refl, sym, ap, ap₂, _∙_, Bool, true, false, List, length, List·getD-eq-default, arith, w64, Fits, ⊎-elim}
-use Rattle.sheet.proofs.Names.{mostProcessors, mostRows, both, within, allOf, all-one-more, all-fails, both-left, both-right, at-most, lt-or-le, rowAt, legalRow, legalAt, legal, Legal, Row, Sheet, numberAt, rowIn, sheetIn, sheetLong, legalRows}
+use Rattle.sheet.proofs.Names.{mostProcessors, mostRows, both, within, allOf, all-one-more, all-fails, both-left, both-right, at-most, lt-or-le, rowAt, legalRow, legalAt, legal, Row, Sheet, numberAt, rowIn, sheetIn, sheetLong, legalRows}
 use Rattle.sheet.proofs.Legality.{legal-is}
 use Rattle.sheet.proofs.Inside.ListRows.{row-in-sheet}
 
@@ -25,15 +25,11 @@ not-so false f = refl
 -- A sheet's list that ends before its last row is refused: the budget that it lacks is zero.
 pub missing-rows-are-refused : (l : List ℕ) → length l < sheetLong (numberAt l 1) → legal (sheetIn l) ≡ false
 unfolding sheetIn rowIn
-missing-rows-are-refused l h = not-so (legal (sheetIn l)) (λ e. never (legal-is (sheetIn l) e))
-  where
-    never : Legal (sheetIn l) → ⊥
-    never r =
-        let k : ℕ = numberAt l 1 - 1 in
-        let there : k < mostRows = omega (arith, r .some-rows, r .most-rows) in
-        let e = ap (λ (row : Row). row .budget) (row-in-sheet l k there) in
-        let z = List·getD-eq-default l 0 {n = k * 4 + 5} (omega (arith, r .some-rows)) in
-        omega (arith, r .rows k (omega (arith, r .some-rows)) .some-budget, e, z)
+missing-rows-are-refused l h = not-so (legal (sheetIn l)) (λ e.
+    let r = legal-is (sheetIn l) e in
+    let k : ℕ = numberAt l 1 - 1 in
+    let z = List·getD-eq-default l 0 {n = k * 4 + 5} (omega arith) in
+    omega (arith, r .rows k (omega arith) .some-budget, ap (λ (row : Row). row .budget) (row-in-sheet l k (omega arith)), z))
 
 -- so that the list of a legal sheet has room for its rows
 pub legal-sheet-long : (l : List ℕ) (n : ℕ) → legal (sheetIn l) ≡ true → n ≡ sheetIn l .count → sheetLong n ≤ length l
@@ -67,9 +63,8 @@ module _ (l : List ℕ) (m n : ℕ) (em : m ≡ sheetIn l .processors) (en : n �
   ends-before-rows a = sym (missing-rows-are-refused l (omega (arith, en)))
 
   pub rows-decide : head ≡ true → (r : Bool) → r ≡ allOf n (legalRows m (sheetIn l)) → r ≡ legal (sheetIn l)
-  unfolding legal legalAt legalRows
+  unfolding legal legalAt legalRows sheetIn
   rows-decide t r e =
-      let both-hold = sym eh ∙ t in
-      let a : within 1 mostProcessors (sheetIn l .processors) ≡ true = sym (ap (within 1 mostProcessors) em) ∙ both-left (within 1 mostProcessors m) (within 1 mostRows n) both-hold in
-      let b : within 1 mostRows (sheetIn l .count) ≡ true = sym (ap (within 1 mostRows) en) ∙ both-right (within 1 mostProcessors m) (within 1 mostRows n) both-hold in
-      rw (a, b) (e ∙ ap₂ (λ (x y : ℕ). allOf y (λ i. legalRow x (rowAt (sheetIn l) i))) em en)
+      let a = both-left (within 1 mostProcessors m) (within 1 mostRows n) (sym eh ∙ t) in
+      let b = both-right (within 1 mostProcessors m) (within 1 mostRows n) (sym eh ∙ t) in
+      simp (sym em, sym en, a, b) e

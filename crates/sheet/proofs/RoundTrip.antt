@@ -21,12 +21,9 @@ module _ (h : Sheet) (l : List ℕ) (long : length (h .rows) ≡ mostRows) (numb
   unfolding sheetIn listCell
   list-hands-over =
       let rows : upto mostRows (rowIn l) (noRows mostRows) ≡ h .rows =
-      sym (ext-getD noRow (h .rows) (upto mostRows (rowIn l) (noRows mostRows))
-      (long ∙ sym (length-upto mostRows (rowIn l) (noRows mostRows)))
+      sym (ext-getD noRow (h .rows) (upto mostRows (rowIn l) (noRows mostRows)) (long ∙ sym (length-upto mostRows (rowIn l) (noRows mostRows)))
       (λ i b. row-is i ∙ sym (upto-below mostRows (rowIn l) (noRows mostRows) noRow i (omega arith) (le-refl mostRows)))) in
-      let m : numberAt l 0 ≡ h .processors = number 0 in
-      let c : numberAt l 1 ≡ h .count = number 1 in
-      λ i. record { processors = m i; count = c i; rows = rows i }
+      λ i. record { processors = number 0 i; count = number 1 i; rows = rows i }
 
 -- A sheet whose rows from n on are not there, and that is written into a list with room for n rows, is the sheet that the list hands over.
 module _ (h : Sheet) (n : ℕ) (l : List ℕ) (long : length (h .rows) ≡ mostRows) (past : (k : ℕ) → n ≤ k → rowAt h k ≡ noRow) (room : sheetLong n ≤ length l) where
@@ -36,8 +33,7 @@ module _ (h : Sheet) (n : ℕ) (l : List ℕ) (long : length (h .rows) ≡ mostR
   -- The same where what stands in the list past those rows is cut off.
   pub sheet-in-front : (l′ : List ℕ) → l′ ≡ upto (sheetLong n) (sheetCell h) l → sheetIn (take (sheetLong n) l′) ≡ h
   sheet-in-front l′ e = list-hands-over h (take (sheetLong n) l′) long
-      (λ i. ⊎-elim
-      (λ a. getD-take (sheetLong n) l′ i 0 a ∙ ap (λ (z : List ℕ). numberAt z i) e ∙ upto-below (sheetLong n) (sheetCell h) l 0 i a room)
+      (λ i. ⊎-elim (λ a. getD-take (sheetLong n) l′ i 0 a ∙ rw e (upto-below (sheetLong n) (sheetCell h) l 0 i a room))
       (λ a. List·getD-eq-default (take (sheetLong n) l′) 0 {n = i} (omega (arith, length-take-le (sheetLong n) l′ (omega (arith, ap length e ∙ length-upto (sheetLong n) (sheetCell h) l)))) ∙ sym (cell-past h n past i a))
       (lt-or-le i (sheetLong n)))
 

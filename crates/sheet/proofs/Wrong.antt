@@ -5,37 +5,33 @@ use Rattle.basis.specs.Faults.{NoneMeets}
 use Rattle.basis.proofs.Faults.{values-apart, bit}
 use Rattle.sheet.specs.Wrong.{listA, listE, largest, blankBudget, nines, firstPast, nextPlace, rowsForProcessors, processorsForRows, firstThreads, sameRows, rowForEach, anySheet, nowhereLegal, judgedBy, belowLargest, withBlank, rowPastLast, asItWas, twoNumbers, budgetForDeadline, allCleared, onesFrom}
 
--- a number is its own measure
-own : ℕ → ℕ
-own n = n
-
 -- past its end sheet A's list would go on with 4
 pub first-past-is-shut-out : NoneMeets (firstPast listA 10) (numberAt listA 10)
-unfolding firstPast own
-first-past-is-shut-out = values-apart _ _ own refl
+unfolding firstPast
+first-past-is-shut-out = values-apart _ _ (λ (n : ℕ). n) refl
 
 -- the next place: sheet A's list would begin with 2
 pub next-place-is-shut-out : NoneMeets (nextPlace listA 0) (numberAt listA 0)
-unfolding nextPlace own
-next-place-is-shut-out = values-apart _ _ own refl
+unfolding nextPlace
+next-place-is-shut-out = values-apart _ _ (λ (n : ℕ). n) refl
 
 -- sheet A would have two processors, or two by the threads of its first row
 pub rows-for-processors-is-shut-out : NoneMeets (rowsForProcessors listA) (sheetIn listA .processors)
-unfolding rowsForProcessors sheetIn own
-rows-for-processors-is-shut-out = values-apart _ _ own refl
+unfolding rowsForProcessors sheetIn
+rows-for-processors-is-shut-out = values-apart _ _ (λ (n : ℕ). n) refl
 
 pub threads-for-processors-is-shut-out : NoneMeets (firstThreads listA) (sheetIn listA .processors)
-unfolding firstThreads sheetIn own
-threads-for-processors-is-shut-out = values-apart _ _ own refl
+unfolding firstThreads sheetIn
+threads-for-processors-is-shut-out = values-apart _ _ (λ (n : ℕ). n) refl
 
 -- sheet A would have four rows, and so would sheet E by the threads of its first row
 pub processors-for-rows-is-shut-out : NoneMeets (processorsForRows listA) (sheetIn listA .count)
-unfolding processorsForRows sheetIn own
-processors-for-rows-is-shut-out = values-apart _ _ own refl
+unfolding processorsForRows sheetIn
+processors-for-rows-is-shut-out = values-apart _ _ (λ (n : ℕ). n) refl
 
 pub threads-for-rows-is-shut-out : NoneMeets (firstThreads listE) (sheetIn listE .count)
-unfolding firstThreads sheetIn own
-threads-for-rows-is-shut-out = values-apart _ _ own refl
+unfolding firstThreads sheetIn
+threads-for-rows-is-shut-out = values-apart _ _ (λ (n : ℕ). n) refl
 
 -- every row the first: sheet A's second row would have 2 threads
 pub same-rows-is-shut-out : NoneMeets (sameRows listA) (sheetIn listA)
@@ -72,34 +68,30 @@ pub row-past-last-is-shut-out : NoneMeets (rowPastLast (sheetIn listA)) (legal (
 unfolding rowPastLast legal legalAt legalRow allOf sheetIn rowIn upto
 row-past-last-is-shut-out = values-apart _ _ bit refl
 
--- the number at a place of a list
-at : ℕ → List ℕ → ℕ
-at i l = numberAt l i
-
 -- a list left as it was: sheet A put into three places, and these made zero
 pub kept-by-put-is-shut-out : NoneMeets (asItWas nines) (filled (sheetCell (sheetIn listA)) nines)
-unfolding asItWas filled upto listCell rowCell sheetIn rowIn at
-kept-by-put-is-shut-out = values-apart _ _ (at 0) refl
+unfolding asItWas filled upto listCell rowCell sheetIn rowIn
+kept-by-put-is-shut-out = values-apart _ _ (λ (l : List ℕ). numberAt l 0) refl
 
 pub kept-by-clear-is-shut-out : NoneMeets (asItWas nines) (filled (clearedCell 1 nines) nines)
-unfolding asItWas filled upto clearedCell at
-kept-by-clear-is-shut-out = values-apart _ _ (at 1) refl
+unfolding asItWas filled upto clearedCell
+kept-by-clear-is-shut-out = values-apart _ _ (λ (l : List ℕ). numberAt l 1) refl
 
 -- two numbers of a row: sheet A's first deadline would be 2
 pub two-numbers-is-shut-out : NoneMeets (filled (twoNumbers (sheetIn listA)) listA) (filled (sheetCell (sheetIn listA)) listA)
-unfolding twoNumbers filled upto listCell rowCell sheetIn rowIn at
-two-numbers-is-shut-out = values-apart _ _ (at 4) refl
+unfolding twoNumbers filled upto listCell rowCell sheetIn rowIn
+two-numbers-is-shut-out = values-apart _ _ (λ (l : List ℕ). numberAt l 4) refl
 
 -- the budget for the deadline: sheet A's first deadline would be 2
 pub budget-for-deadline-is-shut-out : NoneMeets (filled (budgetForDeadline (sheetIn listA)) listA) (filled (sheetCell (sheetIn listA)) listA)
-unfolding budgetForDeadline filled upto listCell rowCell sheetIn rowIn at
-budget-for-deadline-is-shut-out = values-apart _ _ (at 4) refl
+unfolding budgetForDeadline filled upto listCell rowCell sheetIn rowIn
+budget-for-deadline-is-shut-out = values-apart _ _ (λ (l : List ℕ). numberAt l 4) refl
 
 -- all of a list made zero, or ones in its rest
 pub all-cleared-is-shut-out : NoneMeets (filled (allCleared 1 nines) nines) (filled (clearedCell 1 nines) nines)
-unfolding allCleared filled upto clearedCell at
-all-cleared-is-shut-out = values-apart _ _ (at 0) refl
+unfolding allCleared filled upto clearedCell
+all-cleared-is-shut-out = values-apart _ _ (λ (l : List ℕ). numberAt l 0) refl
 
 pub ones-from-is-shut-out : NoneMeets (filled (onesFrom 1 nines) nines) (filled (clearedCell 1 nines) nines)
-unfolding onesFrom filled upto clearedCell at
-ones-from-is-shut-out = values-apart _ _ (at 1) refl
+unfolding onesFrom filled upto clearedCell
+ones-from-is-shut-out = values-apart _ _ (λ (l : List ℕ). numberAt l 1) refl

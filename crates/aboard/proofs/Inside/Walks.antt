@@ -25,6 +25,9 @@ shv h = LL.val Sh.the-type Sh′.the-laws h
 abbrev pub rev : Refusal → Val
 rev r = EL.val Re.the-type Re′.the-laws r
 
+abbrev pub lv : RefT (List ℕ) → Val
+lv r = sliceVal (r .ptr) (length (r .now))
+
 -- they are of their types
 abbrev pub IsState : State → Type 0
 IsState t = Is St.the-row t (stv t ∷ [])

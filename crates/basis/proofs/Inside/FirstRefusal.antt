@@ -10,8 +10,7 @@ pub first-found : (n i : ℕ) (f : ℕ → Outcome) (a b : ℕ) → i < n → fi
 unfolding firstOf
 first-found zero i f a b h e g = absurd (omega arith)
 first-found (suc m) i f a b h e g =
-    ⊎-elim (λ q. let e′ : firstOf m f ≡ accepted = rw q at e in let g′ : f m ≡ refused a b = rw q at g in rw (e′, g′))
-    (λ l. rw (first-found m i f a b l e g))
+    ⊎-elim (λ q. let e′ : firstOf m f ≡ accepted = rw q at e in let g′ : f m ≡ refused a b = rw q at g in rw (e′, g′)) (λ l. rw (first-found m i f a b l e g))
     (eq-or-lt-of-le {n = i} {m = m} (omega arith))
 
 pub both-accepted : (a b : Outcome) → orElse a b ≡ accepted → (a ≡ accepted) × (b ≡ accepted)

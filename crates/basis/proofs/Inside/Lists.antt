@@ -13,10 +13,8 @@ module _ {A B : Type 0} (f : A → B) where
   map-one-to-one g [] (y ∷ ys) e = let z : _≡_ {A = ℕ} 0 1 = cc in absurd (omega arith)
   map-one-to-one g (x ∷ xs) [] e = let z : _≡_ {A = ℕ} 0 1 = cc in absurd (omega arith)
   map-one-to-one g (x ∷ xs) (y ∷ ys) e =
-      let here : f x ≡ f y = cc in
-      let rest : map f xs ≡ map f ys = cc in
-      let ex : x ≡ y = g x y here in
-      let exs : xs ≡ ys = map-one-to-one g xs ys rest in
+      let ex : x ≡ y = g x y (cc) in
+      let exs : xs ≡ ys = map-one-to-one g xs ys (cc) in
       cc
 
 -- a list of one value has it at every place, and past its end

@@ -1,8 +1,9 @@
 -- Laws of a list of pairs: the store of a pair, and what is read of one. Assumes nothing.
-use Rattle.basis.specs.Prelude.{ℕ, _+_, _*_, _/_, _%_, _≤_, _<_, _≡_, refl, sym, ap, ap₂, _∙_, Bool, true, false, List, eqb, length, getD, set, arith, div-add-mod', mod-lt}
+use Rattle.basis.specs.Prelude.{ℕ, _+_, _*_, _/_, _%_, _≤_, _<_, _≡_, sym, ap, ap₂, _∙_, List, eqb, length, getD, set, arith, div-add-mod', mod-lt}
 use lib.Arith.{digits-div, digits-mod}
 use Rattle.basis.specs.Words.{pick}
 use Rattle.basis.specs.Upto.{upto, pairCell}
+use Rattle.basis.proofs.Inside.Words.{pick-same}
 use Rattle.basis.proofs.Inside.Upto.{upto-set, upto-below}
 
 -- the first and the second of a pair
@@ -46,8 +47,4 @@ pub pair-zero : (f g : ℕ → ℕ) (n : ℕ) → ((k : ℕ) → n ≤ k → f k
 unfolding pairCell
 pair-zero f g n zf zg i l =
     let h : n ≤ i / 2 = omega (arith, div-add-mod' i 2, mod-lt i {m = 2} (omega arith)) in
-    rw (zf (i / 2) h, zg (i / 2) h) (either (eqb (i % 2) 0))
-  where
-    either : (b : Bool) → _≡_ {A = ℕ} (pick b 0 0) 0
-    either true = refl
-    either false = refl
+    rw (zf (i / 2) h, zg (i / 2) h) (pick-same (eqb (i % 2) 0) 0)

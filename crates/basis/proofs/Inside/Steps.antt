@@ -1,5 +1,5 @@
 -- Laws of steps: what is known where readers that follow each other accept, and of a step with what a function makes of its value. Assumes nothing.
-use Rattle.basis.specs.Prelude.{ℕ, _+_, _≤_, _<_, _≡_, refl, sym, ap, ap₂, _∙_, Bool, true, false, List, arith, length, getD, ltb, leb, ltb-true, ltb-false, leb-true}
+use Rattle.basis.specs.Prelude.{ℕ, _+_, _≤_, _<_, _≡_, refl, sym, ap, _∙_, Bool, true, false, List, arith, length, getD, ltb, leb, ltb-true, ltb-false, leb-true}
 use Rattle.basis.specs.Words.{pick}
 use Rattle.basis.specs.Readers.{Step, ok, refuse, Reader, after, refuse-at, byte, enough, end, begins, marked, mapStep}
 
@@ -16,8 +16,7 @@ pub refuse-same : {A : Type 0} {k p j q : ℕ} → _≡_ {A = Step A} (refuse k 
 refuse-same e = (cc, cc)
 
 -- where readers that follow each other accept, each accepts
-pub after-ok : {A B R : Type 0} (x : Step A) (f : A → ℕ → Step B) {b : B} {n : ℕ} → after x f ≡ ok b n
-    → ((a : A) (m : ℕ) → x ≡ ok a m → f a m ≡ ok b n → R) → R
+pub after-ok : {A B R : Type 0} (x : Step A) (f : A → ℕ → Step B) {b : B} {n : ℕ} → after x f ≡ ok b n → ((a : A) (m : ℕ) → x ≡ ok a m → f a m ≡ ok b n → R) → R
 after-ok (ok a m) f e k = k a m refl e
 after-ok (refuse j p) f e k = absurd (never-ok refl e)
 
@@ -71,22 +70,13 @@ got f e q = sym e ∙ ap f q
 -- what such a step says of the first
 pub map-step-ok : {A B : Type 0} (f : A → B) (x : Step A) {b : B} {n : ℕ} → mapStep f x ≡ ok b n → (a : A) × (x ≡ ok a n) × (f a ≡ b)
 unfolding mapStep
-map-step-ok {A} {B} f x {b} {n} e = go x e
-  where
-    go : (y : Step A) → mapStep f y ≡ ok b n → (a : A) × (y ≡ ok a n) × (f a ≡ b)
-    go (ok a m) e₁ = (a, cc, cc)
-    go (refuse k p) e₁ = absurd (never-ok refl e₁)
+map-step-ok f (ok a m) e = (a, cc, cc)
+map-step-ok f (refuse k p) e = absurd (never-ok refl e)
 
 pub map-step-no : {A B : Type 0} (f : A → B) (x : Step A) {k p : ℕ} → mapStep f x ≡ refuse k p → x ≡ refuse k p
 unfolding mapStep
-map-step-no {A} {B} f x {k} {p} e = go x e
-  where
-    go : (y : Step A) → mapStep f y ≡ refuse k p → y ≡ refuse k p
-    go (ok a m) e₁ = absurd (never-ok e₁ refl)
-    go (refuse j q) e₁ =
-        let ek : j ≡ k = cc in
-        let ep : q ≡ p = cc in
-        ap₂ (λ (x : ℕ) (y : ℕ). refuse x y) ek ep
+map-step-no f (ok a m) e = absurd (never-ok e refl)
+map-step-no f (refuse j q) e = let (ek, ep) = refuse-same e in cc
 
 -- two functions, one after the other
 pub map-step-after : {A B C : Type 0} (f : A → B) (g : C → A) (x : Step C) → mapStep f (after x (λ c n. ok (g c) n)) ≡ mapStep (λ (c : C). f (g c)) x

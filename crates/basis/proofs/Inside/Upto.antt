@@ -8,10 +8,6 @@ module _ {A : Type 0} where
   unfolding upto
   upto-none f l = refl
 
-  pub upto-more : (n : ℕ) (f : ℕ → A) (l : List A) → set (upto n f l) n (f n) ≡ upto (n + 1) f l
-  unfolding upto
-  upto-more n f l = rw add-one
-
   pub length-upto : (n : ℕ) (f : ℕ → A) (l : List A) → length (upto n f l) ≡ length l
   unfolding upto
   length-upto zero f l = refl
@@ -28,7 +24,8 @@ module _ {A : Type 0} where
   upto-read i f l l₀ d e = ap (λ (x : List A). getD x i d) e ∙ upto-past i f l₀ d i (le-refl i)
 
   pub upto-set : (i : ℕ) (f : ℕ → A) (l l₀ : List A) (v : A) → l ≡ upto i f l₀ → v ≡ f i → set l i v ≡ upto (i + 1) f l₀
-  upto-set i f l l₀ v e k = cc (upto-more i f l₀)
+  unfolding upto
+  upto-set i f l l₀ v e k = rw (e, k, add-one)
 
   -- below n the list has f's values
   pub upto-below : (n : ℕ) (f : ℕ → A) (l : List A) (d : A) (k : ℕ) → k < n → n ≤ length l → getD (upto n f l) k d ≡ f k
@@ -36,8 +33,7 @@ module _ {A : Type 0} where
   upto-below zero f l d k h r = absurd (omega arith)
   upto-below (suc n) f l d k h r =
       ⊎-elim (λ e. rw e (getD-set-same (upto n f l) n (f n) d (rw length-upto (omega arith))))
-      (λ m. getD-set-other (upto n f l) n k (f n) d (λ e. omega arith) ∙ upto-below n f l d k m (omega arith))
-      (eq-or-lt-of-le {n = k} {m = n} (omega arith))
+      (λ m. getD-set-other (upto n f l) n k (f n) d (λ e. omega arith) ∙ upto-below n f l d k m (omega arith)) (eq-or-lt-of-le {n = k} {m = n} (omega arith))
 
   -- two fillings are one where they agree below n
   pub upto-agree : (n : ℕ) (f g : ℕ → A) (l : List A) → ((k : ℕ) → k < n → f k ≡ g k) → upto n f l ≡ upto n g l
@@ -48,12 +44,9 @@ module _ {A : Type 0} where
   -- a filling over a shorter one hides it
   pub upto-over : (n k : ℕ) (f g : ℕ → A) (l : List A) (d : A) → k ≤ n → n ≤ length l → upto n f (upto k g l) ≡ upto n f l
   upto-over n k f g l d h r =
-      ext-getD d (upto n f (upto k g l)) (upto n f l)
-      (length-upto n f (upto k g l) ∙ length-upto k g l ∙ sym (length-upto n f l))
-      (λ i b. ⊎-elim
+      ext-getD d (upto n f (upto k g l)) (upto n f l) (length-upto n f (upto k g l) ∙ length-upto k g l ∙ sym (length-upto n f l)) (λ i b. ⊎-elim
       (λ m. upto-below n f (upto k g l) d i m (rw length-upto r) ∙ sym (upto-below n f l d i m r))
-      (λ m. upto-past n f (upto k g l) d i m ∙ upto-past k g l d i (omega arith) ∙ sym (upto-past n f l d i m))
-      (lt-or-le i n))
+      (λ m. upto-past n f (upto k g l) d i m ∙ upto-past k g l d i (omega arith) ∙ sym (upto-past n f l d i m)) (lt-or-le i n))
 
   -- a loop over the first n places: the list is as long as it was, place i is inside, and the last turn is the end
   module _ (n i : ℕ) (f : ℕ → A) (l l₀ : List A) (so-far : l ≡ upto i f l₀) where

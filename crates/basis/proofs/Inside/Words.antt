@@ -1,6 +1,6 @@
 -- Laws of tests: of both, of a range, of all below a number. Assumes nothing.
 use Rattle.basis.specs.Prelude.{ℕ, zero, suc, _+_, _≤_, _<_, _≡_, refl, ap, ap₂, Bool, true, false, _⊎_, inl, inr, ⊎-elim, eq-or-lt-of-le, arith, add-one, ltb, leb, ltb-true, ltb-false, leb-true, le-leb}
-use Rattle.basis.specs.Words.{both, within, allOf}
+use Rattle.basis.specs.Words.{pick, both, within, allOf}
 
 pub lt-or-le : (a b : ℕ) → (a < b) ⊎ (b ≤ a)
 lt-or-le a b = go (ltb a b) refl
@@ -20,6 +20,11 @@ all-same (suc n) f g h = ap₂ both (all-same n f g (λ i l. h i (omega arith)))
 pub all-one-more : (n : ℕ) (f : ℕ → Bool) → allOf (n + 1) f ≡ both (allOf n f) (f n)
 unfolding allOf
 all-one-more n f = rw add-one
+
+-- a choice between equals
+pub pick-same : {A : Type 0} (t : Bool) (a : A) → pick t a a ≡ a
+pick-same true a = refl
+pick-same false a = refl
 
 pub both-left : (a b : Bool) → both a b ≡ true → a ≡ true
 both-left true b e = refl

@@ -1,6 +1,6 @@
 -- Laws of the workload: it never falls, a slot more adds one at most, a period more adds a budget, a job that runs keeps pace, and within a period it never
 -- falls below the straight line between two of its values. Assumes nothing.
-use Rattle.basis.specs.Prelude.{_≡_, ap, subst, _∙_, _⊎_, inl, inr, ⊎-elim, ℕ, zero, suc, _+_, _*_, _-_, _/_, _%_, _≤_, _<_, min, add-zero, add-suc, add-sub-of-le, mod-lt, div-add-mod', eq-or-lt-of-le, le-of-lt, mul-le-mul-left, arith}
+use Rattle.basis.specs.Prelude.{_≡_, ap, subst, _⊎_, ⊎-elim, ℕ, zero, suc, _+_, _*_, _-_, _/_, _%_, _≤_, _<_, min, add-zero, add-suc, add-sub-of-le, mod-lt, div-add-mod', eq-or-lt-of-le, le-of-lt, mul-le-mul-left, arith}
 use lib.Arith.{digits-div, digits-mod}
 use Rattle.basis.specs.Workload.{ω}
 use Rattle.basis.proofs.Inside.Words.{lt-or-le}
@@ -8,14 +8,10 @@ use Rattle.basis.proofs.Inside.Words.{lt-or-le}
 -- the lesser of two that stay above straight lines stays above the lesser of these at each end; c and d are what is left and what is passed of the way
 pub lesser-evenly : (c d a b w x y z : ℕ) → c * a + d * b ≤ (c + d) * w → c * x + d * y ≤ (c + d) * z → c * min a x + d * min b y ≤ (c + d) * min w z
 lesser-evenly c d a b w x y z f g =
-    ⊎-elim
-    (λ l.
-    let e : min w z ≡ w = omega arith in
-    rw e (omega (arith, f, mul-le-mul-left {m = min a x} {n = a} c (omega arith), mul-le-mul-left {m = min b y} {n = b} d (omega arith))))
-    (λ l.
-    let e : min w z ≡ z = omega arith in
-    rw e (omega (arith, g, mul-le-mul-left {m = min a x} {n = x} c (omega arith), mul-le-mul-left {m = min b y} {n = y} d (omega arith))))
-    (lt-or-le w z)
+    ⊎-elim (λ l. let e : min w z ≡ w = omega arith in
+    rw e (omega (arith, mul-le-mul-left {m = min a x} {n = a} c (omega arith), mul-le-mul-left {m = min b y} {n = b} d (omega arith))))
+    (λ l. let e : min w z ≡ z = omega arith in
+    rw e (omega (arith, mul-le-mul-left {m = min a x} {n = x} c (omega arith), mul-le-mul-left {m = min b y} {n = y} d (omega arith)))) (lt-or-le w z)
 
 module _ (C T : ℕ) (pos : 1 ≤ T) (fits : C ≤ T) where
   at-lt : (a r : ℕ) → r < T → ω C T (a * T + r) ≡ a * C + min C r
@@ -24,17 +20,7 @@ module _ (C T : ℕ) (pos : 1 ≤ T) (fits : C ≤ T) where
 
   -- a periods and r slots more: also where these make up one more period
   at : (a r : ℕ) → r ≤ T → ω C T (a * T + r) ≡ a * C + min C r
-  at a r h = go (eq-or-lt-of-le h)
-    where
-      go : (r ≡ T) ⊎ (r < T) → ω C T (a * T + r) ≡ a * C + min C r
-      go (inr l) = at-lt a r l
-      go (inl e) = ap (ω C T) x ∙ at-lt (suc a) 0 (omega arith) ∙ y
-        where
-          x : a * T + r ≡ suc a * T + 0
-          x = omega arith
-
-          y : suc a * C + min C 0 ≡ a * C + min C r
-          y = omega arith
+  at a r h = ⊎-elim (λ e. let x : a * T + r ≡ suc a * T + 0 = omega arith in omega (arith, ap (ω C T) x, at-lt (suc a) 0 (omega arith))) (at-lt a r) (eq-or-lt-of-le h)
 
   by-digits : (P : ℕ → Type 0) → ((a r : ℕ) → r < T → P (a * T + r)) → (x : ℕ) → P x
   by-digits P f x = subst P (div-add-mod' x T) (f (x / T) (x % T) (mod-lt x pos))
@@ -82,16 +68,10 @@ module _ (C T : ℕ) (pos : 1 ≤ T) (fits : C ≤ T) where
   -- it is no less than the budget of every separation
   pub ω-shares : (x : ℕ) → x * C ≤ ω C T x * T
   ω-shares = by-digits (λ x. x * C ≤ ω C T x * T) λ a r l.
-      let e : ω C T (a * T + r) ≡ a * C + min C r = at-lt a r l in
-      let m : r * C ≤ min C r * T = part r l in
-      rw e (omega (arith, m))
-    where
-      part : (r : ℕ) → r < T → r * C ≤ min C r * T
-      part r l =
-          ⊎-elim
-          (λ h. let z : min C r ≡ r = omega arith in rw z (mul-le-mul-left r fits))
-          (λ h. let z : min C r ≡ C = omega arith in rw z (omega (arith, mul-le-mul-left C (le-of-lt l))))
-          (lt-or-le r C)
+      let m : r * C ≤ min C r * T =
+      ⊎-elim (λ h. let z : min C r ≡ r = omega arith in rw z (mul-le-mul-left r fits))
+      (λ h. let z : min C r ≡ C = omega arith in rw z (omega (arith, mul-le-mul-left C (le-of-lt l)))) (lt-or-le r C) in
+      rw (at-lt a r l) (omega arith)
 
   -- within one period it is above the straight line from its value at the start to that at the end
   pub ω-evenly : (x c d : ℕ) → x % T + (c + d) ≤ T → c * ω C T x + d * ω C T (x + (c + d)) ≤ (c + d) * ω C T (x + d)

@@ -1,6 +1,6 @@
 -- What each function says, from what its calls say. Assumes nothing.
-use Rattle.basis.specs.Prelude.{ℕ, zero, suc, _+_, _-_, _*_, _^_, _≤_, _<_, _≡_, refl, ap, ap₂, _∙_, Bool, true, false, List, _++_, add-one, le-antisymm, add-sub-cancel-left, arith, length, ne-eqb, take, drop, w64, Fits}
-use Rattle.dashboard.proofs.Names.{numberAt, Sheet, labelIn, labelsLong, partIn, passes, Word, resultOf, holds, resultsLong, wordAt, decimal, boundWord, noneWord, unreachedWord, resultWords, line, holdsLine, failsLine, ending, ownLabel, numbered, lineLabel, LabelsLie, Own, Numbered, lines, board, Page, said, two-said}
+use Rattle.basis.specs.Prelude.{ℕ, zero, suc, _+_, _-_, _*_, _^_, _≤_, _<_, _≡_, refl, ap, ap₂, _∙_, Bool, List, _++_, add-one, le-antisymm, add-sub-cancel-left, arith, length, ne-eqb, take, drop, w64, Fits}
+use Rattle.dashboard.proofs.Names.{numberAt, Sheet, labelIn, partIn, passes, Word, resultOf, holds, wordAt, decimal, boundWord, noneWord, unreachedWord, resultWords, line, ending, ownLabel, numbered, lineLabel, LabelsLie, Own, Numbered, lines, board, Page, said, two-said}
 use Rattle.reader.specs.declared.row.Part.{Part}
 use Rattle.reader.proofs.Inside.LentParts.{inside}
 use Rattle.dashboard.specs.declared.line.Labels.{Labels}
@@ -53,19 +53,12 @@ module _ (p q : Page) (results : List ℕ) (i : ℕ) where
 
 -- the last line
 module _ (p q : Page) (yes : Bool) where
-  pub holds-said : yes ≡ true → q ≡ said p holdsLine → q ≡ said p (ending yes)
-  holds-said h e = rw h e
-
-  pub fails-said : yes ≡ false → q ≡ said p failsLine → q ≡ said p (ending yes)
-  fails-said h e = rw h e
+  pub ending-said : (t : Bool) → yes ≡ t → q ≡ said p (ending t) → q ≡ said p (ending yes)
+  ending-said t h e = rw h e
 
 -- ---- the lines of a sheet
 
 module _ (p : Page) (label : ℕ → List ℕ) (result : ℕ → Word) where
-  pub no-lines : p ≡ said p (lines label result 0)
-  unfolding said lines
-  no-lines = refl
-
   pub one-line : (q r : Page) (i : ℕ) → q ≡ said p (lines label result i) → r ≡ said q (line i (label i) (result i)) → r ≡ said p (lines label result (i + 1))
   unfolding lines
   one-line q r i e f = rw add-one (two-said p q r (lines label result i) _ e f)
@@ -74,12 +67,6 @@ module _ (p : Page) (label : ℕ → List ℕ) (result : ℕ → Word) where
   all-lines q i n h g e = e ∙ ap (λ (k : ℕ). said p (lines label result k)) (le-antisymm h g)
 
 -- a row of n that there is room for
-pub label-room : (parts : List ℕ) (i n : ℕ) → labelsLong n ≤ length parts → i < n → labelsLong (i + 1) ≤ length parts
-label-room parts i n r h = omega arith
-
-pub result-room : (results : List ℕ) (i n : ℕ) → resultsLong n ≤ length results → i < n → resultsLong (i + 1) ≤ length results
-result-room results i n r h = omega arith
-
 pub label-lies : (s parts : List ℕ) (i n : ℕ) → LabelsLie s parts n → i < n → partIn parts i ≡ labelIn s i
 label-lies s parts i n all h = all i h
 
@@ -94,5 +81,4 @@ lines-same label f g (suc n) h =
 pub board-is : (h : Sheet) (label : ℕ → List ℕ) (f : ℕ → Word) (n : ℕ) (b : Bool) → n ≡ h .count → ((i : ℕ) → i < h .count → f i ≡ resultOf passes h i) → b ≡ holds passes h
     → lines label f n ++ ending b ≡ board label h
 unfolding board
-board-is h label f n b en ew eb =
-    ap₂ (λ (k : ℕ) (x : Bool). lines label f k ++ ending x) en eb ∙ ap (λ (x : List ℕ). x ++ ending (holds passes h)) (lines-same label f (resultOf passes h) (h .count) ew)
+board-is h label f n b en ew eb = rw (en, eb, lines-same label f (resultOf passes h) (h .count) ew)

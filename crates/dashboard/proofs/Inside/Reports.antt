@@ -1,12 +1,14 @@
 -- The two ways out of a verdict, and the sections of the reference. Assumes nothing.
 use Rattle.basis.specs.Prelude.{ℕ, zero, suc, _+_, _*_, _≤_, _<_, _≡_, refl, sym, ap, ap₂, _∙_, Bool, true, List, _++_, add-one, le-antisymm, arith, length}
-use Rattle.dashboard.proofs.Names.{mostRows, begins, allOf, Outcome, accepted, refused, outcome, legalRow, legalAt, legal, filled, sheetIn, sheetCell, sheetLong, Sheet, legal-is, headBy, sheetBy, reading, labelsLong, partIn, accepted-is-legal, refused-is-no-sheet, no-label, passes, resultOf, holds, fixedSheet, resultsLong, resultCell, boundsOn, words, wordAt, judgedBytes, newline, ending, noVerdict, ownLabel, numbered, lineLabel, LabelsLie, Roomy, Own, Numbered, lines, board, textOf, verdictText, fixedCount, letter, prefix, section, sections, referenceText, Page, written, said, two-said, three-said, said-is-written}
+use Rattle.dashboard.proofs.Names.{mostRows, begins, allOf, Outcome, accepted, outcome, legalRow, legalAt, legal, filled, sheetIn, sheetCell, sheetLong, Sheet, legal-is, headBy, sheetBy, reading, labelsLong, partIn, refused-is-no-sheet, no-label, passes, resultOf, holds, fixedSheet, resultsLong, resultCell, boundsOn, words, wordAt, judgedBytes, ending, noVerdict, ownLabel, numbered, lineLabel, LabelsLie, Roomy, Own, Numbered, lines, board, textOf, verdictText, fixedCount, prefix, section, sections, referenceText, Page, written, said, two-said, said-is-written}
 use Rattle.basis.specs.declared.refusal.Refusal.{Refusal}
 use Rattle.basis.specs.declared.refusal.Refusal.the-variants.{Accepted, Refused}
 use Rattle.basis.proofs.Inside.Lists.{getD-all}
 use Rattle.sheet.proofs.RoundTrip.{whole-sheet-comes-back}
 use Rattle.sheet.proofs.Inside.FilledLists.{zeros, zeros-long}
 use Rattle.reader.proofs.Inside.ShortestSheet.{accepted-is-not-shorter}
+use Rattle.reader.proofs.Inside.ZeroLists.{rows-few}
+use Rattle.dashboard.proofs.Outcomes.{by-outcome}
 use Rattle.bound.specs.declared.results.Judgement.{Judgement}
 use Rattle.bound.proofs.FromBytes.{found, judged-outcome, judged-count, judged-few, judged-labels-long, judged-label, judged-results-long, judged-word, judged-holds}
 use Rattle.bound.proofs.Lists.{legal-is-put, word-there, word-comes-back}
@@ -47,52 +49,31 @@ module _ (s list parts results : List ℕ) (room : Roomy s list parts results) (
     pub verdict-accepted : (buffer : List ℕ) (q : Page) → q ≡ said (buffer, 0) (lines (lineLabel Own s) (wordAt rs) n ++ ending h) → q ≡ written (verdictText s) buffer
     unfolding lineLabel
     verdict-accepted buffer q f =
-        said-is-written q _ buffer
-        (f
-        ∙ ap (said (buffer, 0))
+        said-is-written q _ buffer (f ∙ ap (said (buffer, 0))
         (board-is (reading s .1) (ownLabel s) (wordAt rs) n h count-is (judged-word s list parts results (outcome a) h l b rs e accepts) (judged-holds s list parts results (outcome a) h l b rs e accepts)
         ∙ text-of Accepted g))
 
 -- lists with room for every row have room for any sheet
-few-read : (s : List ℕ) → reading s .1 .count ≤ mostRows
-few-read s = go (reading s .0) refl
-  where
-    go : (o : Outcome) → reading s .0 ≡ o → reading s .1 .count ≤ mostRows
-    go accepted e = legal-is (reading s .1) (accepted-is-legal s e .0) .most-rows
-    go (refused k p) e = rw (refused-is-no-sheet s k p e) (omega arith)
-
 pub room-for-any : (s list parts results : List ℕ) → length list ≡ sheetLong mostRows → length parts ≡ labelsLong mostRows → length results ≡ resultsLong mostRows → Roomy s list parts results
-room-for-any s list parts results a b d = record { for-rows = omega (arith, few-read s); for-labels = omega (arith, few-read s); for-results = omega arith }
+room-for-any s list parts results a b d = record { for-rows = omega (arith, rows-few s); for-labels = omega (arith, rows-few s); for-results = omega arith }
 
 -- and so have small ones for a sheet of few bytes
 pub room-for-few : (s list parts results : List ℕ) → length s < 36 → length list ≡ sheetLong 4 → length parts ≡ labelsLong 4 → length results ≡ resultsLong 4 → Roomy s list parts results
-room-for-few s list parts results h a b d = let few = few-of (reading s .0) refl in record { for-rows = omega (arith, few); for-labels = omega (arith, few); for-results = omega arith }
-  where
-    few-of : (o : Outcome) → reading s .0 ≡ o → reading s .1 .count ≤ 4
-    few-of accepted e = omega (arith, accepted-is-not-shorter s e)
-    few-of (refused k p) e = rw (refused-is-no-sheet s k p e) (omega arith)
+room-for-few s list parts results h a b d =
+    let few : reading s .1 .count ≤ 4 = by-outcome s (λ e. omega (arith, accepted-is-not-shorter s e)) (λ k p e. rw (refused-is-no-sheet s k p e) (omega arith)) in
+    record { for-rows = omega arith; for-labels = omega arith; for-results = omega arith }
 
 -- ---- the reference
 
--- sheets A to E are legal
-fixed-is-legal : (i : ℕ) → i < fixedCount → legal (fixedSheet i) ≡ true
+-- sheets A to E are legal, and have room for every row
+fixed-is-legal : (i : ℕ) → i < fixedCount → (legal (fixedSheet i) ≡ true) × (length (fixedSheet i .rows) ≡ mostRows)
 unfolding fixedSheet legal legalAt legalRow allOf
-fixed-is-legal zero l = refl
-fixed-is-legal (suc zero) l = refl
-fixed-is-legal (suc (suc zero)) l = refl
-fixed-is-legal (suc (suc (suc zero))) l = refl
-fixed-is-legal (suc (suc (suc (suc zero)))) l = refl
+fixed-is-legal zero l = (refl, refl)
+fixed-is-legal (suc zero) l = (refl, refl)
+fixed-is-legal (suc (suc zero)) l = (refl, refl)
+fixed-is-legal (suc (suc (suc zero))) l = (refl, refl)
+fixed-is-legal (suc (suc (suc (suc zero)))) l = (refl, refl)
 fixed-is-legal (suc (suc (suc (suc (suc i))))) l = absurd (omega arith)
-
--- and have room for every row
-fixed-long : (i : ℕ) → i < fixedCount → length (fixedSheet i .rows) ≡ mostRows
-unfolding fixedSheet
-fixed-long zero l = refl
-fixed-long (suc zero) l = refl
-fixed-long (suc (suc zero)) l = refl
-fixed-long (suc (suc (suc zero))) l = refl
-fixed-long (suc (suc (suc (suc zero)))) l = refl
-fixed-long (suc (suc (suc (suc (suc i))))) l = absurd (omega arith)
 
 -- the bytes of the prefix are no sheet, so they have no label
 pub no-labels-lie : (n : ℕ) → LabelsLie prefix (zeros (labelsLong mostRows)) n
@@ -104,7 +85,7 @@ no-labels-lie n i l =
 -- a fixed sheet
 module _ (i : ℕ) (i<n : i < fixedCount) (h : Sheet) (eh : h ≡ fixedSheet i) where
   legal-so : legal h ≡ true
-  legal-so = ap legal eh ∙ fixed-is-legal i i<n
+  legal-so = ap legal eh ∙ fixed-is-legal i i<n .0
 
   pub fixed-few : h .count ≤ mostRows
   fixed-few = legal-is h legal-so .most-rows
@@ -119,7 +100,7 @@ module _ (i : ℕ) (i<n : i < fixedCount) (h : Sheet) (eh : h ≡ fixedSheet i) 
 module _ (i : ℕ) (i<n : i < fixedCount) (h : Sheet) (eh : h ≡ fixedSheet i) (list : List ℕ) (el : list ≡ filled (sheetCell h) (zeros (sheetLong mostRows))) (r : Judgement) (rs : List ℕ)
     (e : (outcome (r .refusal), (r .holds, rs)) ≡ boundsOn list (zeros (resultsLong mostRows))) where
   handed-so : sheetIn list ≡ h
-  handed-so = ap sheetIn el ∙ whole-sheet-comes-back h (zeros (sheetLong mostRows)) (ap (λ (x : Sheet). length (x .rows)) eh ∙ fixed-long i i<n) (omega (arith, zeros-long (sheetLong mostRows)))
+  handed-so = ap sheetIn el ∙ whole-sheet-comes-back h (zeros (sheetLong mostRows)) (ap (λ (x : Sheet). length (x .rows)) eh ∙ fixed-is-legal i i<n .1) (omega (arith, zeros-long (sheetLong mostRows)))
 
   judged-so : _≡_ {A = Outcome × (Bool × List ℕ)} (outcome (r .refusal), (r .holds, rs)) (accepted, (holds passes h, filled (resultCell (words h)) (zeros (resultsLong mostRows))))
   judged-so =
@@ -137,15 +118,7 @@ module _ (i : ℕ) (i<n : i < fixedCount) (h : Sheet) (eh : h ≡ fixedSheet i) 
           word-comes-back (words h) rs (zeros (resultsLong mostRows)) (length (zeros (resultsLong mostRows))) k (ap (λ (x : Outcome × (Bool × List ℕ)). x .1 .1) judged-so) (omega arith) (omega (arith, fixed-few i i<n h eh, zeros-long (resultsLong mostRows)))
           ∙ word-there passes h k (legal-is h (legal-so i i<n h eh)) m
 
-pub section-said : (p₀ p₁ p₂ p₃ : Page) (i : ℕ) → p₁ ≡ said p₀ (letter i) → p₂ ≡ said p₁ newline → p₃ ≡ said p₂ (board (numbered prefix) (fixedSheet i)) → p₃ ≡ said p₀ (section i)
-unfolding section
-section-said p₀ p₁ p₂ p₃ i e f g = three-said p₀ p₁ p₂ p₃ (letter i) newline _ e f g
-
 -- the loop over them
-pub no-sections : (p : Page) → p ≡ said p (sections 0)
-unfolding said sections
-no-sections p = refl
-
 pub one-section : (p q r : Page) (i : ℕ) → q ≡ said p (sections i) → r ≡ said q (section i) → r ≡ said p (sections (i + 1))
 unfolding sections
 one-section p q r i e f = rw add-one (two-said p q r (sections i) (section i) e f)

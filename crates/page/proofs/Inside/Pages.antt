@@ -17,20 +17,12 @@ three-said p₀ p₁ p₂ p₃ x y z e f g = two-said p₀ p₂ p₃ (x ++ y) z 
 pub four-said : (p₀ p₁ p₂ p₃ p₄ : Page) (x y z w : List ℕ) → p₁ ≡ said p₀ x → p₂ ≡ said p₁ y → p₃ ≡ said p₂ z → p₄ ≡ said p₃ w → p₄ ≡ said p₀ (x ++ y ++ z ++ w)
 four-said p₀ p₁ p₂ p₃ p₄ x y z w e f g h = two-said p₀ p₃ p₄ (x ++ y ++ z) w (three-said p₀ p₁ p₂ p₃ x y z e f g) h
 
--- one byte, where there is room and where there is none
+-- one byte, where there is room
 pub room : (l : List ℕ) (i b : ℕ) → i < length l → (set l i b, i + 1) ≡ said (l, i) (b ∷ [])
 unfolding said putOne
 room l i b h = simp (lt-ltb _ _ h)
 
-pub full : (l : List ℕ) (i b : ℕ) → length l ≤ i → (l, i) ≡ said (l, i) (b ∷ [])
-unfolding said putOne
-full l i b h = simp (le-ltb _ _ h)
-
 -- the loop over bytes
-pub none-said : (p : Page) → p ≡ said p []
-unfolding said
-none-said p = refl
-
 pub byte-said : (p q r : Page) (s : List ℕ) (i : ℕ) → i < length s → q ≡ said p (take i s) → r ≡ said q (getD s i 0 ∷ []) → r ≡ said p (take (i + 1) s)
 byte-said p q r s i h e f = rw (add-one, take-suc s i 0) (two-said p q r _ _ e f)
 
@@ -58,17 +50,14 @@ put-room b x a y =
 
 put-full : (b : ℕ) (x : List ℕ) → putOne (x ++ [], length x) b ≡ (x ++ [], length x)
 unfolding putOne
-put-full b x =
-    let h : length (x ++ []) ≤ length x = rw append-nil (omega arith) in
-    simp (le-ltb _ _ h)
+put-full b x = let h : length (x ++ []) ≤ length x = rw append-nil (omega arith) in simp (le-ltb _ _ h)
 
 said-at : (t x y : List ℕ) → said (x ++ y, length x) t ≡ (x ++ (take (length y) t ++ drop (length t) y), length x + min (length t) (length y))
 unfolding said
 said-at [] x y = pair (simp take-nil) (omega arith)
 said-at (b ∷ t) x [] = ap (λ (p : Page). said p t) (put-full b x) ∙ said-at t x [] ∙ pair (simp drop-nil) (omega arith)
 said-at (b ∷ t) x (a ∷ y) =
-    ap (λ (p : Page). said p t) (put-room b x a y)
-    ∙ said-at t (x ++ (b ∷ [])) y
+    ap (λ (p : Page). said p t) (put-room b x a y) ∙ said-at t (x ++ (b ∷ [])) y
     ∙ pair (append-assoc x (b ∷ []) (take (length y) t ++ drop (length t) y)) (omega (arith, length-append x (b ∷ [])))
 
 -- what is said from the start is written

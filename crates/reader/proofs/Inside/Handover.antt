@@ -1,6 +1,6 @@
 -- Reading into lent lists: each way out of the functions that read and hand over. Assumes nothing.
-use Rattle.basis.specs.Prelude.{ℕ, _≤_, _<_, _≡_, sym, ap, subst, _∙_, List, arith, length, lt-ltb, le-ltb, le-leb, lt-leb}
-use Rattle.reader.proofs.Names.{mostRows, upto, Step, ok, mapStep, Outcome, accepted, refused, orElse, roomFor, handed, pairs-agree, got, map-step-ok, map-step-no, upto-agree, upto-below, bounded, rowAt, numberAt, listCell, sheetCell, sheetLong, rows-agree, Entry, Held, entries, bodyBy, head, sheetBy, sheet, labelHead, sheetHeld, readingOf, labelIn, labelsLong, labelCell, intoLists, readInto, passedStep, nothing, headOf, headStep, rowAfter, labelFrom, labelAfter, rowsIn, partsIn, Took, handedOver, Part, Passed}
+use Rattle.basis.specs.Prelude.{ℕ, _≤_, _<_, _≡_, sym, ap, subst, _∙_, List, arith, length, lt-ltb, le-ltb, le-leb}
+use Rattle.reader.proofs.Names.{mostRows, upto, ok, mapStep, Outcome, accepted, refused, pairs-agree, got, map-step-ok, map-step-no, upto-agree, upto-below, bounded, rowAt, numberAt, listCell, sheetLong, rows-agree, Entry, Held, entries, bodyBy, head, sheetBy, sheet, labelHead, sheetHeld, labelIn, labelsLong, labelCell, intoLists, readInto, passedStep, nothing, headOf, headStep, rowAfter, labelFrom, labelAfter, rowsIn, partsIn, Took, handedOver, Part, Passed}
 use Rattle.reader.specs.declared.head.HeadRead.{HeadRead}
 use Rattle.reader.specs.declared.head.HeadRead.the-variants as head-variants
 use Rattle.reader.specs.declared.row.Passed.the-variants as passed-variants
@@ -9,20 +9,10 @@ use Rattle.reader.proofs.Inside.LabelPlaces.{entries-length, row-was-re
 use Rattle.reader.proofs.Inside.Heads.{headed}
 
 -- `hand_over`
-module _ (n : ℕ) (own parts list labels : List ℕ) where
-  pub no-room : length list < sheetLong n → (refused 15 0, (list, labels)) ≡ handedOver n own parts list labels
-  unfolding handedOver
-  no-room l = simp (lt-leb (sheetLong n) (length list) l)
-
-  module _ (r : sheetLong n ≤ length list) where
-    pub no-room-for-labels : length labels < labelsLong n → (refused 15 0, (list, labels)) ≡ handedOver n own parts list labels
-    unfolding handedOver
-    no-room-for-labels l = simp (le-leb (sheetLong n) (length list) r, lt-leb (labelsLong n) (length labels) l)
-
-    pub both-handed-over : labelsLong n ≤ length labels → (l b : List ℕ) → l ≡ upto (sheetLong n) (numberAt own) list → b ≡ upto (labelsLong n) (numberAt parts) labels
-        → (accepted, (l, b)) ≡ handedOver n own parts list labels
-    unfolding handedOver
-    both-handed-over q l b el eb = simp (le-leb (sheetLong n) (length list) r, le-leb (labelsLong n) (length labels) q, el, eb)
+pub both-handed-over : (n : ℕ) (own parts list labels : List ℕ) → sheetLong n ≤ length list → labelsLong n ≤ length labels → (l b : List ℕ) → l ≡ upto (sheetLong n) (numberAt own) list
+    → b ≡ upto (labelsLong n) (numberAt parts) labels → (accepted, (l, b)) ≡ handedOver n own parts list labels
+unfolding handedOver
+both-handed-over n own parts list labels r q l b el eb = simp (le-leb (sheetLong n) (length list) r, le-leb (labelsLong n) (length labels) q, el, eb)
 
 -- `read_into`
 module _ (s : List ℕ) (x : HeadRead) (e : headStep x ≡ head s 0) where
@@ -38,17 +28,11 @@ module _ (s : List ℕ) (m n at : ℕ) (e : head s 0 ≡ ok (headOf m n) at) whe
   pub few-rows : n ≤ mostRows
   few-rows = bounded mostRows 5 5 _ _ _ _ (headed s (headOf m n) at e .count) .not-over
 
-  pub own-room : sheetLong n ≤ sheetLong mostRows
-  own-room = omega (arith, few-rows)
+  pub own-inside : (long : ℕ) → long ≡ sheetLong mostRows → sheetLong n ≤ long
+  own-inside long e = omega (arith, few-rows)
 
-  pub parts-room : labelsLong n ≤ labelsLong mostRows
-  parts-room = omega (arith, few-rows)
-
-  pub own-inside : (own : List ℕ) → length own ≡ sheetLong mostRows → sheetLong n ≤ length own
-  own-inside own e = omega (arith, few-rows)
-
-  pub parts-inside : (parts : List ℕ) → length parts ≡ labelsLong mostRows → labelsLong n ≤ length parts
-  parts-inside parts e = omega (arith, few-rows)
+  pub parts-inside : (long : ℕ) → long ≡ labelsLong mostRows → labelsLong n ≤ long
+  parts-inside long e = omega (arith, few-rows)
 
   module _ (x : Passed) (q : passedStep x ≡ mapStep nothing (entries m n s at)) (list labels : List ℕ) where
     pub rows-refused : (k p : ℕ) → x ≡ passed-variants.Refused k p → (refused k p, (list, labels)) ≡ readInto s list labels
@@ -61,10 +45,10 @@ module _ (s : List ℕ) (m n at : ℕ) (e : head s 0 ≡ ok (headOf m n) at) whe
       bytes-over l = simp (e, map-step-ok nothing (entries m n s at) (got passedStep q g) .1, lt-ltb next (length s) l)
 
       module _ (l : length s ≤ next) (es : List Entry) (ee : entries m n s at ≡ ok es next) where
-        this : Held
+        abbrev this : Held
         this = record { processors = m; entries = es }
 
-        was-read : sheet s 0 ≡ ok (record { processors = m; entries = es }) next
+        was-read : sheet s 0 ≡ ok this next
         unfolding sheetBy bodyBy
         was-read = simp (e, ee, le-ltb next (length s) l)
 
@@ -72,8 +56,7 @@ module _ (s : List ℕ) (m n at : ℕ) (e : head s 0 ≡ ok (headOf m n) at) whe
         many = entries-length m n s at es next ee
 
         row-is : (k : ℕ) → k < n → rowAfter m s at k ≡ rowAt (sheetHeld this) k
-        unfolding this
-        row-is k h = row-was-read m n k s at es next ee h ∙ sym (row-held (record { processors = m; entries = es }) k (omega (arith, many)))
+        row-is k h = row-was-read m n k s at es next ee h ∙ sym (row-held this k (omega (arith, many)))
 
         label-is : (k : ℕ) → k < n → labelAfter m s at k ≡ labelIn s k
         unfolding labelIn labelHead labelAfter labelFrom
@@ -81,32 +64,21 @@ module _ (s : List ℕ) (m n at : ℕ) (e : head s 0 ≡ ok (headOf m n) at) whe
 
         -- both lists, as the reader's definition has them
         module _ (own₀ parts₀ own parts : List ℕ) (ro : sheetLong n ≤ length own₀) (rp : labelsLong n ≤ length parts₀) where
-          list-is : own ≡ rowsIn m n s at n own₀ → upto (sheetLong n) (numberAt own) list ≡ upto (sheetLong (length es)) (sheetCell (sheetHeld this)) list
-          unfolding rowsIn this
+          list-is : own ≡ rowsIn m n s at n own₀ → upto (sheetLong n) (numberAt own) list ≡ upto (sheetLong n) (listCell m n (rowAt (sheetHeld this))) list
+          unfolding rowsIn
           list-is eo =
-              upto-agree (sheetLong n) (numberAt own) (listCell m n (rowAt (sheetHeld (record { processors = m; entries = es })))) list
-              (λ i h. ap (λ (z : List ℕ). numberAt z i) eo ∙ upto-below (sheetLong n) (listCell m n (rowAfter m s at)) own₀ 0 i h ro
-              ∙ rows-agree m n (rowAfter m s at) (rowAt (sheetHeld (record { processors = m; entries = es }))) row-is i h)
-              ∙ ap (λ (k : ℕ). upto (sheetLong k) (listCell m k (rowAt (sheetHeld (record { processors = m; entries = es })))) list) (sym many)
+              upto-agree (sheetLong n) (numberAt own) (listCell m n (rowAt (sheetHeld this))) list
+              (λ i h. rw eo (upto-below (sheetLong n) (listCell m n (rowAfter m s at)) own₀ 0 i h ro ∙ rows-agree m n (rowAfter m s at) (rowAt (sheetHeld this)) row-is i h))
 
-          labels-are : parts ≡ partsIn m s at n parts₀ → upto (labelsLong n) (numberAt parts) labels ≡ upto (labelsLong (length es)) (labelCell s) labels
+          labels-are : parts ≡ partsIn m s at n parts₀ → upto (labelsLong n) (numberAt parts) labels ≡ upto (labelsLong n) (labelCell s) labels
           unfolding partsIn
           labels-are ep =
-              upto-agree (labelsLong n) (numberAt parts) (labelCell s) labels
-              (λ i h. ap (λ (z : List ℕ). numberAt z i) ep ∙ upto-below (labelsLong n) _ parts₀ 0 i h rp
-              ∙ pairs-agree _ _ (λ k. labelIn s k .start) (λ k. labelIn s k .long) n (λ k b. ap (λ (p : Part). p .start) (label-is k b)) (λ k b. ap (λ (p : Part). p .long) (label-is k b)) i h)
-              ∙ ap (λ (k : ℕ). upto (labelsLong k) (labelCell s) labels) (sym many)
+              upto-agree (labelsLong n) (numberAt parts) (labelCell s) labels (λ i h. rw ep (upto-below (labelsLong n) _ parts₀ 0 i h rp
+              ∙ pairs-agree _ _ (λ k. labelIn s k .start) (λ k. labelIn s k .long) n (λ k b. ap (λ (p : Part). p .start) (label-is k b)) (λ k b. ap (λ (p : Part). p .long) (label-is k b)) i h))
 
           handed-is : own ≡ rowsIn m n s at n own₀ → parts ≡ partsIn m s at n parts₀ → handedOver n own parts list labels ≡ readInto s list labels
-          unfolding handedOver readInto intoLists this
-          handed-is eo ep =
-              ap (λ (k : ℕ). given k (upto (sheetLong n) (numberAt own) list) (upto (labelsLong n) (numberAt parts) labels)) (sym many)
-              ∙ ap (λ (z : List ℕ). given (length es) z (upto (labelsLong n) (numberAt parts) labels)) (list-is eo)
-              ∙ ap (given (length es) (upto (sheetLong (length es)) (sheetCell (sheetHeld (record { processors = m; entries = es }))) list)) (labels-are ep)
-              ∙ sym (ap (λ (y : Step Held). intoLists (readingOf y) s list labels) was-read)
-            where
-              given : ℕ → List ℕ → List ℕ → Outcome × (List ℕ × List ℕ)
-              given k a b = handed (orElse (roomFor (sheetLong k) (length list)) (roomFor (labelsLong k) (length labels))) (a, b) (list, labels)
+          unfolding handedOver readInto intoLists
+          handed-is eo ep = rw (list-is eo, labels-are ep, ← many, was-read)
 
       -- the last byte is accepted
       pub whole-read : length s ≤ next → (own₀ parts₀ own parts : List ℕ) → sheetLong n ≤ length own₀ → labelsLong n ≤ length parts₀ → Took m n s at own₀ parts₀ own parts x

@@ -1,13 +1,13 @@
 -- A label of an accepted sheet: where its bytes are, and what the function that looks for it has shown. Assumes nothing.
-use Rattle.basis.specs.Prelude.{ℕ, zero, suc, _+_, _≤_, _<_, _≡_, refl, sym, ap, ap₂, _∙_, List, [], _∷_, map, arith, not-suc-le-zero, le-of-suc-le-suc, length, getD, take, drop, List·getD-map}
-use Rattle.reader.proofs.Names.{longestLabel, mostSeparation, ok, enough, end, after-ok, ok-same, enough-ok, end-ok, end-stays, upTo, noRow, Entry, Held, entryRow, entryLabel, plain, labelBy, label, entryBy, entry, entriesBy, entries, bodyBy, Head, head, sheetBy, sheet, labelHead, rowFrom, rowAfter}
+use Rattle.basis.specs.Prelude.{needs, ℕ, zero, suc, _+_, _≤_, _<_, _≡_, refl, sym, ap, ap₂, subst, _∙_, true, List, [], _∷_, map, arith, not-suc-le-zero, le-of-suc-le-suc, length, getD, take, drop, List·getD-map}
+use Rattle.reader.proofs.Names.{longestLabel, mostSeparation, ok, bounded, LegalRow, enough, end, after-ok, ok-same, enough-ok, end-ok, end-stays, upTo, noRow, Entry, Held, entryRow, entryLabel, isPlain, labelBy, label, entryBy, entry, entriesBy, entries, bodyBy, Head, head, sheetBy, sheet, labelHead, rowFrom, rowAfter}
 use Rattle.reader.proofs.Inside.Plain.{plain-ok}
 
 -- a label's length was read first, and its bytes are a part of the sheet's
 pub record Lies (s : List ℕ) (at : ℕ) (bs : List ℕ) : Type 0 where
   pub start : ℕ
   pub head : upTo longestLabel 6 6 s at ≡ ok (length bs) start
-  pub read : plain (length bs) s start ≡ ok bs (start + length bs)
+  pub plainly : (j : ℕ) → j < length bs → isPlain (getD s (start + j) 0) ≡ true
   pub inside : start + length bs ≤ length s
   pub bytes : bs ≡ take (length bs) (drop start s)
 
@@ -21,21 +21,33 @@ label-lies s at bs n e =
     record {
       start = st;
       head = e₁ ∙ ap (λ (j : ℕ). ok j st) (sym (r .long));
-      read = ap₂ (λ (i : ℕ) (j : ℕ). plain i s j) (r .long) em ∙ e₄ ∙ ap (ok bs) (omega (arith, r .next, r .long));
+      plainly = λ j h. rw em (r .plainly j (omega (arith, r .long)));
       inside = omega (arith, r .long);
       bytes = r .bytes ∙ ap₂ (λ (i : ℕ) (j : ℕ). take i (drop j s)) (sym (r .long)) (sym em);
     }
 
-entry-label : (m : ℕ) (s : List ℕ) (at : ℕ) (x : Entry) (n : ℕ) → entry m s at ≡ ok x n → (a : ℕ) × (label s at ≡ ok (entryLabel x) a)
+-- what an accepted row says: its label, its numbers, and where it ends
+pub record Rowed (m : ℕ) (s : List ℕ) (at : ℕ) (x : Entry) (n : ℕ) : Type 0 where
+  pub from : ℕ
+  pub labelled : label s at ≡ ok (entryLabel x) from
+  pub legal : LegalRow m (entryRow x)
+  pub long : from + 4 ≤ n
+  pub inside : n ≤ length s
+
+pub rowed : (m : ℕ) (s : List ℕ) (at : ℕ) (x : Entry) (n : ℕ) → entry m s at ≡ ok x n → Rowed m s at x n
 unfolding entryBy
-entry-label m s at x n e =
+rowed m s at x n e =
     after-ok (label s at) _ e λ l a e₁ e₂.
     after-ok (upTo m 7 8 s a) _ e₂ λ t b e₃ e₄.
     after-ok (upTo mostSeparation 7 8 s b) _ e₄ λ T c e₅ e₆.
     after-ok (upTo T 7 8 s c) _ e₆ λ D d e₇ e₈.
     after-ok (upTo D 7 8 s d) _ e₈ λ C f e₉ e₀.
-    let (same, _) = ok-same e₀ in
-    (a, e₁ ∙ ap (λ (y : Entry). ok (entryLabel y) a) same)
+    let (same, en) = ok-same e₀ in
+    let tb = bounded m 7 8 s a t b e₃ in
+    let Tb = bounded mostSeparation 7 8 s b T c e₅ in
+    let Db = bounded T 7 8 s c D d e₇ in
+    let Cb = bounded D 7 8 s d C f e₉ in
+    subst (λ (y : Entry). Rowed m s at y n) same (record { from = a; labelled = e₁; legal = search needs; long = omega arith; inside = omega arith })
 
 -- an entry that is not there
 abbrev noEntry : Entry
@@ -49,63 +61,44 @@ entries-at m zero i s at es f e h = absurd (not-suc-le-zero h)
 entries-at m (suc n) zero s at es f e h =
     after-ok (entry m s at) _ e λ x q e₁ e₂.
     after-ok (entries m n s q) _ e₂ λ gs l e₃ e₄.
-    let (same, _) = ok-same e₄ in
-    ([], at, x, q, refl, e₁, ap (λ (y : List Entry). getD y 0 noEntry) (sym same))
+    ([], at, x, q, refl, e₁, ap (λ (y : List Entry). getD y 0 noEntry) (sym (ok-same e₄ .0)))
 entries-at m (suc n) (suc i) s at es f e h =
     after-ok (entry m s at) _ e λ x q e₁ e₂.
     after-ok (entries m n s q) _ e₂ λ gs l e₃ e₄.
-    let (same, _) = ok-same e₄ in
     let (fs, p, y, r, f₁, f₂, f₃) = entries-at m n i s q gs l e₃ (le-of-suc-le-suc h) in
-    (x ∷ fs, p, y, r, simp (e₁, f₁), f₂, ap (λ (z : List Entry). getD z (suc i) noEntry) (sym same) ∙ f₃)
+    (x ∷ fs, p, y, r, simp (e₁, f₁), f₂, ap (λ (z : List Entry). getD z (suc i) noEntry) (sym (ok-same e₄ .0)) ∙ f₃)
 
 pub entries-length : (m n : ℕ) (s : List ℕ) (at : ℕ) (es : List Entry) (f : ℕ) → entries m n s at ≡ ok es f → length es ≡ n
 unfolding entriesBy
-entries-length m zero s at es f e = let (same, _) = ok-same e in ap length (sym same)
+entries-length m zero s at es f e = ap length (sym (ok-same e .0))
 entries-length m (suc n) s at es f e =
     after-ok (entry m s at) _ e λ x q e₁ e₂.
     after-ok (entries m n s q) _ e₂ λ gs l e₃ e₄.
-    let (same, _) = ok-same e₄ in
-    ap length (sym same) ∙ ap suc (entries-length m n s q gs l e₃)
+    ap length (sym (ok-same e₄ .0)) ∙ ap suc (entries-length m n s q gs l e₃)
 
 -- a sheet that was read, by its parts
-pub record Whole (s : List ℕ) (h : Held) : Type 0 where
+pub record Whole (s : List ℕ) (h : Held) (n : ℕ) : Type 0 where
   pub top : Head
   pub from : ℕ
   pub to : ℕ
   pub before : head s 0 ≡ ok top from
   pub all : entries (top .processors) (top .count) s from ≡ ok (h .entries) to
-  pub done : (u : Unit {0}) × (z : ℕ) × (end s to ≡ ok u z)
+  pub ended : length s ≤ to
+  pub last : to ≡ n
   pub wide : top .processors ≡ h .processors
   pub many : top .count ≡ length (h .entries)
 
-pub whole : (s : List ℕ) (h : Held) (n : ℕ) → sheet s 0 ≡ ok h n → Whole s h
+pub whole : (s : List ℕ) (h : Held) (n : ℕ) → sheet s 0 ≡ ok h n → Whole s h n
 unfolding sheetBy bodyBy
 whole s h n e =
     after-ok (head s 0) _ e λ top from e₁ e₂.
     after-ok (entries (top .processors) (top .count) s from) _ e₂ λ es to e₃ e₄.
     after-ok (end s to) _ e₄ λ u z e₅ e₆.
-    let (same, _) = ok-same e₆ in
-    let entries-same : es ≡ h .entries = ap (λ (x : Held). x .entries) same in
-    record {
-      top = top;
-      from = from;
-      to = to;
-      before = e₁;
-      all = e₃ ∙ ap (λ (x : List Entry). ok x to) entries-same;
-      done = (u, z, e₅);
-      wide = ap (λ (x : Held). x .processors) same;
-      many = sym (entries-length _ _ _ _ _ _ e₃) ∙ ap length entries-same;
-    }
-
--- it ends where its bytes end
-pub whole-length : (s : List ℕ) (h : Held) (n : ℕ) → sheet s 0 ≡ ok h n → length s ≤ n
-unfolding sheetBy bodyBy
-whole-length s h n e =
-    after-ok (head s 0) _ e λ top from e₁ e₂.
-    after-ok (entries (top .processors) (top .count) s from) _ e₂ λ es to e₃ e₄.
-    after-ok (end s to) _ e₄ λ u z e₅ e₆.
-    let (_, en) = ok-same e₆ in
-    omega (arith, end-ok s to u z e₅, end-stays s to u z e₅)
+    let (same, en) = ok-same e₆ in
+    let many = entries-length _ _ _ _ _ _ e₃ in
+    let stays = end-stays s to u z e₅ in
+    subst (λ (x : Held). Whole s x n) same
+    (record { top = top; from = from; to = to; before = e₁; all = e₃; ended = end-ok s to u z e₅; last = omega arith; wide = refl; many = sym many })
 
 -- a label that is found in an accepted sheet
 pub record Found (s : List ℕ) (i : ℕ) (h : Held) : Type 0 where
@@ -120,13 +113,19 @@ unfolding labelHead
 found s i h n e l =
     let w = whole s h n e in
     let (fs, p, x, q, f₁, f₂, f₃) = entries-at (w .top .processors) (w .top .count) i s (w .from) (h .entries) (w .to) (w .all) (omega (arith, w .many)) in
-    let (c, lab) = entry-label (w .top .processors) s p x q f₂ in
-    let r = label-lies s p (entryLabel x) c lab in
+    let y = rowed (w .top .processors) s p x q f₂ in
+    let r = label-lies s p (entryLabel x) (y .from) (y .labelled) in
     record { at = p; label = entryLabel x; is = List·getD-map entryLabel (h .entries) i noEntry ∙ ap entryLabel f₃; lies = r; head = simp (w .before, f₁) (r .head) }
 
--- row i of n rows from a place on is the one that was read
-pub row-was-read : (m n i : ℕ) (s : List ℕ) (at : ℕ) (es : List Entry) (f : ℕ) → entries m n s at ≡ ok es f → i < n → rowAfter m s at i ≡ getD (map entryRow es) i noRow
-unfolding rowAfter rowFrom
-row-was-read m n i s at es f e l =
-    let (fs, p, x, q, f₁, f₂, f₃) = entries-at m n i s at es f e l in
-    simp (f₁, f₂) (sym (List·getD-map entryRow es i noEntry ∙ ap entryRow f₃))
+-- row i of n rows from a place on is the one that was read, and legal
+module _ (m n i : ℕ) (s : List ℕ) (at : ℕ) (es : List Entry) (f : ℕ) (e : entries m n s at ≡ ok es f) (l : i < n) where
+  pub row-was-read : rowAfter m s at i ≡ getD (map entryRow es) i noRow
+  unfolding rowAfter rowFrom
+  row-was-read =
+      let (fs, p, x, q, f₁, f₂, f₃) = entries-at m n i s at es f e l in
+      simp (f₁, f₂) (sym (List·getD-map entryRow es i noEntry ∙ ap entryRow f₃))
+
+  pub entries-legal : LegalRow m (getD (map entryRow es) i noRow)
+  entries-legal =
+      let (fs, p, x, q, f₁, f₂, f₃) = entries-at m n i s at es f e l in
+      rw (List·getD-map entryRow es i noEntry, f₃) (rowed m s p x q f₂ .legal)

@@ -1,11 +1,6 @@
 -- Where labels lie, read from a list. Assumes nothing.
-use Rattle.basis.specs.Prelude.{ℕ, _+_, _*_, _≤_, _<_, _≡_, refl, ap, ap₂, _∙_, List, length}
-use Rattle.reader.proofs.Names.{upto, first-read, second-read, numberAt, labelIn, labelsLong, labelCell, partIn, Part}
-
--- `part_in`
-pub part-read : (b : List ℕ) (k : ℕ) → _≡_ {A = Part} (record { start = numberAt b (k * 2); long = numberAt b (k * 2 + 1) }) (partIn b k)
-unfolding partIn
-part-read b k = refl
+use Rattle.basis.specs.Prelude.{ℕ, _+_, _*_, _≤_, _<_, _≡_, ap, ap₂, _∙_, List, length}
+use Rattle.reader.proofs.Names.{upto, first-read, second-read, numberAt, labelIn, labelsLong, labelCell, partIn}
 
 -- a part that was written
 pub part-there : (s b labels : List ℕ) (n k : ℕ) → b ≡ upto (labelsLong n) (labelCell s) labels → labelsLong n ≤ length labels → k < n → partIn b k ≡ labelIn s k

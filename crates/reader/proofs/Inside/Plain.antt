@@ -1,6 +1,6 @@
 -- Laws of a label's bytes: a turn of `plain` by the tests that the code makes, and what was read where it accepts.
-use Rattle.basis.specs.Prelude.{ℕ, zero, suc, _+_, _-_, _≤_, _<_, _≡_, sym, ap, ap₂, _∙_, List, [], _∷_, arith, add-one, length, getD, take, drop, drop-cons, lt-ltb, le-leb, lt-leb}
-use Rattle.reader.proofs.Names.{ok, refuse, mapStep, byte, map-step-after, after-ok, ok-same, passed, byte-ok, plain, isPlain, nothing}
+use Rattle.basis.specs.Prelude.{ℕ, zero, suc, _+_, _-_, _≤_, _<_, _≡_, sym, ap, ap₂, _∙_, true, ⊎-elim, List, [], _∷_, arith, add-one, length, getD, take, drop, drop-cons, lt-ltb, le-leb, lt-leb}
+use Rattle.reader.proofs.Names.{ok, refuse, mapStep, byte, map-step-after, after-ok, ok-same, passed, byte-ok, lt-or-le, plain, isPlain, nothing}
 
 -- the loop over a label's bytes, which has come from at to i: a turn by the tests that it makes, and its end
 module _ (s : List ℕ) (at end i : ℕ) (long : end ≤ length s) (so-far : mapStep nothing (plain (end - at) s at) ≡ mapStep nothing (plain (end - i) s i)) where
@@ -32,24 +32,28 @@ pub record Plainly (s : List ℕ) (at k : ℕ) (bs : List ℕ) (n : ℕ) : Type 
   pub next : n ≡ at + k
   pub long : length bs ≡ k
   pub bytes : bs ≡ take k (drop at s)
+  pub plainly : (j : ℕ) → j < k → isPlain (getD s (at + j) 0) ≡ true
 
 pub plain-ok : (k : ℕ) (s : List ℕ) (at : ℕ) (bs : List ℕ) (n : ℕ) → plain k s at ≡ ok bs n → Plainly s at k bs n
 unfolding plain
 plain-ok zero s at bs n e =
     let eb : [] ≡ bs = cc in
     let en : at ≡ n = cc in
-    record { next = omega arith; long = ap length (sym eb); bytes = sym eb }
+    record { next = omega arith; long = ap length (sym eb); bytes = sym eb; plainly = λ j h. absurd (omega arith) }
 plain-ok (suc k) s at bs n e =
     after-ok (byte s at) _ e λ b m e₁ e₂.
     let (there, eb, em) = byte-ok s at b m e₁ in
-    after-ok (plain k s m) _ (passed _ 6 at s m (isPlain b) e₂ .1) λ cs l e₃ e₄.
+    let (is, e′) = passed _ 6 at s m (isPlain b) e₂ in
+    after-ok (plain k s m) _ e′ λ cs l e₃ e₄.
     let r = plain-ok k s m cs l e₃ in
     let (ec, el) = ok-same e₄ in
     record {
       next = omega (arith, r .next);
       long = ap length (sym ec) ∙ ap suc (r .long);
       bytes =
-          sym ec
-          ∙ ap₂ (λ (x : ℕ) (l : List ℕ). x ∷ l) (sym eb) (r .bytes ∙ ap (λ (j : ℕ). take k (drop j s)) (sym em ∙ add-one at))
+          sym ec ∙ ap₂ (λ (x : ℕ) (l : List ℕ). x ∷ l) (sym eb) (r .bytes ∙ ap (λ (j : ℕ). take k (drop j s)) (sym em ∙ add-one at))
           ∙ ap (take (suc k)) (sym (drop-cons s at 0 there));
+      plainly = λ j h.
+          ⊎-elim (λ z. let e₀ : at + j ≡ at = omega arith in rw (e₀, eb) is)
+          (λ z. let e₀ : at + j ≡ m + (j - 1) = omega arith in rw e₀ (r .plainly (j - 1) (omega arith))) (lt-or-le j 1);
     }

@@ -1,35 +1,26 @@
 -- The loop over the rows: what its lists have, a row more, and its ends. Assumes nothing.
-use Rattle.basis.specs.Prelude.{ℕ, zero, suc, _+_, _*_, _-_, _≤_, _<_, _≡_, refl, sym, ap, subst, _∙_, List, _∷_, arith, le-antisymm, length, set, length-set}
-use Rattle.reader.proofs.Names.{upto, ok, refuse, mapStep, pair-stored, got, ok-same, after-ok, map-step-ok, map-step-no, map-step-after, length-upto, upto-over, listCell, sheetLong, Row, head-stored, row-stored, Entry, entryRow, entry, entriesBy, entries, labelsLong, entryStep, EntryAt, nothing, rowFrom, rowAfter, labelFrom, labelAfter, putRow, putPart, rowsIn, partsIn, Part}
+use Rattle.basis.specs.Prelude.{ℕ, zero, suc, _+_, _-_, _≤_, _<_, _≡_, refl, sym, ap, subst, _∙_, List, _∷_, arith, le-antisymm, length, set, length-set}
+use Rattle.reader.proofs.Names.{upto, ok, refuse, mapStep, pair-stored, got, ok-same, after-ok, map-step-ok, map-step-no, map-step-after, length-upto, upto-over, listCell, sheetLong, Row, row-stored, Entry, entryRow, entry, entriesBy, entries, labelsLong, entryStep, EntryAt, nothing, rowFrom, rowAfter, labelFrom, labelAfter, putRow, putPart, rowsIn, partsIn, Part}
 use Rattle.reader.specs.declared.row.EntryRead.{EntryRead}
 use Rattle.reader.specs.declared.row.EntryRead.the-variants as entry-variants
 
 -- what follows the first i rows is read as if it began there
 split : (m i k : ℕ) (s : List ℕ) (at : ℕ) (es : List Entry) (next : ℕ) → entries m i s at ≡ ok es next → mapStep nothing (entries m (i + k) s at) ≡ mapStep nothing (entries m k s next)
 unfolding entriesBy
-split m zero k s at es next e =
-    let z : 0 + k ≡ k = omega arith in
-    ap (λ (j : ℕ). mapStep nothing (entries m j s at)) z ∙ ap (λ (j : ℕ). mapStep nothing (entries m k s j)) (ok-same e .1)
+split m zero k s at es next e = let z : 0 + k ≡ k = omega arith in rw (z, ok-same e .1)
 split m (suc i) k s at es next e =
     after-ok (entry m s at) _ e λ x q e₁ e₂.
     after-ok (entries m i s q) _ e₂ λ gs l e₃ e₄.
     let z : suc i + k ≡ suc (i + k) = omega arith in
-    ap (λ (j : ℕ). mapStep nothing (entries m j s at)) z
-    ∙ simp e₁ (map-step-after nothing (λ (zs : List Entry). x ∷ zs) (entries m (i + k) s q))
-    ∙ split m i k s q gs l e₃ ∙ ap (λ (j : ℕ). mapStep nothing (entries m k s j)) (ok-same e₄ .1)
-
--- before the first row
-pub none-passed : (m : ℕ) (s : List ℕ) (at : ℕ) → mapStep nothing (entries m 0 s at) ≡ ok tt at
-unfolding entriesBy mapStep
-none-passed m s at = refl
+    rw z (simp e₁ (map-step-after nothing (λ (zs : List Entry). x ∷ zs) (entries m (i + k) s q)) ∙ split m i k s q gs l e₃ ∙ rw (ok-same e₄ .1))
 
 -- a list after its first two numbers were stored
 abbrev begunList : ℕ → ℕ → List ℕ → List ℕ
 begunList m n l = set (set l 0 m) 1 n
 
 begun-is : (m n : ℕ) (s : List ℕ) (at : ℕ) (l : List ℕ) → begunList m n l ≡ rowsIn m n s at 0 l
-unfolding rowsIn
-begun-is m n s at l = head-stored m n (rowAfter m s at) l
+unfolding rowsIn upto listCell
+begun-is m n s at l = refl
 
 rows-over : (m n : ℕ) (s : List ℕ) (at i : ℕ) (l : List ℕ) → sheetLong i ≤ length l → rowsIn m n s at i (begunList m n l) ≡ rowsIn m n s at i l
 unfolding rowsIn
@@ -37,10 +28,6 @@ rows-over m n s at i l r = ap (λ (z : List ℕ). upto (sheetLong i) (listCell m
 
 pub head-put : (m n : ℕ) (s : List ℕ) (at : ℕ) (l : List ℕ) → sheetLong n ≤ length l → begunList m n l ≡ rowsIn m n s at 0 (begunList m n l)
 head-put m n s at l r = begun-is m n s at l ∙ sym (rows-over m n s at 0 l (omega arith))
-
-pub no-part-put : (m : ℕ) (s : List ℕ) (at : ℕ) (b : List ℕ) → b ≡ partsIn m s at 0 b
-unfolding partsIn upto
-no-part-put m s at b = refl
 
 -- the loop over n rows, which has passed i of them
 module _ (m n : ℕ) (s : List ℕ) (at i next : ℕ) (so-far : mapStep nothing (entries m i s at) ≡ ok tt next) where
@@ -101,30 +88,3 @@ row-room m n s at i l l₀ e h r = omega (arith, list-long m n s at i l l₀ e)
 
 pub part-room : (m n : ℕ) (s : List ℕ) (at i : ℕ) (b b₀ : List ℕ) → b ≡ partsIn m s at i b₀ → i < n → labelsLong n ≤ length b₀ → labelsLong (i + 1) ≤ length b
 part-room m n s at i b b₀ e h r = omega (arith, parts-long m s at i b b₀ e)
-
--- `put_row` and `put_part`
-pub row-set : (l : List ℕ) (k : ℕ) (row : Row)
-    → set (set (set (set l (k * 4 + 2) (row .threads)) (k * 4 + 3) (row .separation)) (k * 4 + 4) (row .deadline)) (k * 4 + 5) (row .budget) ≡ putRow l k row
-unfolding putRow
-row-set l k row = refl
-
-pub part-set : (b : List ℕ) (k : ℕ) (p : Part) → set (set b (k * 2) (p .start)) (k * 2 + 1) (p .long) ≡ putPart b k p
-unfolding putPart
-part-set b k p = refl
-
--- the later stores of one row are inside
-module _ (l : List ℕ) (k : ℕ) (r : sheetLong (k + 1) ≤ length l) where
-  pub second-inside : (a : ℕ) → k * 4 + 3 < length (set l (k * 4 + 2) a)
-  second-inside a = simp length-set (omega arith)
-
-  pub third-inside : (a b : ℕ) → k * 4 + 4 < length (set (set l (k * 4 + 2) a) (k * 4 + 3) b)
-  third-inside a b = simp length-set (omega arith)
-
-  pub fourth-inside : (a b d : ℕ) → k * 4 + 5 < length (set (set (set l (k * 4 + 2) a) (k * 4 + 3) b) (k * 4 + 4) d)
-  fourth-inside a b d = simp length-set (omega arith)
-
-pub length-inside : (l : List ℕ) (k : ℕ) → labelsLong (k + 1) ≤ length l → (a : ℕ) → k * 2 + 1 < length (set l (k * 2) a)
-length-inside l k r a = simp length-set (omega arith)
-
-pub count-inside : (l : List ℕ) (n : ℕ) → sheetLong n ≤ length l → (a : ℕ) → 1 < length (set l 0 a)
-count-inside l n r a = simp length-set (omega arith)

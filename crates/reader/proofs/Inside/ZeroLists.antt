@@ -1,6 +1,6 @@
 -- What is read into lists of zeros that have room for every row. Assumes nothing.
-use Rattle.basis.specs.Prelude.{ℕ, _+_, _*_, _-_, _≤_, _<_, _≡_, refl, sym, ap, ap₂, _∙_, List, map, arith, length, set, length-append, length-map, length-replicate, le-leb}
-use Rattle.reader.proofs.Names.{mostRows, upto, Step, ok, refuse, Outcome, accepted, refused, first-cell, second-cell, pair-zero, upto-set, upto-whole, noRow, noSheet, numberAt, filled, sheetIn, sheetCell, sheetLong, Sheet, whole-sheet-comes-back, Held, entryRow, sheet, sheetHeld, readingOf, reading, nowhere, rowsRead, labelIn, noParts, labelsIn, labelsLong, labelCell, intoLists, readInto, partIn, Part}
+use Rattle.basis.specs.Prelude.{ℕ, _+_, _*_, _-_, _≤_, _<_, _≡_, refl, sym, ap, ap₂, _∙_, List, arith, length, set, length-append, length-map, length-replicate, le-leb}
+use Rattle.reader.proofs.Names.{mostRows, upto, Step, ok, refuse, Outcome, accepted, refused, first-cell, second-cell, pair-zero, upto-set, noRow, noSheet, numberAt, filled, sheetIn, sheetCell, sheetLong, Sheet, whole-sheet-comes-back, Held, sheet, sheetHeld, readingOf, reading, nowhere, rowsRead, labelIn, noParts, labelsLong, labelCell, intoLists, readInto, partIn, Part}
 use Rattle.sheet.proofs.Inside.Cells.{cell-past, no-sheet-cell}
 use Rattle.sheet.proofs.Inside.FilledLists.{zeros, zeros-long, filled-read, zeros-filled}
 use Rattle.reader.proofs.LegalSheets.{zero-past, read-is-legal}
@@ -36,24 +36,21 @@ module _ (a b : ℕ) (ra : sheetLong mostRows ≤ a) (rb : labelsLong mostRows �
           (zeros-filled (sheetCell (sheetHeld h)) a (sheetLong (length (h .entries))) (cell-past (sheetHeld h) (length (h .entries)) (zero-past h)) (omega arith))
           (zeros-filled (labelCell s) b (labelsLong (length (h .entries))) (label-cell-past s (length (h .entries)) (rw e (omega arith))) (omega arith)))
 
--- the rows of what the reader hands over
-pub rows-long : (s : List ℕ) → length (reading s .1 .rows) ≡ mostRows
-rows-long s = go (sheet s 0) refl
+-- the rows of what the reader hands over, how many they are, and how many were read
+rows-fit : (s : List ℕ) → (length (reading s .1 .rows) ≡ mostRows) × (reading s .1 .count ≤ mostRows) × (rowsRead (sheet s 0) ≤ mostRows)
+rows-fit s = go (sheet s 0) refl
   where
-    go : (x : Step Held) → sheet s 0 ≡ x → length (readingOf x .1 .rows) ≡ mostRows
-    go (refuse k p) e = length-replicate mostRows noRow
+    go : (x : Step Held) → sheet s 0 ≡ x → (length (readingOf x .1 .rows) ≡ mostRows) × (readingOf x .1 .count ≤ mostRows) × (rowsRead x ≤ mostRows)
+    go (refuse k p) e = (length-replicate mostRows noRow, omega arith, omega arith)
     go (ok h n) e =
         let few = read-is-legal s h n e .most-rows in
-        length-append (map entryRow (h .entries)) _ ∙ ap₂ _+_ (length-map (h .entries) entryRow) (length-replicate (mostRows - length (map entryRow (h .entries))) noRow)
-        ∙ omega (arith, length-map (h .entries) entryRow)
+        (simp (length-append, length-map, length-replicate) (omega arith), few, few)
 
--- and how many they are
+pub rows-long : (s : List ℕ) → length (reading s .1 .rows) ≡ mostRows
+rows-long s = rows-fit s .0
+
 pub rows-few : (s : List ℕ) → reading s .1 .count ≤ mostRows
-rows-few s = go (sheet s 0) refl
-  where
-    go : (x : Step Held) → sheet s 0 ≡ x → readingOf x .1 .count ≤ mostRows
-    go (refuse k p) e = omega arith
-    go (ok h n) e = read-is-legal s h n e .most-rows
+rows-few s = rows-fit s .1
 
 module _ (s : List ℕ) (o : Outcome) (l b : List ℕ) (e : lists o l b ≡ readInto s (zeros (sheetLong mostRows)) (zeros (labelsLong mostRows))) where
   whole : lists o l b ≡ lists (reading s .0) (filled (sheetCell (reading s .1)) (zeros (sheetLong mostRows))) (filled (labelCell s) (zeros (labelsLong mostRows)))
@@ -71,26 +68,14 @@ module _ (s : List ℕ) (o : Outcome) (l b : List ℕ) (e : lists o l b ≡ read
   part-was-read k h p ep =
       let number : (i : ℕ) → i < labelsLong mostRows → numberAt b i ≡ labelCell s i =
       λ i l. ap (λ (x : Lists). numberAt (x .1 .1) i) whole ∙ filled-read (labelCell s) (zeros (labelsLong mostRows)) i (λ z. absurd (omega (arith, zeros-long (labelsLong mostRows)))) in
-      ep
-      ∙ ap₂ (λ (x y : ℕ). record { start = x; long = y }) (number (k * 2) (omega arith) ∙ first-cell (λ j. labelIn s j .start) (λ j. labelIn s j .long) k)
+      ep ∙ ap₂ (λ (x y : ℕ). record { start = x; long = y }) (number (k * 2) (omega arith) ∙ first-cell (λ j. labelIn s j .start) (λ j. labelIn s j .long) k)
       (number (k * 2 + 1) (omega arith) ∙ second-cell (λ j. labelIn s j .start) (λ j. labelIn s j .long) k)
-
-  pub parts-were-read : (k : ℕ) → k < mostRows → partIn b k ≡ labelIn s k
-  parts-were-read k h = part-was-read k h (partIn b k) refl
 
 -- no label past the rows that a sheet may have
 pub no-part : (s : List ℕ) (k : ℕ) → mostRows ≤ k → nowhere ≡ labelIn s k
-no-part s k h = sym (no-label s k (go (sheet s 0) refl))
-  where
-    go : (x : Step Held) → sheet s 0 ≡ x → rowsRead x ≤ k
-    go (refuse j p) e = omega arith
-    go (ok w n) e = omega (arith, read-is-legal s w n e .most-rows)
+no-part s k h = sym (no-label s k (omega (arith, rows-fit s)))
 
 -- `label_parts`
-module _ (s b : List ℕ) (parts : List Part) (i : ℕ) (so-far : parts ≡ upto i (labelIn s) noParts) where
-  pub one-part-more : i < mostRows → ((k : ℕ) → k < mostRows → partIn b k ≡ labelIn s k) → (p : Part) → p ≡ partIn b i → set parts i p ≡ upto (i + 1) (labelIn s) noParts
-  one-part-more h all p ep = upto-set i (labelIn s) parts noParts p so-far (ep ∙ all i h)
-
-  pub all-parts : i ≤ mostRows → mostRows ≤ i → parts ≡ labelsIn s
-  unfolding labelsIn
-  all-parts h g = upto-whole mostRows i (labelIn s) parts noParts so-far h g
+pub one-part-more : (s b : List ℕ) (parts : List Part) (i : ℕ) → parts ≡ upto i (labelIn s) noParts → i < mostRows → ((k : ℕ) → k < mostRows → partIn b k ≡ labelIn s k) → (p : Part) → p ≡ partIn b i
+    → set parts i p ≡ upto (i + 1) (labelIn s) noParts
+one-part-more s b parts i so-far h all p ep = upto-set i (labelIn s) parts noParts p so-far (ep ∙ all i h)

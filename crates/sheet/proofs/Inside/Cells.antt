@@ -1,7 +1,7 @@
 -- The numbers at the places of a sheet's list, as the code finds them. Assumes nothing.
-use Rattle.basis.specs.Prelude.{ℕ, _+_, _-_, _*_, _/_, _%_, _≤_, _<_, _≡_, sym, ap, _∙_, List, map, ⊎-elim, length, set, length-map, List·getD-eq-default, arith, mod-lt, div-add-mod', lt-ltb, le-ltb, le-leb, lt-leb, eq-eqb, ne-eqb}
+use Rattle.basis.specs.Prelude.{ℕ, _+_, _-_, _*_, _/_, _%_, _≤_, _<_, _≡_, sym, ap, _∙_, List, map, ⊎-elim, length, length-map, List·getD-eq-default, arith, mod-lt, div-add-mod', lt-ltb, le-ltb, le-leb, lt-leb, eq-eqb, ne-eqb}
 use lib.Arith.{digits-div, digits-mod}
-use Rattle.sheet.proofs.Names.{mostRows, upto, getD-all, upto-set, lt-or-le, noRow, rowAt, noSheet, Row, Sheet, rowCell, listCell, sheetCell, sheetLong, rowOf, cellBy}
+use Rattle.sheet.proofs.Names.{mostRows, getD-all, pick-same, lt-or-le, noRow, rowAt, noSheet, Row, Sheet, rowCell, listCell, sheetCell, sheetLong, rowOf, cellBy}
 
 -- number j of row k of a list
 pub cell-of : (m n : ℕ) (rows : ℕ → Row) (i k j : ℕ) → i ≡ k * 4 + j + 2 → j < 4 → listCell m n rows i ≡ rowCell (rows k) j
@@ -17,8 +17,7 @@ cell-of-row h = cell-of (h .processors) (h .count) (rowAt h)
 -- a cell of a row that is not there
 pub cell-of-none : (j : ℕ) → rowCell noRow j ≡ 0
 unfolding rowCell
-cell-of-none j = ⊎-elim (λ a. rw (eq-eqb j 0 (omega arith))) (λ a. rw (ne-eqb j 0 (λ z. omega arith)) (⊎-elim (λ b. rw (eq-eqb j 1 (omega arith)))
-    (λ b. rw (ne-eqb j 1 (λ z. omega arith)) (⊎-elim (λ c. rw (eq-eqb j 2 (omega arith))) (λ c. rw (ne-eqb j 2 (λ z. omega arith))) (lt-or-le j 3))) (lt-or-le j 2))) (lt-or-le j 1)
+cell-of-none j = simp pick-same
 
 -- past the rows that are there, from row n on, every cell is zero
 pub cell-past : (h : Sheet) (n : ℕ) → ((k : ℕ) → n ≤ k → rowAt h k ≡ noRow) → (i : ℕ) → sheetLong n ≤ i → sheetCell h i ≡ 0
@@ -30,11 +29,7 @@ cell-past h n past i b =
 -- every number of no sheet is zero
 pub no-sheet-cell : (i : ℕ) → sheetCell noSheet i ≡ 0
 unfolding listCell
-no-sheet-cell i =
-    ⊎-elim (λ a. rw (eq-eqb i 0 (omega arith)))
-    (λ a. ⊎-elim (λ b. rw (ne-eqb i 0 (λ z. omega arith), eq-eqb i 1 (omega arith)))
-    (λ b. rw (ne-eqb i 0 (λ z. omega arith), ne-eqb i 1 (λ z. omega arith)) (ap (λ (row : Row). rowCell row ((i - 2) % 4)) (getD-all mostRows ((i - 2) / 4) noRow) ∙ cell-of-none ((i - 2) % 4)))
-    (lt-or-le i 2)) (lt-or-le i 1)
+no-sheet-cell i = simp (getD-all mostRows ((i - 2) / 4) noRow, cell-of-none, pick-same)
 
 -- no sheet has a row past those that there is room for
 pub no-row-past : (h : Sheet) → length (h .rows) ≡ mostRows → (k : ℕ) → mostRows ≤ k → rowAt h k ≡ noRow
@@ -46,8 +41,7 @@ unfolding rowOf
 row-there i r e =
     ⊎-elim (λ a. let f : r ≡ 0 = e ∙ rw (lt-ltb i 2 a) in omega arith)
     (λ a. ⊎-elim (λ b. let f : r ≡ (i - 2) / 4 = e ∙ rw (le-ltb i 2 a, lt-leb (sheetLong mostRows) i b) in omega (arith, div-add-mod' (i - 2) 4))
-    (λ b. let f : r ≡ 0 = e ∙ rw (le-ltb i 2 a, le-leb (sheetLong mostRows) i b) in omega arith) (lt-or-le i (sheetLong mostRows)))
-    (lt-or-le i 2)
+    (λ b. let f : r ≡ 0 = e ∙ rw (le-ltb i 2 a, le-leb (sheetLong mostRows) i b) in omega arith) (lt-or-le i (sheetLong mostRows))) (lt-or-le i 2)
 
 -- the length of an array of structs
 pub unmapped : {A B : Type 0} (f : A → B) (l : List A) (n : ℕ) → length (map f l) ≡ n → length l ≡ n
@@ -71,14 +65,6 @@ module _ (h : Sheet) (i : ℕ) (row : Row) where
 pub cell-found : (h : Sheet) (i r : ℕ) → length (h .rows) ≡ mostRows → r ≡ rowOf i → (v : ℕ) → v ≡ cellBy (h .processors) (h .count) (rowAt h r) i → v ≡ sheetCell h i
 unfolding rowOf
 cell-found h i r long e v f =
-    ⊎-elim (λ a. f ∙ at-head h i (rowAt h r) a)
-    (λ a. ⊎-elim
+    ⊎-elim (λ a. f ∙ at-head h i (rowAt h r) a) (λ a. ⊎-elim
     (λ b. let q : r ≡ (i - 2) / 4 = e ∙ rw (le-ltb i 2 a, lt-leb (sheetLong mostRows) i b) in f ∙ at-row h i (rowAt h r) a b (ap (rowAt h) q))
-    (λ b. f ∙ at-end h i (rowAt h r) long b)
-    (lt-or-le i (sheetLong mostRows)))
-    (lt-or-le i 2)
-
--- and its store fills one place more
-pub cell-stored : (h : Sheet) (l₀ l : List ℕ) (i r : ℕ) → l ≡ upto i (sheetCell h) l₀ → length (h .rows) ≡ mostRows → r ≡ rowOf i → (v : ℕ) → v ≡ cellBy (h .processors) (h .count) (rowAt h r) i
-    → set l i v ≡ upto (i + 1) (sheetCell h) l₀
-cell-stored h l₀ l i r so-far long e v f = upto-set i (sheetCell h) l l₀ v so-far (cell-found h i r long e v f)
+    (λ b. f ∙ at-end h i (rowAt h r) long b) (lt-or-le i (sheetLong mostRows))) (lt-or-le i 2)

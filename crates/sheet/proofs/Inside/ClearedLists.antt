@@ -6,13 +6,10 @@ use Rattle.sheet.proofs.Inside.FilledLists.{length-filled}
 -- `clear_from`
 module _ (from : ℕ) (l₀ : List ℕ) where
   -- before the place nothing changes
-  kept : (n : ℕ) → n ≤ from → l₀ ≡ upto n (clearedCell from l₀) l₀
+  pub clear-none : (n : ℕ) → n ≤ from → l₀ ≡ upto n (clearedCell from l₀) l₀
   unfolding upto clearedCell
-  kept zero b = refl
-  kept (suc n) b = sym (set-getD l₀ n 0) ∙ ap (λ (z : List ℕ). set z n (numberAt l₀ n)) (kept n (omega arith)) ∙ rw (lt-ltb n from (omega arith))
-
-  pub clear-none : l₀ ≡ upto from (clearedCell from l₀) l₀
-  clear-none = kept from (le-refl from)
+  clear-none zero b = refl
+  clear-none (suc n) b = sym (set-getD l₀ n 0) ∙ ap (λ (z : List ℕ). set z n (numberAt l₀ n)) (clear-none n (omega arith)) ∙ rw (lt-ltb n from (omega arith))
 
   pub clear-more : (l : List ℕ) (i : ℕ) → l ≡ upto i (clearedCell from l₀) l₀ → from ≤ i → set l i 0 ≡ upto (i + 1) (clearedCell from l₀) l₀
   unfolding clearedCell
@@ -35,8 +32,7 @@ pub cleared-is-filled : (f : ℕ → ℕ) (from : ℕ) (l m : List ℕ) → m �
 unfolding filled clearedCell
 cleared-is-filled f from l m em room past =
     let long : length m ≡ length l = ap length em ∙ length-upto from f l in
-    ext-getD 0 (filled (clearedCell from m) m) (filled f l)
-    (length-filled (clearedCell from m) m ∙ long ∙ sym (length-filled f l))
+    ext-getD 0 (filled (clearedCell from m) m) (filled f l) (length-filled (clearedCell from m) m ∙ long ∙ sym (length-filled f l))
     (λ i b. let there : i < length l = omega (arith, length-filled (clearedCell from m) m) in
     let same : clearedCell from m i ≡ f i =
     ⊎-elim (λ a. rw (lt-ltb i from a, em) (upto-below from f l 0 i a room)) (λ a. rw (le-ltb i from a) (sym (past i a))) (lt-or-le i from) in

@@ -11,8 +11,7 @@ fill-done f l₀ l i so-far a b = let e : i ≡ length l₀ = omega (arith, ap l
 pub filled-read : (f : ℕ → ℕ) (l : List ℕ) (i : ℕ) → (length l ≤ i → f i ≡ 0) → numberAt (filled f l) i ≡ f i
 unfolding filled
 filled-read f l i z =
-    ⊎-elim (λ h. upto-below (length l) f l 0 i h (le-refl (length l)))
-    (λ h. upto-past (length l) f l 0 i h ∙ List·getD-eq-default l 0 {n = i} h ∙ sym (z h))
+    ⊎-elim (λ h. upto-below (length l) f l 0 i h (le-refl (length l))) (λ h. upto-past (length l) f l 0 i h ∙ List·getD-eq-default l 0 {n = i} h ∙ sym (z h))
     (lt-or-le i (length l))
 
 -- a filled list is as long as it was
@@ -31,8 +30,7 @@ zeros-long n = length-replicate n 0
 pub zeros-filled : (f : ℕ → ℕ) (n k : ℕ) → ((i : ℕ) → k ≤ i → f i ≡ 0) → k ≤ n → upto k f (zeros n) ≡ filled f (zeros n)
 unfolding filled
 zeros-filled f n k z h =
-    ext-getD 0 (upto k f (zeros n)) (upto (length (zeros n)) f (zeros n))
-    (length-upto k f (zeros n) ∙ sym (length-upto (length (zeros n)) f (zeros n)))
+    ext-getD 0 (upto k f (zeros n)) (upto (length (zeros n)) f (zeros n)) (length-upto k f (zeros n) ∙ sym (length-upto (length (zeros n)) f (zeros n)))
     (λ i b. let inside : i < length (zeros n) = omega (arith, length-upto k f (zeros n)) in
     ⊎-elim (λ a. upto-below k f (zeros n) 0 i a (omega (arith, zeros-long n)))
     (λ a. upto-past k f (zeros n) 0 i a ∙ getD-all n i 0 ∙ sym (z i a)) (lt-or-le i k)

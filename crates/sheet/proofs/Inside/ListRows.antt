@@ -17,18 +17,11 @@ module _ (l : List ℕ) (rows : List Row) (i : ℕ) (so-far : rows ≡ upto i (r
   pub rows-more : (row : Row) → row ≡ rowIn l i → set rows i row ≡ upto (i + 1) (rowIn l) (noRows mostRows)
   rows-more row e = upto-set i (rowIn l) rows (noRows mostRows) row so-far e
 
-  pub sheet-read : (m n : ℕ) → i ≤ mostRows → mostRows ≤ i → m ≡ numberAt l 0 → n ≡ numberAt l 1
-      → record { processors = m; count = n; rows = rows } ≡ sheetIn l
+  pub sheet-read : (m n : ℕ) → i ≤ mostRows → mostRows ≤ i → m ≡ numberAt l 0 → n ≡ numberAt l 1 → record { processors = m; count = n; rows = rows } ≡ sheetIn l
   unfolding sheetIn
-  sheet-read m n a b em en =
-      let e : i ≡ mostRows = omega arith in
-      let er : rows ≡ upto mostRows (rowIn l) (noRows mostRows) = rw e at so-far in
-      λ j. record { processors = em j; count = en j; rows = er j }
+  sheet-read m n a b em en = let e : i ≡ mostRows = omega arith in rw (em, en, so-far, e)
 
 -- row k of the sheet that a list hands over is row k of the list
 pub row-in-sheet : (l : List ℕ) (k : ℕ) → k < mostRows → rowAt (sheetIn l) k ≡ rowIn l k
 unfolding sheetIn
 row-in-sheet l k h = upto-below mostRows (rowIn l) (noRows mostRows) noRow k h (le-refl mostRows)
-
-pub row-handed : (l : List ℕ) (k : ℕ) → k < mostRows → rowIn l k ≡ rowAt (sheetIn l) k
-row-handed l k b = sym (row-in-sheet l k b)

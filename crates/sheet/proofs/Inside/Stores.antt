@@ -4,11 +4,6 @@ use Rattle.sheet.proofs.Names.{upto, upto-set, lt-or-le, Row, rowCell, 
 use Rattle.sheet.proofs.Inside.Cells.{cell-of}
 
 module _ (m n : ℕ) (rows : ℕ → Row) where
-  -- processors and the number of rows
-  pub head-stored : (l : List ℕ) → set (set l 0 m) 1 n ≡ upto (sheetLong 0) (listCell m n rows) l
-  unfolding upto listCell
-  head-stored l = refl
-
   -- a row more
   pub row-stored : (k : ℕ) (l l₀ : List ℕ) → l ≡ upto (sheetLong k) (listCell m n rows) l₀ → (row : Row) → row ≡ rows k
       → set (set (set (set l (k * 4 + 2) (row .threads)) (k * 4 + 3) (row .separation)) (k * 4 + 4) (row .deadline)) (k * 4 + 5) (row .budget)
@@ -28,7 +23,6 @@ module _ (m n : ℕ) (rows : ℕ → Row) where
   pub rows-agree : (rows′ : ℕ → Row) → ((k : ℕ) → k < n → rows k ≡ rows′ k) → (i : ℕ) → i < sheetLong n → listCell m n rows i ≡ listCell m n rows′ i
   unfolding listCell
   rows-agree rows′ same i l =
-      ⊎-elim (λ a. rw (eq-eqb i 0 (omega arith)))
-      (λ a. ⊎-elim (λ b. rw (ne-eqb i 0 (λ z. omega arith), eq-eqb i 1 (omega arith)))
+      ⊎-elim (λ a. rw (eq-eqb i 0 (omega arith))) (λ a. ⊎-elim (λ b. rw (ne-eqb i 0 (λ z. omega arith), eq-eqb i 1 (omega arith)))
       (λ b. rw (ne-eqb i 0 (λ z. omega arith), ne-eqb i 1 (λ z. omega arith))
       (ap (λ (row : Row). rowCell row ((i - 2) % 4)) (same ((i - 2) / 4) (omega (arith, div-add-mod' (i - 2) 4))))) (lt-or-le i 2)) (lt-or-le i 1)

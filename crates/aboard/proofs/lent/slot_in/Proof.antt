@@ -19,8 +19,8 @@ use Rattle.aboard.proofs.lent.slot_in.Key.{name as #slot-in}
 use Rattle.aboard.proofs.lent.slot_in as slot-in
 use Rattle.aboard.proofs.lent.slot_in.Statement as stated
 use Rattle.aboard.proofs.lent.slot_in.Code as code
-use Rattle.aboard.proofs.Inside.Walks.{stv, shv, rev, IsSheet, IsRefusal}
-use Rattle.aboard.proofs.lent.slot_in.Proof.Called.{BySlot, Passed, lv, Answer, codesOf, tokens, to-slot, goes-slot, Promised, comesBack, gives-slot}
+use Rattle.aboard.proofs.Inside.Walks.{stv, shv, rev, lv, IsSheet, IsRefusal}
+use Rattle.aboard.proofs.lent.slot_in.Proof.Called.{BySlot, Passed, Answer, codesOf, tokens, to-slot, goes-slot, Promised, comesBack, gives-slot}
 mod Called
 
 abbrev stayed : Stays (slot-in.ended .signature .params) (slot-in.ended .kept)

@@ -9,6 +9,6 @@ Inv-loop list₀ from i₀ list i = (from ≤ i) × (length list ≡ length list
 
 pub clear-from-spec : {M : Type 1} → this.Statement.statement M
 clear-from-spec =
-    this.Tie.close (this.Tie.spec Inv-loop (λ list₀ from i₀ list i. length list₀ - i) (λ c. (search needs, search needs, search clear-none))
+    this.Tie.close (this.Tie.spec Inv-loop (λ list₀ from i₀ list i. length list₀ - i) (λ c. (search needs, search needs, search (clear-none, needs)))
     (λ c. search needs) (λ c. search needs) (λ c. search needs) (λ c. search needs) (λ c. (search needs, search needs, search clear-more))
     (λ c. search needs) (λ c. search clear-done))

@@ -1,7 +1,7 @@
 -- The calls of the box's own loop but for the slot: what each asks for, of what the loop has, and what comes back once it has returned. Assumes `Given`.
 use Rattle.basis.specs.Prelude.{_≡_, refl, ℕ, _+_, _≤_, _<_, _^_, Bool, List, [], _∷_}
 use lib.ListN.{length, take, drop as drop-list}
-use Rattle.aboard.proofs.Names.{URA, named, w64, Val, vint, SProp, ent, sep, ex, emp, guard, Lft, Share, Fml, ftrue, flft, Memory, Routine, Heap, Atoms, sem, Fun, Given, ‵, _⊛_, _$_, _∵_, !, qed, move, join, fjoin, frame, done, Is, uint-makes, u64, usize, bool, RefT, sliceVal, ShrSlice, owned, nothing, tripleOf, Contract, lasts, says, outcome, isAccepted, Refusal, Sheet, Begun, beginningOf, beginning}
+use Rattle.aboard.proofs.Names.{URA, named, w64, Val, vint, SProp, ent, sep, ex, emp, guard, Lft, Share, Fml, ftrue, flft, Memory, Routine, Heap, Atoms, sem, Fun, Given, ‵, _⊛_, _$_, _∵_, !, qed, move, join, fjoin, frame, done, Is, uint-makes, u64, usize, bool, RefT, ShrSlice, owned, nothing, tripleOf, Contract, lasts, says, outcome, isAccepted, Refusal, Sheet, Begun, beginningOf, beginning}
 use denote.Struct.Laws as LL
 use denote.Enum.Laws as EL
 use Rattle.basis.proofs.refusal.Refusal as Re
@@ -12,7 +12,7 @@ use Rattle.sheet.proofs.row.Sheet.Laws as Sh′
 use Rattle.aboard.proofs.lent.Begun as Be
 use Rattle.aboard.proofs.lent.begin as begin
 use Rattle.aboard.proofs.lent.entries as entries
-use Rattle.aboard.proofs.Inside.Walks.{shv, rev, IsSheet, IsRefusal, answers-only}
+use Rattle.aboard.proofs.Inside.Walks.{shv, rev, lv, IsSheet, IsRefusal, answers-only}
 
 -- what the loop is passed: the lifetimes of the releases and of the codes, a share of each one's token, the sheet, the releases and the codes
 pub record Passed : Type 0 where
@@ -24,10 +24,7 @@ pub record Passed : Type 0 where
   pub rel : RefT (List ℕ)
   pub cs : RefT (List ℕ)
 
--- the machine value of a list, and what a release list owns
-abbrev pub lv : RefT (List ℕ) → Val
-lv rel = sliceVal (rel .ptr) (length (rel .now))
-
+-- what a release list owns
 abbrev pub releasesOwn : Lft → RefT (List ℕ) → Fml
 releasesOwn κ rel = ShrSlice (named 0) κ u64 .own rel (lv rel ∷ [])
 

@@ -9,10 +9,10 @@ use Rattle.states.proofs.state.State as St
 use Rattle.states.proofs.state.State.Laws as St′
 use Rattle.states.proofs.runs.Ran as Ra
 use Rattle.states.proofs.runs.Ran.Laws as Ra′
-use Rattle.aboard.proofs.Inside.Walks.{shv, IsState, IsRefusal, codesAt}
+use Rattle.aboard.proofs.Inside.Walks.{lv, shv, IsState, IsRefusal, codesAt}
 use Rattle.aboard.proofs.lent.box_run as box-run
 use Rattle.aboard.proofs.lent.box_run.Code.Mir as mir-code
-use Rattle.aboard.proofs.lent.box_run.Proof.Calls.{Passed, lv}
+use Rattle.aboard.proofs.lent.box_run.Proof.Calls.{Passed}
 use Rattle.aboard.proofs.lent.box_run.Proof.Locals.{rav, En, Head}
 
 abbrev pub stayed : Stays (box-run.ended .signature .params) (box-run.ended .kept)

@@ -7,8 +7,8 @@ use Rattle.sheet.proofs.row.Sheet as Sh
 use Rattle.sheet.proofs.row.Sheet.Laws as Sh′
 use Rattle.states.proofs.state.State as St
 use Rattle.aboard.proofs.lent.slot_in as slot-in
-use Rattle.aboard.proofs.Inside.Walks.{shv, IsSheet, answers}
-use Rattle.aboard.proofs.lent.box_run.Proof.Calls.{Passed, lv, releasesOwn}
+use Rattle.aboard.proofs.Inside.Walks.{lv, shv, IsSheet, answers}
+use Rattle.aboard.proofs.lent.box_run.Proof.Calls.{Passed, releasesOwn}
 
 abbrev pub SlotIn : {M : Type 1} (𝓤 : URA M) (H : Heap 𝓤) (A : Atoms 𝓤) (mem : Memory → SProp 𝓤) (run : Routine → Fun 𝓤) → Contract 𝓤
 SlotIn 𝓤 H A mem run = tripleOf 𝓤 H A slot-in.signature (slot-in.spec 𝓤 H A mem run)

@@ -14,8 +14,8 @@ use Rattle.states.proofs.runs.Ran.Laws as Ra′
 use Rattle.aboard.proofs.lent.Begun as Be
 use Rattle.aboard.proofs.lent.Begun.Laws as Be′
 use Rattle.aboard.proofs.Inside.BoxLoop.{Going}
-use Rattle.aboard.proofs.Inside.Walks.{stv, shv, rev, IsState, IsRefusal, bare}
-use Rattle.aboard.proofs.lent.box_run.Proof.Calls.{Passed, lv, releasesOwn}
+use Rattle.aboard.proofs.Inside.Walks.{lv, stv, shv, rev, IsState, IsRefusal, bare}
+use Rattle.aboard.proofs.lent.box_run.Proof.Calls.{Passed, releasesOwn}
 
 -- the machine values of what the loop begins with and of its answer
 abbrev pub bev : Begun → Val

@@ -1,8 +1,9 @@
 -- A turn of the box's own loop: the state and the codes from the slot's place on are lent to `slot_in`, and come back. Assumes `Given`.
-use Rattle.basis.specs.Prelude.{_≡_, refl, sym, ap, subst, ℕ, _+_, _*_, _-_, _<_, Bool, true, false, List, [], _∷_, lt-ltb, ltb-true, ltb-false}
+use Rattle.basis.specs.Prelude.{_≡_, refl, sym, ap, subst, ℕ, _+_, _*_, _-_, _<_, Bool, List, [], _∷_, lt-ltb, ⊎-elim}
+use Rattle.basis.proofs.Inside.Words.{lt-or-le}
 use lib.ListN.{length, take, drop as drop-list}
-use lib.Dec.{T as Holds, ltb}
-use Rattle.aboard.proofs.Names.{URA, fullShare, tyRef, tyBool, named, erased, imm, Val, WT, hasTy, vbool, vptr, SProp, GName, Fml, ftrue, fat, flft, flent, Memory, Routine, Heap, Out, Calls, Loops, Tables, afterTurn, Atoms, FmC, Fun, Given, ‵, raw, some, given, later, _⊛_, Sq, runs, anyQ, _$_, !, move, keep, drop, use1, use2, use3, split, split3, fsplit, join, pick, learn, rewrite, await, look, init, store, forget, stop, hop, fld, from, load, addr, bin, and-then, no-more, assigns, land, stays, agg, whole, sub, look-in, Body, Is, shows, u8, u64, RefT, MutRef, sliceTy, sliceVal, ShrSlice, MutSlice, Room, shr-slice-copy, only, peeks, nothing, Triple, calls-at, midOf, keptM, putMid, same-len-mid, sl-relent-backᵐ, State, Begun}
+use lib.Dec.{T as Holds}
+use Rattle.aboard.proofs.Names.{URA, fullShare, tyRef, tyBool, named, erased, imm, Val, WT, hasTy, vbool, vptr, SProp, GName, Fml, ftrue, fat, flft, flent, Memory, Routine, Heap, Out, Tables, afterTurn, Atoms, FmC, Fun, Given, ‵, raw, some, given, later, _⊛_, Sq, runs, anyQ, _$_, !, move, keep, drop, use1, use2, use3, split, split3, fsplit, join, pick, learn, rewrite, await, look, init, store, forget, stop, hop, fld, from, load, addr, bin, and-then, no-more, assigns, land, stays, agg, whole, sub, look-in, Body, Is, shows, u8, u64, RefT, MutRef, sliceTy, sliceVal, ShrSlice, MutSlice, Room, shr-slice-copy, only, peeks, nothing, Triple, calls-at, midOf, keptM, putMid, same-len-mid, sl-relent-backᵐ, State, Begun}
 use types.Tokens.{lft-new, lft-end}
 use denote.Memory.{mem as memory}
 use denote.Enum.Laws as EL
@@ -26,12 +27,6 @@ module _ {M : Type 1} (𝓤 : URA M) (H : Heap 𝓤) (A : Atoms 𝓤) (W : Given
     (gh : IsSheet (p .h)) (gb : Is Be.the-row b (bev b ∷ [])) (room₁ : Room u64 (length (p .rel .now))) (room₂ : Room u8 (length (p .cs .now))) (bs : Begins (p .h) (p .rel .now) (p .cs .now) b)
     (𝓣 : Tables 𝓤 H) (fm : FmC 𝓤 H (W .laws) (𝓣 .C)) (known-entries : Triple 𝓤 (𝓣 .C #entries) (Entries 𝓤 H A mem run)) (known-slot : Triple 𝓤 (𝓣 .C #slot-in) (SlotIn 𝓤 H A mem run)) (known-accepted : Triple 𝓤 (𝓣 .C #is-accepted) (IsAccepted 𝓤 H A mem run)) (l : ℕ → ℕ) where
   open Passed p using (κ₁, κ₂, q₁, q₂, h, rel, cs)
-
-  abbrev C : Calls 𝓤 H
-  C = 𝓣 .C
-
-  abbrev Λ : Loops 𝓤 H
-  Λ = 𝓣 .Λ
 
   abbrev Turns : Turn p b → Out → SProp 𝓤
   Turns = Turned 𝓤 H A W mem run p b gb bs 𝓣 l
@@ -62,7 +57,7 @@ module _ {M : Type 1} (𝓤 : URA M) (H : Heap 𝓤) (A : Atoms 𝓤) (W : Given
     abbrev stateAt : GName → RefT State
     stateAt γ = record { ptr = ((l 5), 0); name = γ; now = c .state }
 
-    one-slot : Sq W (HeadOf 𝓤 H l p b c) (runs C Λ (En 𝓤 H l) mir-code.turn-1 (anyQ (Turns c)))
+    one-slot : Sq W (HeadOf 𝓤 H l p b c) (runs (𝓣 .C) (𝓣 .Λ) (En 𝓤 H l) mir-code.turn-1 (anyQ (Turns c)))
     unfolding afterTurn
     one-slot =
         assigns ! (bin ! (load ! (from ! (stop !)) (look ! 28 refl)) (load ! (from ! (fld ! refl (stop !))) (look-in ! 36 (sub ! 2 refl (whole !)))) tt) (from ! (stop !)) (init ! 20 refl (tt, tt)) $
@@ -109,9 +104,5 @@ module _ {M : Type 1} (𝓤 : URA M) (H : Heap 𝓤) (A : Atoms 𝓤) (W : Given
         judges 𝓤 H A W mem run p b gb bs 𝓣 l fm known-accepted c less (x .0) (stateOf x) (putMid a (length (c .codes) - a) (c .codes) (codesOf x)) (slot-at-is h (c .state) (rel .now) (c .codes) (c .done) (r .now) er (x .0) (stateOf x) (codesOf x) e)
         (same-len-mid a (length (c .codes) - a) (c .codes) (codesOf x) lz) (subst (Is Re.the-row (x .0)) (EL.tells Re.the-type Re′.the-laws (x .0) _ gy) gy) gu))))))))))))))
 
-  pub turn : (c : Turn p b) → Sq W (HeadOf 𝓤 H l p b c) (runs C Λ (En 𝓤 H l) mir-code.turn-1 (anyQ (Turns c)))
-  turn c = go (ltb (c .done) (b .slots)) refl
-    where
-      go : (z : Bool) → ltb (c .done) (b .slots) ≡ z → Sq W (HeadOf 𝓤 H l p b c) (runs C Λ (En 𝓤 H l) mir-code.turn-1 (anyQ (Turns c)))
-      go true e = one-slot c (ltb-true _ _ e)
-      go false e = no-slot 𝓤 H A W mem run p b gb bs 𝓣 l c (ltb-false _ _ e)
+  pub turn : (c : Turn p b) → Sq W (HeadOf 𝓤 H l p b c) (runs (𝓣 .C) (𝓣 .Λ) (En 𝓤 H l) mir-code.turn-1 (anyQ (Turns c)))
+  turn c = ⊎-elim (one-slot c) (no-slot 𝓤 H A W mem run p b gb bs 𝓣 l c) (lt-or-le (c .done) (b .slots))

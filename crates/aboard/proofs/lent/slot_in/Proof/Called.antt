@@ -1,12 +1,12 @@
 -- The call of `slot_in`: what `State::slot` asks for, of what the lent slot has, and what comes back once it has returned. Assumes `Given`.
-use Rattle.basis.specs.Prelude.{_≡_, ℕ, List, [], _∷_, length}
-use Rattle.aboard.proofs.Names.{URA, named, Val, SProp, ent, ex, guard, Lft, Share, GName, Fml, ftrue, flft, Memory, Routine, Heap, Atoms, sem, Fun, Given, Item, ‵, _⊛_, ⋆, mean, _$_, _∵_, !, qed, move, join, fjoin, frame, done, owns, u8, u64, RefT, sliceVal, MutSlice, ShrSlice, tripleOf, Contract, lasts, Sheet, State, Slotted, held, slotted}
+use Rattle.basis.specs.Prelude.{_≡_, ℕ, List, [], _∷_}
+use Rattle.aboard.proofs.Names.{URA, named, Val, SProp, ent, ex, guard, Lft, Share, GName, Fml, ftrue, flft, Memory, Routine, Heap, Atoms, sem, Fun, Given, Item, ‵, _⊛_, ⋆, mean, _$_, _∵_, !, qed, move, join, fjoin, frame, done, owns, u8, u64, RefT, MutSlice, ShrSlice, tripleOf, Contract, lasts, Sheet, State, Slotted, held, slotted}
 use Rattle.sheet.proofs.row.Sheet as Sh
 use Rattle.machine.specs.Answers.{slot as the-slot}
 use Rattle.states.proofs.state.State as St
 use Rattle.states.proofs.slots.Slotted as Sl
 use Rattle.states.proofs.state.State.slot as slot
-use Rattle.aboard.proofs.Inside.Walks.{stv, shv, answers}
+use Rattle.aboard.proofs.Inside.Walks.{stv, shv, lv, answers}
 
 abbrev pub BySlot : {M : Type 1} (𝓤 : URA M) (H : Heap 𝓤) (A : Atoms 𝓤) (mem : Memory → SProp 𝓤) (run : Routine → Fun 𝓤) → Contract 𝓤
 BySlot 𝓤 H A mem run = tripleOf 𝓤 H A slot.signature (slot.spec 𝓤 H A mem run)
@@ -26,10 +26,6 @@ pub record Passed : Type 0 where
   pub h : Sheet
   pub rel : RefT (List ℕ)
   pub cs : RefT (List ℕ)
-
--- the machine value of a list
-abbrev pub lv : RefT (List ℕ) → Val
-lv r = sliceVal (r .ptr) (length (r .now))
 
 -- what the slot answers, with what the codes had last
 abbrev Last : Type 0
