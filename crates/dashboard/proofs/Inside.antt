@@ -1,3 +1,2 @@
 pub mod Boards
-pub mod Lists
 pub mod Reports

@@ -1,11 +1,16 @@
 -- The last line is HOLDS exactly if the bytes are green, and then no job is ever late. Assumes nothing.
-use Rattle.basis.specs.Prelude.{ℕ, zero, suc, _+_, _<_, _≡_, refl, sym, ap, subst, _∙_, Bool, true, false, _⊎_, inl, inr, _↔_, List, [], _∷_, _++_, append-assoc, arith, length}
+use Rattle.basis.specs.Prelude.{ℕ, zero, suc, _+_, _<_, _≡_, refl, sym, ap, subst, _∙_, Bool, true, false, _⊎_, inl, inr, _↔_, List, [], _∷_, _++_, append-assoc, arith, length, drop, length-append, drop-at}
 use Rattle.dashboard.proofs.Names.{accepted, isAccepted, true-not-false, both-left, both-right, reading, Sheet, accepted-is-legal, passes, Word, resultOf, holds, decimal, space, newline, resultWords, lineStart, line, holdsLine, ending, refusedBy, noVerdict, ownLabel, lines, board, verdictText, EndsIn, LastLine, last-digit}
 use Rattle.green.specs.Demand.{NoJobIsLate}
 use Rattle.green.specs.Green.{greenOf}
 use Rattle.green.proofs.Theorem.{no-job-is-late}
-use Rattle.dashboard.proofs.Inside.Lists.{ends-same}
 use Rattle.dashboard.proofs.Outcomes.{accepted-prints-its-rows, refused-prints-one-line, by-outcome}
+
+-- one list has one end of a length
+ends-same : {A : Type 0} (x y a b : List A) → x ++ a ≡ y ++ b → length a ≡ length b → a ≡ b
+ends-same x y a b e l =
+    let n : length y ≡ length x = omega (arith, simp length-append at (ap length e)) in
+    sym (drop-at x a (length x) refl) ∙ ap (drop (length x)) e ∙ drop-at y b (length x) n
 
 module _ (label : ℕ → List ℕ) (result : ℕ → Word) where
   lines-end : (n : ℕ) → (lines label result n ≡ []) ⊎ EndsIn (lines label result n) newline

@@ -1,4 +1,4 @@
--- A value has one spelling: what `groups` accepts is what `spelt` writes, and `groups` accepts that.
+-- A value has one spelling: what `groups` accepts is what `spelt` writes, and `groups` accepts that. Assumes nothing.
 use Rattle.basis.specs.Prelude.{ℕ, zero, suc, _+_, _-_, _*_, _/_, _%_, _^_, _≤_, _<_, _≡_, sym, ap, ap₂, _∙_, _⊎_, ⊎-elim, List, [], _∷_, _++_, append-assoc, arith, add-one, pow-succ', zero-lt-suc, one-le-pow, length, getD, length-append, slice, slice-cons, slice-empty, getD-append-seam, lt-ltb, le-ltb}
 use Rattle.numbers.proofs.Names.{Bytes, Step, ok, after, mostGroups, groups, spelt, number, spell, never-ok, lt-or-le}
 use Rattle.numbers.proofs.Inside.Groups.{one-less, over, last, more, by-group}

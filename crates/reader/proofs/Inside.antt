@@ -4,7 +4,6 @@ pub mod Heads
 pub mod LabelPlaces
 pub mod LabelReader
 pub mod LentParts
-pub mod PartLists
 pub mod Plain
 pub mod RowLoop
 pub mod ShortestSheet

@@ -1,10 +1,17 @@
 -- What is known after a reading into lent lists. Assumes nothing.
-use Rattle.basis.specs.Prelude.{ℕ, _≤_, _<_, _≡_, sym, ap, _∙_, true, List, arith, length, take, le-leb}
-use Rattle.reader.proofs.Names.{upto, Outcome, accepted, refused, orElse, roomFor, handed, room-holds, handed-found, handed-done, handed-outcome, or-nothing, upto-below, length-upto, legal, numberAt, listCell, sheetIn, sheetCell, sheetLong, sheet-in-front, reading, labelIn, labelsLong, labelCell, intoLists, readInto, partIn}
+use Rattle.basis.specs.Prelude.{ℕ, _+_, _*_, _≤_, _<_, _≡_, sym, ap, ap₂, _∙_, true, List, arith, length, take, le-leb}
+use Rattle.reader.proofs.Names.{upto, first-read, second-read, Outcome, accepted, refused, orElse, roomFor, handed, room-holds, handed-found, handed-done, handed-outcome, or-nothing, upto-below, length-upto, legal, numberAt, listCell, sheetIn, sheetCell, sheetLong, sheet-in-front, reading, labelIn, labelsLong, labelCell, intoLists, readInto, partIn}
 use Rattle.basis.proofs.Inside.FirstRefusal.{both-accepted}
 use Rattle.reader.proofs.LegalSheets.{accepted-is-legal}
-use Rattle.reader.proofs.Inside.PartLists.{part-there}
 use Rattle.reader.proofs.Inside.ZeroLists.{Lists, lists, rows-long}
+
+-- a part that was written
+part-there : (s b labels : List ℕ) (n k : ℕ) → b ≡ upto (labelsLong n) (labelCell s) labels → labelsLong n ≤ length labels → k < n → partIn b k ≡ labelIn s k
+unfolding partIn
+part-there s b labels n k e r h =
+    ap₂ (λ (x y : ℕ). record { start = x; long = y })
+    (ap (λ (z : List ℕ). numberAt z (k * 2)) e ∙ first-read (λ j. labelIn s j .start) (λ j. labelIn s j .long) k n labels h r)
+    (ap (λ (z : List ℕ). numberAt z (k * 2 + 1)) e ∙ second-read (λ j. labelIn s j .start) (λ j. labelIn s j .long) k n labels h r)
 
 -- where there is room the outcome is the reader's
 pub outcome-is-the-readers : (s list labels : List ℕ) → sheetLong (reading s .1 .count) ≤ length list → labelsLong (reading s .1 .count) ≤ length labels → readInto s list labels .0 ≡ reading s .0

@@ -2,5 +2,4 @@ pub mod Cells
 pub mod ClearedLists
 pub mod FilledLists
 pub mod ListRows
-pub mod Places
 pub mod Stores

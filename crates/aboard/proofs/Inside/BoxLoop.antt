@@ -93,26 +93,15 @@ module _ (h : Sheet) (rel cs₀ : List ℕ) (first : RunAnswer states.State) (sl
   pub box-ends : slots ≤ j → runAnswer j (outcome x) (held t) cs ≡ course h rel first slots
   box-ends l = let e : j ≡ slots = omega (arith, g .within) in sym (g .so-far) ∙ ap (course h rel first) e
 
-  module _ (l : j < slots) (y : Refusal) (u : State) (ds : List ℕ) (e : slottedIn y u ds ≡ slotAt h (held t) rel cs j) where
+  module _ (l : j < slots) where
     here : course h rel first j ≡ runAnswer j accepted (held t) cs
     here = g .so-far ∙ ap (λ (o : Outcome). runAnswer j o (held t) cs) (g .going l)
 
-    pub box-goes-on : length ds ≡ length cs → isAccepted (outcome y) ≡ true → Going h rel cs₀ first slots (j + 1) y u ds
-    box-goes-on m a = go y refl a
-      where
-        go : (z : Refusal) → y ≡ z → isAccepted (outcome z) ≡ true → Going h rel cs₀ first slots (j + 1) y u ds
-        go Accepted f a =
-            record {
-              within = omega arith;
-              long = m ∙ g .long;
-              so-far = goes-on h rel first j (held t) cs here y (held u) ds e f ∙ ap (λ (o : Outcome). runAnswer (j + 1) o (held u) ds) (sym (ap outcome f));
-              going = λ _. ap outcome f;
-            }
-        go (Refused k p) f a = let z : _≡_ {A = ℕ} 0 1 = cc in absurd (omega arith)
+    pub box-goes-on : (y : Refusal) (u : State) (ds : List ℕ) → slottedIn y u ds ≡ slotAt h (held t) rel cs j → length ds ≡ length cs → isAccepted (outcome y) ≡ true → Going h rel cs₀ first slots (j + 1) y u ds
+    box-goes-on Accepted u ds e m a =
+        record { within = omega arith; long = m ∙ g .long; so-far = goes-on h rel first j (held t) cs here Accepted (held u) ds e refl; going = λ _. refl }
+    box-goes-on (Refused k p) u ds e m a = let z : _≡_ {A = ℕ} 0 1 = cc in absurd (omega arith)
 
-    pub box-stops : isAccepted (outcome y) ≡ false → runAnswer j (outcome y) (held u) ds ≡ course h rel first slots
-    box-stops a = go y refl a
-      where
-        go : (z : Refusal) → y ≡ z → isAccepted (outcome z) ≡ false → runAnswer j (outcome y) (held u) ds ≡ course h rel first slots
-        go Accepted f a = let z : _≡_ {A = ℕ} 0 1 = cc in absurd (omega arith)
-        go (Refused k p) f a = ap (λ (o : Refusal). runAnswer j (outcome o) (held u) ds) f ∙ stops h rel first j (held t) cs here y (held u) ds e slots k p l f
+    pub box-stops : (y : Refusal) (u : State) (ds : List ℕ) → slottedIn y u ds ≡ slotAt h (held t) rel cs j → isAccepted (outcome y) ≡ false → runAnswer j (outcome y) (held u) ds ≡ course h rel first slots
+    box-stops Accepted u ds e a = let z : _≡_ {A = ℕ} 0 1 = cc in absurd (omega arith)
+    box-stops (Refused k p) u ds e a = stops h rel first j (held t) cs here (Refused k p) (held u) ds e slots k p l refl

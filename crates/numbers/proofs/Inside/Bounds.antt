@@ -1,4 +1,4 @@
--- What is known of a number that was read: its bounds, and the places.
+-- What is known of a number that was read: its bounds, and the places. Assumes nothing.
 use Rattle.basis.specs.Prelude.{ℕ, zero, suc, _+_, _/_, _≤_, _<_, _≡_, ap, _∙_, ⊎-elim, List, arith, length, eqb, leb, eqb-false, leb-true}
 use Rattle.numbers.proofs.Names.{ok, give, mostGroups, groups, spelt, number, upToBy, upTo, lt-or-le, never-ok, after-ok, ok-same, passed, not-stopped}
 use Rattle.numbers.proofs.Inside.Groups.{over, by-group}

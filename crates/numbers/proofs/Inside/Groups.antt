@@ -1,4 +1,4 @@
--- Laws of `groups`: a turn of it, by the tests that a reader makes; what a value scaled and added to is.
+-- Laws of `groups`: a turn of it, by the tests that a reader makes; what a value scaled and added to is. Assumes nothing.
 use Rattle.basis.specs.Prelude.{ℕ, zero, suc, _+_, _-_, _*_, _^_, _≤_, _<_, _≡_, refl, sym, ap, _∙_, ⊎-elim, List, arith, zero-lt-suc, not-suc-le-zero, mul-assoc, add-mul, mul-le-mul-left, mul-le-mul-right, one-le-pow, pow-succ', length, getD, lt-ltb, le-ltb}
 use Rattle.numbers.proofs.Names.{mostGroups, Step, ok, refuse, after, groups, lt-or-le, never-ok, after-ok, ok-same}
 

@@ -1,4 +1,4 @@
--- Laws of a label's bytes: a turn of `plain` by the tests that the code makes, and what was read where it accepts.
+-- Laws of a label's bytes: a turn of `plain` by the tests that the code makes, and what was read where it accepts. Assumes nothing.
 use Rattle.basis.specs.Prelude.{ℕ, zero, suc, _+_, _-_, _≤_, _<_, _≡_, sym, ap, ap₂, _∙_, true, ⊎-elim, List, [], _∷_, arith, add-one, length, getD, take, drop, drop-cons, lt-ltb, le-leb, lt-leb}
 use Rattle.reader.proofs.Names.{ok, refuse, mapStep, byte, map-step-after, after-ok, ok-same, passed, byte-ok, lt-or-le, plain, isPlain, nothing}
 

@@ -25,3 +25,10 @@ module _ (l : List ℕ) (rows : List Row) (i : ℕ) (so-far : rows ≡ upto i (r
 pub row-in-sheet : (l : List ℕ) (k : ℕ) → k < mostRows → rowAt (sheetIn l) k ≡ rowIn l k
 unfolding sheetIn
 row-in-sheet l k h = upto-below mostRows (rowIn l) (noRows mostRows) noRow k h (le-refl mostRows)
+
+-- `row_inside`
+pub numbers-handed : (l : List ℕ) (k : ℕ) → k < mostRows → _≡_ {A = Row}
+    (record { threads = numberAt l (k * 4 + 2); separation = numberAt l (k * 4 + 3); deadline = numberAt l (k * 4 + 4); budget = numberAt l (k * 4 + 5) })
+    (rowAt (sheetIn l) k)
+unfolding rowIn
+numbers-handed l k b = sym (row-in-sheet l k b)

@@ -7,14 +7,8 @@ use Rattle.bound.proofs.results.results_of as this
 abbrev Inv-loop : this.Tie.InvT-loop
 Inv-loop results refusal holds rows₀ i₀ rows i = (i ≤ mostRows) × (map wordIn rows ≡ upto i (wordAt results) allUnreached)
 
-abbrev μ-loop : this.Tie.MeasureT-loop
-μ-loop results refusal holds rows₀ i₀ rows i = mostRows - i
-
-loop-holds : this.Tie.Need-loop-holds Inv-loop μ-loop
-unfolding upto
-loop-holds c = (search needs, refl)
-
 pub results-of-spec : {M : Type 1} → this.Statement.statement M
+unfolding upto
 results-of-spec =
-    this.Tie.close (this.Tie.spec Inv-loop μ-loop loop-holds (λ c κs. search needs) (λ c. search needs) (λ c. search needs) (λ c. search needs)
+    this.Tie.close (this.Tie.spec Inv-loop (λ results refusal holds rows₀ i₀ rows i. mostRows - i) (λ c. (search needs, refl)) (λ c κs. search needs) (λ c. search needs) (λ c. search needs) (λ c. search needs)
     (λ c. search needs) (λ c. (search needs, search rows-more)) (λ c. search rows-done))

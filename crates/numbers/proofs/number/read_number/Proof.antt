@@ -1,3 +1,4 @@
+-- `read_number` meets its promise: the loop has a value of the groups so far, to which the groups that are left are added. Assumes nothing.
 use Rattle.basis.specs.Prelude.{needs, arith, _-_, _*_, _^_, _≤_, _<_, getD, _≡_}
 use denote.Ref.{now}
 use Rattle.numbers.proofs.Names.{mostGroups, groups, number}

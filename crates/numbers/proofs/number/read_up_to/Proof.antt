@@ -1,3 +1,4 @@
+-- `read_up_to` meets its promise: a number, then the tests of its range. Assumes nothing.
 use Rattle.basis.specs.Prelude.{needs, sym, ap, _∙_, eq-eqb, ne-eqb, le-leb, lt-leb}
 use Rattle.numbers.specs.Numbers.{step, upToBy}
 use Rattle.numbers.proofs.number.read_up_to as this

@@ -1,3 +1,4 @@
+-- `is_legal_head` says whether m and n are within their ranges. Assumes nothing.
 use Rattle.basis.proofs.Inside.Tests.{tests}
 use Rattle.sheet.proofs.legal.is_legal_head as this
 

@@ -1,3 +1,4 @@
+-- `is_legal_row` says whether a row is within its ranges. Assumes nothing.
 use Rattle.sheet.proofs.Names.{legalRow, tests}
 use Rattle.sheet.proofs.legal.is_legal_row as this
 

@@ -1,3 +1,4 @@
+-- `rows_are_legal` says whether all rows are: the loop has found the first i so. Assumes nothing.
 use Rattle.basis.specs.Prelude.{needs, _≤_, _-_, _≡_, refl, true, length}
 use Rattle.sheet.proofs.Names.{mostRows, allOf, sheetIn, sheetLong, legalRows}
 use Rattle.sheet.proofs.Ranges.{rows-legal-more, rows-legal-fails, rows-legal-done}
