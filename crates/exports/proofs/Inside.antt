@@ -1,7 +1,6 @@
 pub mod Bounds
 pub mod BoxAnswers
 pub mod Calls
-pub mod Copies
 pub mod Fields
 pub mod NumberAnswers
 pub mod Texts

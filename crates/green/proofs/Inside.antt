@@ -1,5 +1,4 @@
 pub mod Chains
-pub mod Codes
 pub mod Ends
 pub mod Invariant
 pub mod Potential

@@ -3,7 +3,6 @@ pub mod Handover
 pub mod Heads
 pub mod LabelPlaces
 pub mod LabelReader
-pub mod LentParts
 pub mod Plain
 pub mod RowLoop
 pub mod ShortestSheet

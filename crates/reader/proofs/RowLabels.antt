@@ -1,8 +1,9 @@
 -- The laws of a label: where it is not empty it is 1 to 16 bytes of 21..7E inside the sheet, the very label that was read; and it is empty exactly where
 -- the reader refuses or the row number is n or more. Assumes nothing.
-use Rattle.basis.specs.Prelude.{ℕ, _+_, _≤_, _<_, _≡_, refl, sym, ap, _∙_, true, _⊎_, inl, inr, ⊎-elim, _↔_, List, [], map, arith, not-suc-le-zero, length, getD, take, drop, ltb, lt-ltb, le-ltb}
-use Rattle.reader.proofs.Names.{longestLabel, accepted, refused, Step, ok, refuse, ok-same, lt-or-le, bounded, Held, entryLabel, isPlain, sheet, labelHead, readingOf, reading, nowhere, rowsRead, partAfter, labelIn, Part}
+use Rattle.basis.specs.Prelude.{ℕ, _+_, _≤_, _<_, _≡_, refl, sym, ap, _∙_, true, _⊎_, inl, inr, ⊎-elim, _↔_, List, [], map, arith, not-suc-le-zero, length, getD, take, drop, ltb, lt-ltb, le-ltb, _-_, _^_, add-sub-cancel-left, w64, Fits}
+use Rattle.reader.proofs.Names.{longestLabel, accepted, refused, Step, ok, refuse, ok-same, lt-or-le, bounded, Held, entryLabel, isPlain, sheet, labelHead, readingOf, reading, nowhere, rowsRead, partAfter, labelIn, Part, part}
 use Rattle.basis.specs.Words.{pick}
+use denote.Ref.{RefT}
 use Rattle.reader.proofs.Inside.LabelPlaces.{found}
 
 -- the part p of the bytes s is the label of row i
@@ -52,3 +53,20 @@ no-such-row s i = go (sheet s 0) refl
         differ : {k p : ℕ} → accepted ≡ refused k p → ⊥
         differ q = let z : _≡_ {A = ℕ} 0 1 = cc in omega arith
     go (refuse k p) e = (λ l. inl (k, p, refl), λ r. omega arith)
+
+-- ---- what a part of the bytes shows
+
+-- a label lies within the bytes
+pub label-in-bytes : (s : List ℕ) (i : ℕ) → labelIn s i .start + labelIn s i .long ≤ length s
+label-in-bytes s i = ⊎-elim (λ l. label-of-row s i l .inside) (λ l. rw (no-label s i l) (omega arith)) (lt-or-le i (rowsRead (sheet s 0)))
+
+module _ (s : RefT (List ℕ)) (i : ℕ) (p : Part) (e : p ≡ labelIn (s .now) i) where
+  pub part-fits : p .start + p .long ≤ length (s .now)
+  part-fits = rw e (label-in-bytes (s .now) i)
+
+  -- so that its end is a place
+  pub part-ends : length (s .now) < 2 ^ 64 → Fits w64 (p .start + p .long)
+  part-ends b = record { fits = omega (arith, part-fits) }
+
+  pub part-shown : ((s .ptr .0, p .start + s .ptr .1), take (p .start + p .long - p .start) (drop (p .start) (s .now))) ≡ part s (labelIn (s .now) i)
+  part-shown = rw add-sub-cancel-left (ap (part s) e)

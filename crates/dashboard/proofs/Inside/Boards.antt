@@ -2,7 +2,7 @@
 use Rattle.basis.specs.Prelude.{ℕ, zero, suc, _+_, _-_, _*_, _^_, _≤_, _<_, _≡_, refl, ap, ap₂, _∙_, Bool, List, _++_, add-one, le-antisymm, add-sub-cancel-left, arith, length, ne-eqb, take, drop, w64, Fits}
 use Rattle.dashboard.proofs.Names.{numberAt, Sheet, labelIn, partIn, passes, Word, resultOf, holds, wordAt, decimal, boundWord, noneWord, unreachedWord, resultWords, line, ending, ownLabel, numbered, lineLabel, LabelsLie, Own, Numbered, lines, board, Page, said, two-said}
 use Rattle.reader.specs.declared.row.Part.{Part}
-use Rattle.reader.proofs.Inside.LentParts.{inside}
+use Rattle.reader.proofs.RowLabels.{label-in-bytes}
 use Rattle.dashboard.specs.declared.line.Labels.{Labels}
 
 -- ---- a line
@@ -18,7 +18,7 @@ module _ (s parts : List ℕ) (i : ℕ) (e : partIn parts i ≡ labelIn s i) whe
   lasts = ap (λ (p : Part). p .long) e
 
   pub label-inside : numberAt parts (i * 2) + numberAt parts (i * 2 + 1) ≤ length s
-  label-inside = omega (arith, starts, lasts, inside s i)
+  label-inside = omega (arith, starts, lasts, label-in-bytes s i)
 
   pub label-ends : length s < 2 ^ 64 → Fits w64 (numberAt parts (i * 2) + numberAt parts (i * 2 + 1))
   label-ends b = record { fits = omega (arith, label-inside) }

@@ -1,11 +1,23 @@
 -- Accepted slots one after another, each from the state that the one before it left; and that those of the first n rows are in time where these have bounds. Assumes nothing.
-use Rattle.basis.specs.Prelude.{ℕ, zero, suc, _+_, _≤_, _<_, _≡_, refl, sym, ap, _∙_, _⊎_, inl, inr, ⊎-elim, List, [], _∷_, _++_, arith, getD}
-use Rattle.green.proofs.Names.{accepted, rowAt, Legal, Sheet, State, recordAt, RowState, begun, runs, reached, code, checkReleases, given, nextState, four-says, LegalState, next-at, ended-else, Done, Bounded}
+use Rattle.basis.specs.Prelude.{ℕ, zero, suc, _+_, _≤_, _<_, _≡_, refl, sym, ap, _∙_, _⊎_, inl, inr, ⊎-elim, List, [], _∷_, _++_, arith, getD, Bool, true, false, lt-ltb, le-ltb}
+use Rattle.green.proofs.Names.{accepted, rowAt, Legal, Sheet, State, recordAt, RowState, begun, runs, reached, code, checkReleases, given, nextState, four-says, LegalState, next-at, ended-else, Done, Bounded, pick, Row, Job, codeOf, code-is, goes-on}
 use Rattle.green.specs.Inside.Model.{age, Reached, slot}
 use Rattle.green.proofs.Sheets.{rowsOf, ranges, safe}
 use Rattle.green.proofs.Soundness.{slot-within-bound}
 use Rattle.green.proofs.Slots.{momentOf, ran, slot-is, reached-remaining, reached-since, next-since}
-use Rattle.green.proofs.Inside.Codes.{finished-code, going-code}
+
+module _ (row : Row) (ran : Bool) (before after : Job) where
+  -- nothing is left: 3
+  finished-code : 1 ≤ before .remaining → after .remaining ≡ 0 → codeOf row ran before after ≡ 3
+  finished-code h e = code-is row ran before after ∙ simp (lt-ltb 0 (before .remaining) h, le-ltb 0 (after .remaining) (omega arith))
+
+  -- something is left, and it is not the deadline: 1 or 2
+  going-code : 1 ≤ before .remaining → 1 ≤ after .remaining → (after .since ≡ row .deadline → ⊥) → (codeOf row ran before after ≡ 1) ⊎ (codeOf row ran before after ≡ 2)
+  going-code h g d = ⊎-elim (λ e. inl (goes-on row ran before after h g d ∙ e)) (λ e. inr (goes-on row ran before after h g d ∙ e)) (one-or-two ran)
+    where
+      one-or-two : (b : Bool) → (_≡_ {A = ℕ} (pick b 2 1) 1) ⊎ (_≡_ {A = ℕ} (pick b 2 1) 2)
+      one-or-two true = inr refl
+      one-or-two false = inl refl
 
 -- an accepted slot from a state: what it was checked for, and the codes that it wrote
 pub record Slotted (h : Sheet) (t : State) (d : Done) : Type 0 where

@@ -1,6 +1,6 @@
 -- `label` meets its promise: it shows the part. Assumes nothing.
 use Rattle.basis.specs.Prelude.{needs}
-use Rattle.reader.proofs.Inside.LentParts.{part-fits, part-ends, part-shown}
+use Rattle.reader.proofs.RowLabels.{part-fits, part-ends, part-shown}
 use Rattle.reader.proofs.labels.label as this
 
 pub label-spec : {M : Type 1} → this.Statement.statement M
