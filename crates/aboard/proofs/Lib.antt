@@ -1,4 +1,3 @@
-pub mod RefusedSlots
 pub mod Same
 pub mod Wrong
 pub mod Inside

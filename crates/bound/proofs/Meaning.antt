@@ -1,5 +1,4 @@
--- What the definitions mean, for any test that looks at no lower row: a bound is the smallest length that passes, none is that no length passes, and not reached is
--- every row after the first none. Assumes nothing.
+-- What the definitions mean, for any test that looks at no lower row: the smallest length that passes, no length passes, and every row after the first none. Assumes nothing.
 use Rattle.basis.specs.Prelude.{ℕ, zero, suc, _+_, _*_, _≤_, _<_, _≡_, refl, sym, ap, _∙_, Bool, true, false, mul-le-mul, arith, ltb, lt-ltb}
 use Rattle.bound.proofs.Names.{sum, allOf, true-not-false, all-fails, rowAt, Legal, Sheet, slots, Test, q, X, amounts, room, passes, Word, bound, none, unreached, isBound, valueOf, passesAt, boundBy, bounds, bounded, judge, resultsTo, resultOf, holds, Duration}
 use Rattle.bound.proofs.Inside.Lengths.{never, Smallest, least-hit, least-found, smallest-is-least, none-holds, none-is-least, least-never-unreached}

@@ -1,5 +1,4 @@
--- A stretch of lengths is decided at its two ends: where the sum of straight lines that the rows above are never below reaches the room at both, every length between
--- fails; and the step over such a stretch. Assumes nothing.
+-- A stretch of lengths is decided at its two ends, by straight lines that the rows above are never below; and the step over such a stretch. Assumes nothing.
 use Rattle.basis.specs.Prelude.{ℕ, _+_, _*_, _-_, _≤_, _<_, _≡_, sym, _∙_, Bool, true, false, mul-le-mul-left, le-of-mul-le-mul-left, arith, ltb-true, ltb, Fits, w64}
 use Rattle.bound.proofs.Names.{rowAt, Row, Sheet, widestSeparation, slots, plus, q, X, amountOf, room, Ready, Length, Skips, way, Stretches, Along, amountAlong, RowMeets, RowsMeet, AllFail, Duration, Amount, FineAmount, Stretch}
 use Rattle.bound.specs.declared.stretch.Ends.{Ends}

@@ -1,7 +1,6 @@
 pub mod Back
 pub mod ListCalls
 pub mod Refusals
-pub mod Meaning
 pub mod Same
 pub mod Wrong
 pub mod WrongFurther

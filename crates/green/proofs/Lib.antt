@@ -7,7 +7,6 @@ pub mod Refutation
 pub mod Sheets
 pub mod Slots
 pub mod Soundness
-pub mod Wrong
 pub mod WrongAnswers
 pub mod Inside
 mod Names

@@ -1,6 +1,6 @@
 -- Wrong answers of green and wrong histories are shut out: on the bytes of sheets C and D, and on runs of sheet D. Assumes nothing.
-use Rattle.basis.specs.Prelude.{ℕ, zero, suc, _+_, _<_, _≡_, refl, List, [], _∷_, arith, length}
-use Rattle.green.proofs.Names.{allOf, sum, firstOf, upto, legal, legalAt, legalRow, holds, resultOf, resultsTo, judge, boundBy, least, sheetD, legalJob, isZeroJob, released, fits, freeBelow, worked, older, aged, missed, ended, codeOf, checkRow, freshState, legalState, freeAt, checkReleases, checkState, checkRoom, checkSlot, checkRun, fresh, given, nextState, nextCodes, slot, slotAt, onward, course, run, Done, freshOf, runDone, history, codeIn, FinishedWithin, InTime, greenOf, boxDone, tight, bytesC, bytesD, alwaysGreen, neverGreen, greenIfRead, slotsOnce, slotsAll, historyBy, tooSoon, boxSwapped, oneSlotRan, StuckSlots, no-more, once-more, stuck}
+use Rattle.basis.specs.Prelude.{ℕ, zero, suc, _+_, _<_, _≡_, refl, List, [], _∷_, arith, length, true, false}
+use Rattle.green.proofs.Names.{allOf, sum, firstOf, upto, legal, legalAt, legalRow, holds, resultOf, resultsTo, judge, boundBy, least, sheetD, legalJob, isZeroJob, released, fits, freeBelow, worked, older, aged, missed, ended, codeOf, checkRow, freshState, legalState, freeAt, checkReleases, checkState, checkRoom, checkSlot, checkRun, fresh, given, nextState, nextCodes, slot, slotAt, onward, course, run, Done, freshOf, runDone, history, codeIn, FinishedWithin, InTime, greenOf, boxDone, tight, bytesC, bytesD, alwaysGreen, neverGreen, greenIfRead, slotsOnce, slotsAll, historyBy, tooSoon, boxSwapped, oneSlotRan, StuckSlots, no-more, once-more, stuck, atMost, shortW, longX, wideQ, twoOnes, bothReleased}
 use Rattle.basis.specs.Readers.{begins}
 use Rattle.basis.specs.declared.refusal.Refusal.the-variants.{Accepted}
 use Rattle.basis.specs.Faults.{NoneMeets}
@@ -86,3 +86,15 @@ stuck-slots-are-late t = go (f .later) (f .within) (f .finished)
     go (suc (suc zero)) l e = let z : _≡_ {A = ℕ} 0 3 = e in omega arith
     go (suc (suc (suc zero))) l e = let z : _≡_ {A = ℕ} 0 3 = e in omega arith
     go (suc (suc (suc (suc n)))) l e = omega arith
+
+-- ---- wrong tests: the sheet of two rows (1,1,1,1) on one processor holds by each of them, and its second row misses its deadline
+
+-- each wrong test says that the sheet holds, and the test of 01 that it does not
+pub wrong-tests-pass : (holds atMost twoOnes ≡ true) × (holds shortW twoOnes ≡ true) × (holds longX twoOnes ≡ true) × (holds wideQ twoOnes ≡ true) × (holds passes twoOnes ≡ false)
+unfolding holds resultOf resultsTo judge boundBy least allOf sum atMost shortW longX wideQ passes amounts amountOf durationOf room q X x W
+wrong-tests-pass = (refl, refl, refl, refl, refl)
+
+-- and row 1 has a code 4 in the first slot
+pub second-row-misses : codeIn (history twoOnes (freshOf twoOnes) bothReleased) 0 1 ≡ 4
+unfolding history runDone fresh given nextState nextCodes slot slotAt onward course run checkRow checkReleases checkState checkRoom checkSlot checkRun released fits freeBelow freeAt worked older aged missed ended codeOf freshState legalState legalJob isZeroJob states.legalRecordAt legal legalAt legalRow firstOf upto allOf
+second-row-misses = refl

@@ -1,5 +1,4 @@
--- The laws of a label: where it is not empty it is 1 to 16 bytes of 21..7E inside the sheet, the very label that was read; and it is empty exactly where
--- the reader refuses or the row number is n or more. Assumes nothing.
+-- The laws of a label: 1 to 16 bytes of 21..7E inside the sheet, the very label that was read, or empty: exactly where the reader refuses or the row number is n or more. Assumes nothing.
 use Rattle.basis.specs.Prelude.{ℕ, _+_, _≤_, _<_, _≡_, refl, sym, ap, _∙_, true, _⊎_, inl, inr, ⊎-elim, _↔_, List, [], map, arith, not-suc-le-zero, length, getD, take, drop, ltb, lt-ltb, le-ltb, _-_, _^_, add-sub-cancel-left, w64, Fits}
 use Rattle.reader.proofs.Names.{longestLabel, accepted, refused, Step, ok, refuse, ok-same, lt-or-le, bounded, Held, entryLabel, isPlain, sheet, labelHead, readingOf, reading, nowhere, rowsRead, partAfter, labelIn, Part, part}
 use Rattle.basis.specs.Words.{pick}

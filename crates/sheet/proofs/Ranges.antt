@@ -31,6 +31,10 @@ missing-rows-are-refused l h = not-so (legal (sheetIn l)) (λ e.
     let z = List·getD-eq-default l 0 {n = k * 4 + 5} (omega arith) in
     omega (arith, r .rows k (omega arith) .some-budget, ap (λ (row : Row). row .budget) (row-in-sheet l k (omega arith)), z))
 
+-- A list of no number or of one hands over no sheet.
+pub short-lists-are-refused : (l : List ℕ) → length l < 2 → legal (sheetIn l) ≡ false
+short-lists-are-refused l h = missing-rows-are-refused l (omega arith)
+
 -- so that the list of a legal sheet has room for its rows
 pub legal-sheet-long : (l : List ℕ) (n : ℕ) → legal (sheetIn l) ≡ true → n ≡ sheetIn l .count → sheetLong n ≤ length l
 unfolding sheetIn

@@ -1,5 +1,4 @@
--- Laws of the workload: it never falls, a slot more adds one at most, a period more adds a budget, a job that runs keeps pace, and within a period it never
--- falls below the straight line between two of its values. Assumes nothing.
+-- Laws of the workload: it never falls; a slot more, a period more, a job that runs; and within a period the straight line that it is never below. Assumes nothing.
 use Rattle.basis.specs.Prelude.{_≡_, ap, subst, _⊎_, ⊎-elim, ℕ, zero, suc, _+_, _*_, _-_, _/_, _%_, _≤_, _<_, min, add-zero, add-suc, add-sub-of-le, mod-lt, div-add-mod', eq-or-lt-of-le, le-of-lt, mul-le-mul-left, arith}
 use lib.Arith.{digits-div, digits-mod}
 use Rattle.basis.specs.Workload.{ω}
