@@ -1,5 +1,6 @@
 -- Equal answers: any two answers that a promise allows are equal, and a refused slot leaves all as found. Assumes nothing.
-use Rattle.basis.specs.Prelude.{ℕ, _≡_, sym, ap, _∙_, List}
+use Rattle.basis.specs.Prelude.{ℕ, _≡_, ap, List}
+use Rattle.basis.proofs.Same.{same}
 use Rattle.aboard.proofs.Names.{Refusal, Sheet, State, Ran, SlotAnswer, fresh, slot, run, held, ran, held-one-to-one, ran-one-to-one, slottedIn, Refused, refused-as-found}
 use Rattle.basis.proofs.Refusals.{outcome-one-to-one}
 use Rattle.machine.specs.States as states
@@ -14,12 +15,12 @@ slotted-in-one-to-one a b t u cs ds e = (
 
 pub slot-in-same : (h : Sheet) (t : State) (rel before : List ℕ) (a b : Refusal) (t₁ t₂ : State) (cs ds : List ℕ)
     → slottedIn a t₁ cs ≡ slot h (held t) rel before → slottedIn b t₂ ds ≡ slot h (held t) rel before → (a ≡ b) × (t₁ ≡ t₂) × (cs ≡ ds)
-slot-in-same h t rel before a b t₁ t₂ cs ds e f = slotted-in-one-to-one a b t₁ t₂ cs ds (e ∙ sym f)
+slot-in-same h t rel before a b t₁ t₂ cs ds e f = slotted-in-one-to-one a b t₁ t₂ cs ds (same (slot h (held t) rel before) _ _ e f)
 
 -- `box_run`: the answer, and the code buffer after it
 pub box-run-same : (h : Sheet) (rel before : List ℕ) (a b : Ran) (cs ds : List ℕ)
     → ran a cs ≡ run h (fresh h .state) rel before → ran b ds ≡ run h (fresh h .state) rel before → (a ≡ b) × (cs ≡ ds)
-box-run-same h rel before a b cs ds e f = ran-one-to-one a b cs ds (e ∙ sym f)
+box-run-same h rel before a b cs ds e f = ran-one-to-one a b cs ds (same (run h (fresh h .state) rel before) _ _ e f)
 
 -- a lent slot that is refused leaves the state and every code
 pub refused-leaves-all-as-found : (h : Sheet) (t : State) (rel cs : List ℕ) (a b : ℕ) (u : State) (ds : List ℕ) → slottedIn (Refused a b) u ds ≡ slot h (held t) rel cs → (u ≡ t) × (ds ≡ cs)

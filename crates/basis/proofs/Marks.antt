@@ -1,5 +1,6 @@
 -- Laws of `begins`: a turn of the loop that compares the bytes with a mark, i of them so far, and equal answers. Assumes nothing.
 use Rattle.basis.specs.Prelude.{ℕ, suc, _+_, _≤_, _<_, _≡_, sym, ap₂, _∙_, List, _∷_, Bool, true, false, add-one, length, getD, drop, drop-of-length-le, drop-cons, eq-eqb, ne-eqb}
+use Rattle.basis.proofs.Same.{same}
 use Rattle.basis.specs.Readers.{begins}
 
 module _ (m s : List ℕ) (i : ℕ) (so-far : begins m s ≡ begins (drop i m) (drop i s)) where
@@ -28,4 +29,4 @@ module _ (m s : List ℕ) (i : ℕ) (so-far : begins m s ≡ begins (drop i m) (
 
 -- `begins_with`
 pub begins-with-same : (m s : List ℕ) (a b : Bool) → a ≡ begins m s → b ≡ begins m s → a ≡ b
-begins-with-same m s a b e f = e ∙ sym f
+begins-with-same m s = same (begins m s)

@@ -1,6 +1,6 @@
 -- Laws of refusals: an outcome stands for one answer of the code, and two answers that a promise allows are equal. Assumes nothing.
-use Rattle.basis.specs.Prelude.{_≡_, refl, sym, _∙_, Bool, true, false, leb, leb-true, ℕ, _≤_, arith}
-use Rattle.basis.specs.Refusals.{Outcome, accepted, refused, outcome, isAccepted, orElse, needed, roomFor, handed}
+use Rattle.basis.specs.Prelude.{_≡_, refl, Bool, true, false, leb, leb-true, ℕ, _≤_, arith}
+use Rattle.basis.specs.Refusals.{Outcome, accepted, refused, outcome, orElse, needed, roomFor, handed}
 use Rattle.basis.specs.declared.refusal.Refusal.{Refusal}
 use Rattle.basis.specs.declared.refusal.Refusal.the-variants.{Accepted, Refused}
 
@@ -9,10 +9,6 @@ outcome-one-to-one Accepted Accepted e = refl
 outcome-one-to-one Accepted (Refused k p) e = let z : _≡_ {A = ℕ} 0 1 = cc in absurd (omega arith)
 outcome-one-to-one (Refused k p) Accepted e = let z : _≡_ {A = ℕ} 0 1 = cc in absurd (omega arith)
 outcome-one-to-one (Refused k p) (Refused j q) e = cc
-
--- `is_accepted`
-pub is-accepted-same : (r : Refusal) (a b : Bool) → a ≡ isAccepted (outcome r) → b ≡ isAccepted (outcome r) → a ≡ b
-is-accepted-same r a b e f = e ∙ sym f
 
 -- a test that was needed, and nothing is refused
 pub needed-holds : (t : Bool) (n : ℕ) → needed t n ≡ accepted → t ≡ true

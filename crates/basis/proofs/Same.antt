@@ -1,6 +1,6 @@
 -- Two answers that one promise allows are equal. Assumes nothing.
-use Rattle.basis.specs.Prelude.{_≡_, sym, ap, _∙_}
-use Rattle.basis.specs.Refusals.{Outcome, outcome}
+use Rattle.basis.specs.Prelude.{_≡_, sym, ap, _∙_, Bool}
+use Rattle.basis.specs.Refusals.{Outcome, outcome, isAccepted}
 use Rattle.basis.specs.declared.refusal.Refusal.{Refusal}
 use Rattle.basis.proofs.Refusals.{outcome-one-to-one}
 
@@ -23,3 +23,7 @@ pub outcome-same : {A : Type 0} (x : Outcome × A) (a b : Refusal) (m n : A) →
 outcome-same x a b m n e f =
     let (o, h) = pair-same x (outcome a) (outcome b) m n e f in
     (outcome-one-to-one a b o, h)
+
+-- `is_accepted`
+pub is-accepted-same : (r : Refusal) (a b : Bool) → a ≡ isAccepted (outcome r) → b ≡ isAccepted (outcome r) → a ≡ b
+is-accepted-same r = same (isAccepted (outcome r))

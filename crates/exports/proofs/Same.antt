@@ -1,5 +1,5 @@
 -- Equal answers: any two answers that the promise of a call allows are equal. Assumes nothing.
-use Rattle.basis.specs.Prelude.{ℕ, _≡_, sym, _∙_, Bool, true, List}
+use Rattle.basis.specs.Prelude.{ℕ, _≡_, Bool, true, List}
 use Rattle.basis.proofs.Same.{same}
 use lib.IntN.{ℤ}
 use Rattle.exports.proofs.Names.{reading, NoJobIsLate, legal, sheetIn, numberOn, upToOn, fixedIn, boxOn, verdictIn, readIn, labelAnswer, boundsIn, freshIn, slotOn, runOn, marginIn}
@@ -39,7 +39,7 @@ verdict-same s text long = same (verdictIn s text long)
 
 -- `giachimu_green`: yes or no.
 pub green-same : (s : List ℕ) (a b : Bool) → (a ≡ greenOf s) × (a ≡ true → NoJobIsLate (reading s .1)) → (b ≡ greenOf s) × (b ≡ true → NoJobIsLate (reading s .1)) → a ≡ b
-green-same s a b e f = e .0 ∙ sym (f .0)
+green-same s a b e f = same (greenOf s) a b (e .0) (f .0)
 
 -- `giachimu_number`: the number and the place, the value and the place after it.
 pub number-same : (s : List ℕ) (at : ℕ) (found : ℕ × ℕ) (a b : (ℕ × ℕ) × (ℕ × ℕ)) → a ≡ numberOn s at found → b ≡ numberOn s at found → a ≡ b

@@ -1,5 +1,4 @@
--- Demand 3: on a legal sheet whose first n rows have bounds, from a fresh machine, whatever calls follow, each of their jobs is finished within its row's bound and
--- none of their deadlines is missed; all rows have bounds where the sheet holds. Assumes nothing.
+-- Demand 3: on a legal sheet whose first n rows have bounds, all of them where it holds, from a fresh machine, whatever calls follow: their jobs are finished within their bounds, and none is late. Assumes nothing.
 use Rattle.basis.specs.Prelude.{ℕ, _+_, _-_, _≤_, _<_, _≡_, sym, _∙_, true, List, arith, replicate, length-replicate, le-ltb}
 use lib.IntN.{pos}
 use Rattle.green.proofs.Names.{mostRows, upto-below, rowAt, legal, Sheet, passes, isBound, valueOf, resultOf, holds, passes-local, bound-all, recordAt, freshAt, freshState, Job, noRecord, fresh, marginOf, Reached, Call, freshOf, history, stateAfterAll, NoJobIsLateTo, NoJobIsLate, Bounded}

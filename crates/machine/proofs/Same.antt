@@ -1,6 +1,6 @@
 -- Equal answers: what an answer stands for is one value of the code, and any two answers that a promise allows are equal. Assumes nothing.
-use Rattle.basis.specs.Prelude.{ℕ, _≡_, refl, sym, _∙_, List, arith}
-use Rattle.basis.proofs.Same.{same-by}
+use Rattle.basis.specs.Prelude.{ℕ, _≡_, refl, List, arith}
+use Rattle.basis.proofs.Same.{same, same-by}
 use Rattle.machine.proofs.Names.{outcome, Refusal, outcome-one-to-one, sheetIn, Done, stateIn, freshOn, slotIn, runIn, ranIn, checkSlot, checkRun, freshAnswer, slotAnswer, marginAnswer, margin}
 use Rattle.machine.specs.declared.margins.Margin.{Margin}
 use Rattle.machine.specs.declared.margins.Margin.the-variants.{NoJob, Is, Refused}
@@ -8,7 +8,7 @@ use Rattle.machine.specs.declared.margins.Margin.the-variants.{NoJob, Is
 -- `fresh_on`: the refusal, and the list after it
 pub fresh-on-same : (sheet list : List ℕ) (a b : Refusal) (l m : List ℕ) → freshAnswer (outcome a) l ≡ freshOn (sheetIn sheet) list → freshAnswer (outcome b) m ≡ freshOn (sheetIn sheet) list → (a ≡ b) × (l ≡ m)
 fresh-on-same sheet list a b l m e f =
-    let g : freshAnswer (outcome a) l ≡ freshAnswer (outcome b) m = e ∙ sym f in (outcome-one-to-one a b (λ i. g i .outcome), λ i. g i .state)
+    let g = same (freshOn (sheetIn sheet) list) (freshAnswer (outcome a) l) (freshAnswer (outcome b) m) e f in (outcome-one-to-one a b (λ i. g i .outcome), λ i. g i .state)
 
 -- `slot_on`: the refusal, the list and the code buffer after it
 pub listed-one-to-one : (a b : Refusal) (l m cs ds : List ℕ) → slotAnswer (outcome a) l cs ≡ slotAnswer (outcome b) m ds → (a ≡ b) × (l ≡ m) × (cs ≡ ds)
@@ -16,7 +16,7 @@ listed-one-to-one a b l m cs ds e = (outcome-one-to-one a b (λ i. e i .outcome)
 
 pub slot-on-same : (sheet list rel before : List ℕ) (a b : Refusal) (l m cs ds : List ℕ)
     → slotAnswer (outcome a) l cs ≡ slotIn (sheetIn sheet) list rel before → slotAnswer (outcome b) m ds ≡ slotIn (sheetIn sheet) list rel before → (a ≡ b) × (l ≡ m) × (cs ≡ ds)
-slot-on-same sheet list rel before a b l m cs ds e f = listed-one-to-one a b l m cs ds (e ∙ sym f)
+slot-on-same sheet list rel before a b l m cs ds e f = listed-one-to-one a b l m cs ds (same (slotIn (sheetIn sheet) list rel before) _ _ e f)
 
 -- `run_on`: the answer, the list and the code buffer after it
 pub done-one-to-one : (a b : Done) (l m cs ds : List ℕ) → ranIn a l cs ≡ ranIn b m ds → (a ≡ b) × (l ≡ m) × (cs ≡ ds)
@@ -25,7 +25,7 @@ done-one-to-one a b l m cs ds e =
 
 pub run-on-same : (sheet list rel before : List ℕ) (a b : Done) (l m cs ds : List ℕ)
     → ranIn a l cs ≡ runIn (sheetIn sheet) list rel before → ranIn b m ds ≡ runIn (sheetIn sheet) list rel before → (a ≡ b) × (l ≡ m) × (cs ≡ ds)
-run-on-same sheet list rel before a b l m cs ds e f = done-one-to-one a b l m cs ds (e ∙ sym f)
+run-on-same sheet list rel before a b l m cs ds e f = done-one-to-one a b l m cs ds (same (runIn (sheetIn sheet) list rel before) _ _ e f)
 
 -- what is told of a margin
 pub margin-one-to-one : (a b : Margin) → marginAnswer a ≡ marginAnswer b → a ≡ b

@@ -1,5 +1,5 @@
 -- Equal answers of the reader and of the labels. Assumes nothing.
-use Rattle.basis.specs.Prelude.{ℕ, _≡_, sym, ap, _∙_, List}
+use Rattle.basis.specs.Prelude.{ℕ, _≡_, ap, List}
 use denote.Ref.{RefT}
 use Rattle.reader.proofs.Names.{Outcome, outcome, outcome-one-to-one, outcomeAndSheet, reading, shown, part, labelIn, labelsIn, readInto, Part, Parts, Sheet}
 use Rattle.basis.specs.declared.refusal.Refusal.{Refusal}
@@ -26,7 +26,7 @@ label-part-same s i = same (labelIn s i)
 
 -- `label_parts`
 pub label-parts-same : (s : List ℕ) (a b : Parts) → a .parts ≡ labelsIn s → b .parts ≡ labelsIn s → a ≡ b
-label-parts-same s a b e f = ap (λ (l : List Part). record { parts = l }) (e ∙ sym f)
+label-parts-same s a b e f = ap (λ (l : List Part). record { parts = l }) (same (labelsIn s) (a .parts) (b .parts) e f)
 
 -- `read_into`: the same outcome and the same lists
 pub read-into-same : (s list labels : List ℕ) (a b : Refusal) (l b₁ l′ b₂ : List ℕ) → _≡_ {A = Outcome × (List ℕ × List ℕ)} (outcome a, (l, b₁)) (readInto s list labels) → _≡_ {A = Outcome × (List ℕ × List ℕ)} (outcome b, (l′, b₂)) (readInto s list labels)

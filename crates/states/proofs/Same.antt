@@ -1,6 +1,6 @@
 -- Equal answers: what an answer stands for is one value of the code, and any two answers that a promise allows are equal. Assumes nothing.
-use Rattle.basis.specs.Prelude.{ℕ, _≡_, sym, ap, _∙_, List}
-use Rattle.basis.proofs.Same.{same-by}
+use Rattle.basis.specs.Prelude.{ℕ, _≡_, ap, List}
+use Rattle.basis.proofs.Same.{same, same-by}
 use Rattle.states.proofs.Names.{outcome, Refusal, Sheet, State, checkRun, fresh, slot, run, marginAnswer, margin, held, started, slotted, ran}
 use Rattle.basis.proofs.Refusals.{outcome-one-to-one}
 use Rattle.machine.specs.declared.margins.Margin.{Margin}
@@ -32,7 +32,7 @@ slotted-one-to-one a b cs ds e =
 
 pub slot-same : (h : Sheet) (t : Value) (rel before : List ℕ) (a b : Slotted) (cs ds : List ℕ)
     → slotted a cs ≡ slot h (held t) rel before → slotted b ds ≡ slot h (held t) rel before → (a ≡ b) × (cs ≡ ds)
-slot-same h t rel before a b cs ds e f = slotted-one-to-one a b cs ds (e ∙ sym f)
+slot-same h t rel before a b cs ds e f = slotted-one-to-one a b cs ds (same (slot h (held t) rel before) _ _ e f)
 
 -- `run`: the answer, and the code buffer after it
 pub ran-one-to-one : (a b : Ran) (cs ds : List ℕ) → ran a cs ≡ ran b ds → (a ≡ b) × (cs ≡ ds)
@@ -41,7 +41,7 @@ ran-one-to-one a b cs ds e =
 
 pub run-same : (h : Sheet) (t : Value) (rel before : List ℕ) (a b : Ran) (cs ds : List ℕ)
     → ran a cs ≡ run h (held t) rel before → ran b ds ≡ run h (held t) rel before → (a ≡ b) × (cs ≡ ds)
-run-same h t rel before a b cs ds e f = ran-one-to-one a b cs ds (e ∙ sym f)
+run-same h t rel before a b cs ds e f = ran-one-to-one a b cs ds (same (run h (held t) rel before) _ _ e f)
 
 -- `check_run`
 pub check-run-same : (h : Sheet) (t : Value) (rel : List ℕ) (room : ℕ) (a b : Refusal) → outcome a ≡ checkRun h (held t) rel room → outcome b ≡ checkRun h (held t) rel room → a ≡ b

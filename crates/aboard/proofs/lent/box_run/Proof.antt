@@ -1,5 +1,4 @@
--- `box_run` meets its promise: a walk of its MIR, by hand. The state is a local of the loop, which is lent to `slot_in` in each turn and comes back at what the slot left in it, as the codes do from the slot's place on.
--- Of the functions that it calls the proof knows only that each meets its promise. The modules below have the calls, the locals, how the loop is left, how a slot is judged, and a turn. Assumes nothing.
+-- `box_run` meets its promise: a walk of its MIR, by hand. The state is a local of the loop, which is lent to `slot_in` in each turn and comes back at what the slot left in it, as the codes do from the slot's place on. Of the functions that it calls the proof knows only that each meets its promise. The modules below have the calls, the locals, how the loop is left, how a slot is judged, and a turn. Assumes nothing.
 use Rattle.basis.specs.Prelude.{_≡_, refl, ap, subst, ℕ, _<_, [], _∷_, length, lit<}
 use Rattle.aboard.proofs.Names.{URA, fullShare, named, Val, SProp, ent, emp, via, fst∗, ftrue, fat, flft, Memory, Routine, Heap, WpFn, Tables, Atoms, FmC, fmOf, WpFn-mono, Fun, givenOf, tables, tablesOf, Given, Sq, runs, atRet, ‵, raw, some, given, later, _⊛_, _$_, _∵_, !, qed, move, drop, use1, use2, split, join, pick, learn, rewrite, fsplit, fjoin, await, look, init, forget, stop, fld, from, load, lit, of-opd, and-then, no-more, assigns, land, first, blocks, enter, alloc1, alloc0, params1, pass1, pass0, loops, whole, sub, look-in, owns, Is, shows, u8, u64, ShrSlice, MutSlice, Room, slice-vals, shr-slice-copy, shr-slice-tells, mut-slice-tells, only, facts, nothing, onEntry, Meets, tripleOf, Triple, calls-at, entered, cited, AllGo, goes-dropped, goes-gave-slice, Walks, walked, walk-meets, yes, plain, shrSliceOf, Begun, beginningOf, beginning}
 use denote.Enum.Laws as EL
