@@ -36,7 +36,7 @@ fn stay_of_row(row: Row, bound: Duration, length: Duration, X: Duration) -> Dura
     job.plus(W.minus(X))
 }
 
-// The processors that a row with this stay takes in a pace.
+// The processors that a row counts for in a pace: none where it does not stay.
 fn taken(stays: bool, capped: u64) -> u64
     ensures { λ r. ⌜ r ≡ pick stays capped 0 ⌝ }
 {

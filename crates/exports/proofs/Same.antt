@@ -1,9 +1,8 @@
 -- Equal answers: any two answers that the promise of a call allows are equal. Assumes nothing.
-use Rattle.basis.specs.Prelude.{ℕ, _≡_, Bool, true, List}
+use Rattle.basis.specs.Prelude.{ℕ, _≡_, Bool, List}
 use Rattle.basis.proofs.Same.{same}
 use lib.IntN.{ℤ}
-use Rattle.exports.proofs.Names.{reading, NoJobIsLate, legal, sheetIn, numberOn, upToOn, fixedIn, boxOn, verdictIn, readIn, labelAnswer, boundsIn, freshIn, slotOn, runOn, marginIn}
-use Rattle.green.specs.Green.{greenOf}
+use Rattle.exports.proofs.Names.{legal, sheetIn, numberOn, upToOn, fixedIn, boxOn, verdictIn, readIn, labelAnswer, boundsIn, freshIn, slotOn, runOn, marginIn}
 
 -- `giachimu_read`: the number and the place, and the list.
 pub read-same : (s list : List ℕ) (a b : (ℕ × ℕ) × List ℕ) → a ≡ readIn s list → b ≡ readIn s list → a ≡ b
@@ -36,10 +35,6 @@ margin-same s list row lent = same (marginIn s list row lent)
 -- `giachimu_verdict`: the number and the place, the buffer and the text's length.
 pub verdict-same : (s text : List ℕ) (long : ℕ) (a b : (ℕ × ℕ) × (List ℕ × ℕ)) → a ≡ verdictIn s text long → b ≡ verdictIn s text long → a ≡ b
 verdict-same s text long = same (verdictIn s text long)
-
--- `giachimu_green`: yes or no.
-pub green-same : (s : List ℕ) (a b : Bool) → (a ≡ greenOf s) × (a ≡ true → NoJobIsLate (reading s .1)) → (b ≡ greenOf s) × (b ≡ true → NoJobIsLate (reading s .1)) → a ≡ b
-green-same s a b e f = same (greenOf s) a b (e .0) (f .0)
 
 -- `giachimu_number`: the number and the place, the value and the place after it.
 pub number-same : (s : List ℕ) (at : ℕ) (found : ℕ × ℕ) (a b : (ℕ × ℕ) × (ℕ × ℕ)) → a ≡ numberOn s at found → b ≡ numberOn s at found → a ≡ b
