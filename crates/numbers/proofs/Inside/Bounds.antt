@@ -32,6 +32,7 @@ taken (suc g) first least s at v n l e =
     record { some-bytes = omega arith; in-bytes = omega arith; not-less = omega arith; no-more = omega (arith, ap length (spelt-more g v (omega arith))) })
 
 pub record Bounded (most : ℕ) (s : List ℕ) (at v n : ℕ) : Type 0 where
+  pub read : number s at ≡ ok v n
   pub positive : 0 < v
   pub not-over : v ≤ most
   pub some-bytes : at < n
@@ -46,4 +47,4 @@ bounded most under beyond s at v n e =
     let le = passed (give u) beyond at s m (leb u most) (nz .1) in
     let (ev, en) = ok-same (le .1) in
     let r = taken mostGroups at 0 s at v n (omega arith) (eu ∙ le .1) in
-    record { positive = omega (arith, eqb-false u 0 (nz .0)); not-over = omega (arith, leb-true u most (le .0)); some-bytes = omega arith; in-bytes = omega arith; no-more = r .no-more }
+    record { read = eu ∙ le .1; positive = omega (arith, eqb-false u 0 (nz .0)); not-over = omega (arith, leb-true u most (le .0)); some-bytes = omega arith; in-bytes = omega arith; no-more = r .no-more }
