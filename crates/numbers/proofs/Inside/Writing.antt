@@ -1,5 +1,5 @@
 -- The loops that measure and write a number: what was passed, and what is still to be written. Assumes nothing.
-use Rattle.basis.specs.Prelude.{ℕ, zero, suc, _+_, _-_, _/_, _%_, _≤_, _<_, _≡_, refl, sym, ap, _∙_, List, arith, add-zero, not-suc-le-zero, length, set, set-out, sets}
+use Rattle.basis.specs.Prelude.{ℕ, zero, suc, _+_, _-_, _/_, _%_, _≤_, _<_, _≡_, refl, sym, ap, _∙_, List, arith, add-zero, not-suc-le-zero, length, set, sets}
 use Rattle.numbers.proofs.Names.{mostGroups, spelt, spell, width}
 use Rattle.numbers.proofs.Inside.Groups.{one-less}
 use Rattle.numbers.proofs.OneSpelling.{spelt-one, spelt-more}
@@ -62,10 +62,3 @@ module _ (out₀ : List ℕ) (at value : ℕ) (out : List ℕ) (v i left : ℕ) 
   pub stored-all : left ≤ 0 → out ≡ sets out₀ at (spell value)
   unfolding spelt
   stored-all h = let z : left ≡ 0 = omega arith in sym (w ∙ ap (λ (g : ℕ). sets out (at + i) (spelt g v)) z)
-
--- a store past the end changes nothing
-pub put-past : (out : List ℕ) (at i b : ℕ) → length out ≤ at → out ≡ set out (at + i) b
-put-past out at i b h = sym (set-out out (at + i) b (omega arith))
-
-pub put-over : (out : List ℕ) (at i b : ℕ) → length out - at ≤ i → out ≡ set out (at + i) b
-put-over out at i b h = sym (set-out out (at + i) b (omega arith))
