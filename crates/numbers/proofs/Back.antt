@@ -17,7 +17,8 @@ pub reads-give : {A : Type 0} (a : A) → Reads (give a) [] a
 reads-give a = record { back = λ p q. ap (ok a) (sym (add-zero (length p))) }
 
 -- one reader after another
-pub reads-then : {A B : Type 0} (r : Reader A) (f : A → Reader B) {a : A} {b : B} {xs ys : List ℕ} → Reads r xs a → Reads (f a) ys b → Reads (r >>= f) (xs ++ ys) b
+pub reads-then : {A B : Type 0} (r : Reader A) (f : A → Reader B) {a : A} {b : B} {xs ys : List ℕ} → Reads r xs a → Reads (f a) ys b
+    → Reads (r >>= f) (xs ++ ys) b
 reads-then {A} {B} r f {a} {b} {xs} {ys} h k = record {
   back = λ p q.
       let s : List ℕ = p ++ ((xs ++ ys) ++ q) in

@@ -9,16 +9,18 @@ pub number-length-same : (v a b : ℕ) → a ≡ width v → b ≡ width v → a
 number-length-same v = same (width v)
 
 -- `write_number`
-pub write-number-same : (out : List ℕ) (at v a b : ℕ) (o p : List ℕ) → (a ≡ width v) × (o ≡ sets out at (spell v)) → (b ≡ width v) × (p ≡ sets out at (spell v))
-    → (a ≡ b) × (o ≡ p)
+pub write-number-same : (out : List ℕ) (at v a b : ℕ) (o p : List ℕ) → (a ≡ width v) × (o ≡ sets out at (spell v))
+    → (b ≡ width v) × (p ≡ sets out at (spell v)) → (a ≡ b) × (o ≡ p)
 write-number-same out at v a b o p (e, f) (g, h) = (same (width v) a b e g, same (sets out at (spell v)) o p f h)
 
 -- what is written where it has room is read back, to its end
-pub written-number-is-read : (out : List ℕ) (at v : ℕ) → v < 128 ^ mostGroups → at + width v ≤ length out → number (sets out at (spell v)) at ≡ ok v (at + width v)
+pub written-number-is-read : (out : List ℕ) (at v : ℕ) → v < 128 ^ mostGroups → at + width v ≤ length out
+    → number (sets out at (spell v)) at ≡ ok v (at + width v)
 unfolding width
 written-number-is-read out at v small room =
     number-back (sets out at (spell v)) at v (take at out) (drop (at + length (spell v)) out) small
-    (sets-eq (spell v) out at room ∙ append-assoc (take at out) (spell v) (drop (at + length (spell v)) out)) (sym (length-take-le at out (omega arith)))
+    (sets-eq (spell v) out at room ∙ append-assoc (take at out) (spell v) (drop (at + length (spell v)) out))
+    (sym (length-take-le at out (omega arith)))
 
 -- writing what was read, where it stands, changes nothing
 pub read-number-is-written : (s : List ℕ) (at v n : ℕ) → Bytes s → number s at ≡ ok v n → (n ≡ at + width v) × (sets s at (spell v) ≡ s)

@@ -47,7 +47,8 @@ module _ (out₀ : List ℕ) (at value : ℕ) (out : List ℕ) (v i left : ℕ) 
       go zero p e = absurd (not-suc-le-zero p)
       go (suc g) p e = e ∙ ap (sets out (at + i)) (spelt-one g v h)
 
-  pub stored-more : 0 < left → 128 ≤ v → (out′ : List ℕ) → out′ ≡ set out (at + i) (128 + v % 128) → Stored out₀ at value out′ (v / 128) (i + 1) (left - 1)
+  pub stored-more : 0 < left → 128 ≤ v → (out′ : List ℕ) → out′ ≡ set out (at + i) (128 + v % 128)
+      → Stored out₀ at value out′ (v / 128) (i + 1) (left - 1)
   stored-more pos h out′ q = go left pos w
     where
       go : (g : ℕ) → 0 < g → Stored out₀ at value out v i g → Stored out₀ at value out′ (v / 128) (i + 1) (g - 1)

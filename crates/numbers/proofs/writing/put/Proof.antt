@@ -4,5 +4,5 @@ use Rattle.numbers.proofs.writing.put as this
 
 pub put-spec : {M : Type 1} → this.Statement.statement M
 put-spec =
-    this.Tie.close (this.Tie.spec (λ c. sym (set-out _ _ _ (omega arith))) (λ c. search needs) (λ c. sym (set-out _ _ _ (omega arith))) (λ c. search needs)
-    (λ c. search needs) (λ c. search needs) (λ c. search needs))
+    this.Tie.close (this.Tie.spec (λ c. sym (set-out _ _ _ (omega arith))) (λ c. search needs) (λ c. sym (set-out _ _ _ (omega arith)))
+    (λ c. search needs) (λ c. search needs) (λ c. search needs) (λ c. search needs))
