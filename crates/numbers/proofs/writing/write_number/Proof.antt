@@ -10,5 +10,6 @@ pub write-number-spec : {M : Type 1} → this.Statement.statement M
 write-number-spec =
     this.Tie.close (this.Tie.spec Inv-loop (λ bytes₀ at value v₀ i₀ left₀ bytes v i left. left)
     (λ c. (measured-none _, search needs, stored-none _ _ _)) (λ c. search needs) (λ c κs. search needs) (λ c. search needs) (λ c. search needs)
-    (λ c. (search measured-last, search needs, search stored-last)) (λ c. search needs) (λ c. search needs) (λ c κs. search needs) (λ c. search needs) (λ c. search needs) (λ c. search needs)
-    (λ c. (search measured-more, search needs, search stored-more)) (λ c. search needs) (λ c. (search measured-all, search needs, search stored-all)))
+    (λ c. (search measured-last, search needs, search stored-last)) (λ c. search needs) (λ c. search needs) (λ c κs. search needs)
+    (λ c. search needs) (λ c. search needs) (λ c. search needs) (λ c. (search measured-more, search needs, search stored-more)) (λ c. search needs)
+    (λ c. (search measured-all, search needs, search stored-all)))
