@@ -15,13 +15,13 @@ spelt-grows (suc g) u v h =
     (lt-or-le u 128)
 
 -- a number that was read ends within the bytes, and takes as many as its value does
-record Taken (g least : ℕ) (s : List ℕ) (at v n : ℕ) : Type 0 where
+pub record Taken (g least : ℕ) (s : List ℕ) (at v n : ℕ) : Type 0 where
   pub some-bytes : at < n
   pub in-bytes : n ≤ length s
   pub not-less : least ≤ v
   pub no-more : n ≤ at + length (spelt g v)
 
-taken : (g first least : ℕ) (s : List ℕ) (at v n : ℕ) → least ≤ 1 → groups g first least s at ≡ ok v n → Taken g least s at v n
+pub taken : (g first least : ℕ) (s : List ℕ) (at v n : ℕ) → least ≤ 1 → groups g first least s at ≡ ok v n → Taken g least s at v n
 taken zero first least s at v n l e = absurd (never-ok (over 0 first least s at (omega arith)) e)
 taken (suc g) first least s at v n l e =
     by-group g first least s at e
