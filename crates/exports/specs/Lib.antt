@@ -1,5 +1,6 @@
 pub mod Answers
 pub mod ListCalls
 pub mod Further
+pub mod Scenarios
 pub mod Wrong
 pub mod WrongFurther
