@@ -4,3 +4,4 @@ pub mod Further
 pub mod Scenarios
 pub mod Wrong
 pub mod WrongFurther
+pub mod WrongScenarios
