@@ -1,2 +1,4 @@
+pub mod Same
+pub mod LineLengths
 pub mod Inside
 mod Names

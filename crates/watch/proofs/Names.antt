@@ -1,5 +1,6 @@
 -- The names from elsewhere that the proofs here share, passed on under one name.
-pub use Rattle.basis.proofs.Inside.Upto.{length-upto}
+pub use Rattle.basis.proofs.Inside.Upto.{length-upto, upto-below}
+pub use Rattle.basis.proofs.Refusals.{outcome-one-to-one}
 pub use Rattle.basis.specs.Limits.{mostRows}
 pub use Rattle.basis.specs.Refusals.{Outcome, accepted, outcome, refused}
 pub use Rattle.basis.specs.declared.refusal.Refusal.{Refusal}
@@ -11,14 +12,22 @@ unfoldable pub use Rattle.machine.specs.Checks.{checkSlot}
 unfoldable pub use Rattle.machine.specs.Lists.{slotIn, stateIn}
 pub use Rattle.machine.specs.Slot.{code}
 pub use Rattle.machine.specs.States.{State}
+pub use Rattle.page.proofs.Digits.{decimal-is-short}
 pub use Rattle.page.proofs.Inside.Pages.{four-said, said-is-written, three-said, two-said}
+pub use Rattle.page.proofs.Inside.Written.{part-is-text}
 unfoldable pub use Rattle.page.specs.Decimals.{decimal, digits}
 pub use Rattle.page.specs.Pages.{Page}
 unfoldable pub use Rattle.page.specs.Pages.{said, written}
 pub use Rattle.page.specs.Words.{newline, space}
+pub use Rattle.records.specs.Records.{hasJob}
+unfoldable pub use Rattle.records.specs.Steps.{codeOf}
+pub use Rattle.records.specs.declared.record.Job.{Job}
+unfoldable pub use Rattle.sheet.specs.Lists.{sheetIn}
+pub use Rattle.sheet.specs.declared.row.Row.{Row}
 pub use Rattle.sheet.specs.declared.row.Sheet.{Sheet}
 pub use Rattle.watch.specs.Lines.{refusedWord, scenarioWord, sheetWord, slotWord, slotsWord}
 unfoldable pub use Rattle.watch.specs.Lines.{codesText, endLine, fileName, refusedBy, refusedFile, refusedSlot, slotLine, slotNumber}
+pub use Rattle.watch.specs.Longest.{lineBuffer, lineSize}
 pub use Rattle.watch.specs.Texts.{PlayAnswer, noCodes, playAnswer}
 unfoldable pub use Rattle.watch.specs.Texts.{lineOf, playedSlot, runText}
 pub use Rattle.watch.specs.declared.ends.File.{File}
