@@ -1,4 +1,5 @@
 pub mod Same
 pub mod LineLengths
+pub mod PlayedRuns
 pub mod Inside
 mod Names

@@ -6,10 +6,12 @@ pub use Rattle.basis.specs.Refusals.{Outcome, accepted, outcome, refused}
 pub use Rattle.basis.specs.declared.refusal.Refusal.{Refusal}
 pub use Rattle.basis.specs.declared.refusal.Refusal.the-variants.{Accepted, Refused}
 pub use Rattle.machine.proofs.Inside.Answers.{slot-shows}
-pub use Rattle.machine.specs.Answers.{SlotAnswer, slotAnswer, slotBy}
-unfoldable pub use Rattle.machine.specs.Answers.{given, nextCodes, nextState, slot}
+pub use Rattle.machine.proofs.StatesAfter.{fresh-of-zeros, slot-in-state}
+pub use Rattle.machine.specs.Answers.{FreshAnswer, SlotAnswer, slotAnswer, slotBy}
+unfoldable pub use Rattle.machine.specs.Answers.{fresh, given, nextCodes, nextState, slot}
 unfoldable pub use Rattle.machine.specs.Checks.{checkSlot}
-unfoldable pub use Rattle.machine.specs.Lists.{slotIn, stateIn}
+pub use Rattle.machine.specs.Lists.{stateLong}
+unfoldable pub use Rattle.machine.specs.Lists.{freshOn, slotIn, stateIn}
 pub use Rattle.machine.specs.Slot.{code}
 pub use Rattle.machine.specs.States.{State}
 pub use Rattle.page.proofs.Digits.{decimal-is-short}
@@ -28,6 +30,6 @@ pub use Rattle.sheet.specs.declared.row.Sheet.{Sheet}
 pub use Rattle.watch.specs.Lines.{refusedWord, scenarioWord, sheetWord, slotWord, slotsWord}
 unfoldable pub use Rattle.watch.specs.Lines.{codesText, endLine, fileName, refusedBy, refusedFile, refusedSlot, slotLine, slotNumber}
 pub use Rattle.watch.specs.Longest.{lineBuffer, lineSize}
-pub use Rattle.watch.specs.Texts.{PlayAnswer, noCodes, playAnswer}
-unfoldable pub use Rattle.watch.specs.Texts.{lineOf, playedSlot, runText}
+pub use Rattle.watch.specs.Texts.{PlayAnswer, goingOn, noCodes, playAnswer}
+unfoldable pub use Rattle.watch.specs.Texts.{lineOf, playedSlot, playedText, runText}
 pub use Rattle.watch.specs.declared.ends.File.{File}

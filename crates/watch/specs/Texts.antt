@@ -8,6 +8,7 @@ use Rattle.machine.specs.Answers.{slot}
 use Rattle.machine.specs.Lists.{slotIn}
 use Rattle.page.specs.Pages.{Page, written}
 use Rattle.watch.specs.Lines.{slotLine, endLine, refusedSlot}
+use Rattle.watch.specs.Longest.{lineBuffer}
 
 -- A code buffer with room for every row, before a slot.
 abbrev pub noCodes : List ℕ
@@ -46,3 +47,10 @@ runText h t releases k zero = endLine k
 runText h t releases k (suc slots) =
     let a = slot h t (take (h .count) releases) noCodes in
     lineOf (h .count) k (a .outcome) (a .codes) ++ goingOn (a .outcome) (runText h (a .state) (drop (h .count) releases) (suc k) slots)
+
+-- What is printed by whoever plays so many slots one after another on the state in a list, each line by a buffer that has room for it.
+unfoldable pub playedText : Sheet → List ℕ → List ℕ → ℕ → ℕ → List ℕ
+playedText h list releases k zero = endLine k
+playedText h list releases k (suc slots) =
+    let p = playedSlot h list (take (h .count) releases) k lineBuffer in
+    take (p .long) (p .text) ++ goingOn (p .outcome) (playedText h (p .state) (drop (h .count) releases) (suc k) slots)
