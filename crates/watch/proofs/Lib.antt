@@ -1,4 +1,5 @@
 pub mod Same
+pub mod Cases
 pub mod LineLengths
 pub mod PlayedRuns
 pub mod Inside

@@ -1,3 +1,4 @@
 pub mod Lines
 pub mod Longest
 pub mod Texts
+pub mod Cases
