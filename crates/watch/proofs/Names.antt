@@ -14,7 +14,7 @@ pub use Rattle.machine.specs.Answers.{FreshAnswer, SlotAnswer, slotAnswer, slot
 unfoldable pub use Rattle.machine.specs.Answers.{fresh, given, nextCodes, nextState, slot}
 unfoldable pub use Rattle.machine.specs.Checks.{checkReleases, checkRoom, checkSlot, checkState}
 pub use Rattle.machine.specs.Lists.{stateLong}
-unfoldable pub use Rattle.machine.specs.Lists.{freshOn, slotIn, stateIn}
+unfoldable pub use Rattle.machine.specs.Lists.{freshOn, putRecord, putState, putTo, recordIn, slotIn, stateIn, zeroAt, zeroFrom}
 pub use Rattle.machine.specs.Slot.{code}
 unfoldable pub use Rattle.machine.specs.Slot.{freeAt}
 pub use Rattle.machine.specs.States.{State}
@@ -31,7 +31,7 @@ unfoldable pub use Rattle.records.specs.Records.{isZeroJob, legalJob}
 unfoldable pub use Rattle.records.specs.Steps.{aged, codeOf, ended, fits, freeBelow, missed, older, released, worked}
 pub use Rattle.records.specs.declared.record.Job.{Job}
 unfoldable pub use Rattle.sheet.specs.Legal.{legal, legalAt, legalRow}
-unfoldable pub use Rattle.sheet.specs.Lists.{sheetIn}
+unfoldable pub use Rattle.sheet.specs.Lists.{rowIn, sheetIn}
 pub use Rattle.sheet.specs.declared.row.Row.{Row}
 pub use Rattle.sheet.specs.declared.row.Sheet.{Sheet}
 unfoldable pub use Rattle.tables.specs.Tables.{fixedSheet}
