@@ -1,9 +1,9 @@
--- No answer by a wrong rule of a number meets the promise of `read_number` or of `read_up_to`. Assumes nothing.
-use Rattle.basis.specs.Prelude.{ℕ, refl}
-use Rattle.numbers.proofs.Names.{Step, ok, refuse, step, groups, number, upToBy, upTo}
-use Rattle.basis.specs.Faults.{NoAnswer}
-use Rattle.basis.proofs.Faults.{told-apart}
-use Rattle.numbers.specs.Wrong.{highGroups, highestFirst, looseGroups, anyForm, groupMore, threeAs, longIsCut, placeAfter, blankIsZero, mostIsOver, zeroIsOver, twoGroups, zeroLast, fourGroups, blank, five}
+-- No answer by a wrong rule of a number meets the promise of `read_number`, `read_up_to`, `number_length` or `write_number`. Assumes nothing.
+use Rattle.basis.specs.Prelude.{ℕ, refl, List, getD, sets}
+use Rattle.numbers.proofs.Names.{Step, ok, refuse, step, groups, number, upToBy, upTo, spelt, spell, width}
+use Rattle.basis.specs.Faults.{NoAnswer, NoneMeets}
+use Rattle.basis.proofs.Faults.{told-apart, values-apart}
+use Rattle.numbers.specs.Wrong.{highGroups, highestFirst, looseGroups, anyForm, groupMore, threeAs, longIsCut, placeAfter, blankIsZero, mostIsOver, zeroIsOver, alwaysOne, twoForOne, speltBefore, highestWritten, speltBare, topBitsOff, nextCleared, twoGroups, zeroLast, fourGroups, blank, nines, five}
 
 -- the value of a step, the number that it is refused by, and its place
 value : Step ℕ → ℕ
@@ -57,3 +57,32 @@ most-is-over-is-shut-out = told-apart step _ _ refusal refl
 pub zero-is-over-is-shut-out : NoAnswer step (zeroIsOver 5 7 8 blank 0) (upTo 5 7 8 blank 0)
 unfolding groups upToBy zeroIsOver refusal
 zero-is-over-is-shut-out = told-apart step _ _ refusal refl
+
+-- always one byte: 128 would take 1
+pub always-one-is-shut-out : NoneMeets (alwaysOne 128) (width 128)
+unfolding alwaysOne width spelt
+always-one-is-shut-out = values-apart _ _ (λ (n : ℕ). n) refl
+
+-- a value of one group said to take two: 5 would take 2
+pub two-for-one-is-shut-out : NoneMeets (twoForOne 5) (width 5)
+unfolding twoForOne width spelt
+two-for-one-is-shut-out = values-apart _ _ (λ (n : ℕ). n) refl
+
+-- a byte of a buffer
+byteAt : ℕ → List ℕ → ℕ
+byteAt i l = getD l i 0
+
+-- the highest group written first: 128 would be 81 00
+pub highest-written-is-shut-out : NoneMeets (highestWritten nines 0 128) (sets nines 0 (spell 128))
+unfolding speltBefore highestWritten spelt byteAt
+highest-written-is-shut-out = values-apart _ _ (byteAt 0) refl
+
+-- no top bit written: 128 would be 00 01
+pub top-bits-off-is-shut-out : NoneMeets (topBitsOff nines 0 128) (sets nines 0 (spell 128))
+unfolding speltBare topBitsOff spelt byteAt
+top-bits-off-is-shut-out = values-apart _ _ (byteAt 0) refl
+
+-- the byte past the number cleared: after 05 would stand 00
+pub next-cleared-is-shut-out : NoneMeets (nextCleared nines 0 5) (sets nines 0 (spell 5))
+unfolding nextCleared width spelt byteAt
+next-cleared-is-shut-out = values-apart _ _ (byteAt 1) refl

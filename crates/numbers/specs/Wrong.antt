@@ -1,9 +1,9 @@
 -- Wrong rules of a number, each the rule of document 01 but for one thing, and the bytes that tell them.
-use Rattle.basis.specs.Prelude.{ℕ, zero, suc, _+_, _-_, _*_, List, [], _∷_, length, ltb, leb, eqb}
+use Rattle.basis.specs.Prelude.{ℕ, zero, suc, _+_, _-_, _*_, _/_, _%_, List, [], _∷_, length, set, sets, ltb, leb, eqb}
 use Rattle.basis.specs.Limits.{mostGroups}
 use Rattle.basis.specs.Words.{pick}
 use Rattle.basis.specs.Readers.{Step, ok, refuse, Reader, _>>=_, _>>_, give, refuse-at, here, byte}
-use Rattle.numbers.specs.Numbers.{groups, number}
+use Rattle.numbers.specs.Numbers.{groups, number, spell, width}
 
 -- The groups weighed in the other order, those before weighing so much.
 unfoldable pub highGroups : ℕ → ℕ → ℕ → ℕ → Reader ℕ
@@ -71,6 +71,36 @@ zeroIsOver most under over = do
   v ← number
   pick (eqb v 0) (refuse-at over first) (pick (leb v most) (give v) (refuse-at over first))
 
+-- Every value takes one byte.
+unfoldable pub alwaysOne : ℕ → ℕ
+alwaysOne v = 1
+
+-- A value of one group is said to take two.
+unfoldable pub twoForOne : ℕ → ℕ
+twoForOne v = pick (ltb v 128) 2 (width v)
+
+-- At most g groups, each put before the ones that were made so far; the first made has the top bit that is given, and the others have it set.
+unfoldable pub speltBefore : ℕ → ℕ → ℕ → List ℕ → List ℕ
+speltBefore zero top v after = after
+speltBefore (suc g) top v after = pick (ltb v 128) ((top + v) ∷ after) (speltBefore g 128 (v / 128) ((top + v % 128) ∷ after))
+
+-- The groups are written the highest first.
+unfoldable pub highestWritten : List ℕ → ℕ → ℕ → List ℕ
+highestWritten out at v = sets out at (speltBefore mostGroups 0 v [])
+
+-- At most g groups, the top bit left off each that another follows.
+unfoldable pub speltBare : ℕ → ℕ → List ℕ
+speltBare zero v = []
+speltBare (suc g) v = pick (ltb v 128) (v ∷ []) ((v % 128) ∷ speltBare g (v / 128))
+
+-- No top bit is written.
+unfoldable pub topBitsOff : List ℕ → ℕ → ℕ → List ℕ
+topBitsOff out at v = sets out at (speltBare mostGroups v)
+
+-- The byte past the number is cleared.
+unfoldable pub nextCleared : List ℕ → ℕ → ℕ → List ℕ
+nextCleared out at v = set (sets out at (spell v)) (at + width v) 0
+
 -- 80 01, which is 128.
 abbrev pub twoGroups : List ℕ
 twoGroups = 0x80 ∷ 0x01 ∷ []
@@ -86,6 +116,10 @@ fourGroups = 0x80 ∷ 0x80 ∷ 0x80 ∷ 0x01 ∷ []
 -- 00, a blank.
 abbrev pub blank : List ℕ
 blank = 0x00 ∷ []
+
+-- A buffer of three bytes, each 09.
+abbrev pub nines : List ℕ
+nines = 0x09 ∷ 0x09 ∷ 0x09 ∷ []
 
 -- 05.
 abbrev pub five : List ℕ

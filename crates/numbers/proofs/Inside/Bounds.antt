@@ -15,13 +15,13 @@ spelt-grows (suc g) u v h =
     (lt-or-le u 128)
 
 -- a number that was read ends within the bytes, and takes as many as its value does
-record Taken (g least : ℕ) (s : List ℕ) (at v n : ℕ) : Type 0 where
+pub record Taken (g least : ℕ) (s : List ℕ) (at v n : ℕ) : Type 0 where
   pub some-bytes : at < n
   pub in-bytes : n ≤ length s
   pub not-less : least ≤ v
   pub no-more : n ≤ at + length (spelt g v)
 
-taken : (g first least : ℕ) (s : List ℕ) (at v n : ℕ) → least ≤ 1 → groups g first least s at ≡ ok v n → Taken g least s at v n
+pub taken : (g first least : ℕ) (s : List ℕ) (at v n : ℕ) → least ≤ 1 → groups g first least s at ≡ ok v n → Taken g least s at v n
 taken zero first least s at v n l e = absurd (never-ok (over 0 first least s at (omega arith)) e)
 taken (suc g) first least s at v n l e =
     by-group g first least s at e
@@ -32,6 +32,7 @@ taken (suc g) first least s at v n l e =
     record { some-bytes = omega arith; in-bytes = omega arith; not-less = omega arith; no-more = omega (arith, ap length (spelt-more g v (omega arith))) })
 
 pub record Bounded (most : ℕ) (s : List ℕ) (at v n : ℕ) : Type 0 where
+  pub read : number s at ≡ ok v n
   pub positive : 0 < v
   pub not-over : v ≤ most
   pub some-bytes : at < n
@@ -46,4 +47,4 @@ bounded most under beyond s at v n e =
     let le = passed (give u) beyond at s m (leb u most) (nz .1) in
     let (ev, en) = ok-same (le .1) in
     let r = taken mostGroups at 0 s at v n (omega arith) (eu ∙ le .1) in
-    record { positive = omega (arith, eqb-false u 0 (nz .0)); not-over = omega (arith, leb-true u most (le .0)); some-bytes = omega arith; in-bytes = omega arith; no-more = r .no-more }
+    record { read = eu ∙ le .1; positive = omega (arith, eqb-false u 0 (nz .0)); not-over = omega (arith, leb-true u most (le .0)); some-bytes = omega arith; in-bytes = omega arith; no-more = r .no-more }

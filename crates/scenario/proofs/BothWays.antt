@@ -1,0 +1,140 @@
+-- Both ways, over the promises: a list that is written and read is the list again, a file that is read and written is its very bytes, and so each list has one file and each accepted file one list. Assumes nothing.
+use Rattle.basis.specs.Prelude.{ℕ, zero, suc, _+_, _*_, _/_, _%_, _≤_, _<_, _≡_, refl, sym, ap, ap₂, subst, _∙_, Bool, true, false, List, [], _++_, arith, div-add-mod', mul-mod-left, mul-div-cancel, length, getD, take, drop, length-append, sets, sets-eq, take-at, leb, ltb, eqb, le-leb, le-ltb, ltb-false, eq-eqb, leb-true}
+use Rattle.scenario.proofs.Names.{pick, Bytes, Step, ok, refuse, Outcome, accepted, refused, firstOf, first-at, first-more, rowAt, legal, Sheet, legal-is, Held, budgetAt, scenario, scenarioBytes, Answer, answer, nothingBy, putAll, filledBy, readScenario, overBudget, overAt, checkWhole, checkList, fileOf, writtenBy, writeScenario}
+use Rattle.scenario.proofs.WrittenIsRead.{Fits, written-is-read}
+use Rattle.scenario.proofs.ReadIsWritten.{read-is-written}
+use Rattle.scenario.proofs.Inside.Lengths.{checked-legal, checked-even, checked-entries}
+
+-- what was scenarioBytes at the front, where there is room
+front : (xs l : List ℕ) → length xs ≤ length l → take (length xs) (sets l 0 xs) ≡ xs
+front xs l r =
+    let z : 0 + length xs ≤ length l = omega arith in
+    ap (take (length xs)) (sets-eq xs l 0 z) ∙ take-at xs (drop (0 + length xs) l) (length xs) refl
+
+-- ---- the checks and the facts
+
+-- an accepted list fits the sheet
+pub checked-fits : (h : Sheet) (l : List ℕ) → checkList h l ≡ accepted → Fits h (length l / h .count) l
+unfolding overAt overBudget
+checked-fits h l e = record {
+  whole = sym (omega (arith, div-add-mod' (length l) (h .count), checked-even h l e));
+  not-over = λ i b. go i (ltb (budgetAt h (i % h .count)) (getD l i 0)) refl (first-at (length l) (overAt h l) (checked-entries h l e) i b);
+}
+  where
+    go : (i : ℕ) (t : Bool) → ltb (budgetAt h (i % h .count)) (getD l i 0) ≡ t → pick t (refused 12 (i % h .count)) accepted ≡ accepted → getD l i 0 ≤ budgetAt h (i % h .count)
+    go i true q f = let z : _≡_ {A = ℕ} 0 1 = cc in absurd (omega arith)
+    go i false q f = ltb-false (budgetAt h (i % h .count)) (getD l i 0) q
+
+all-accepted : (n : ℕ) (f : ℕ → Outcome) → ((i : ℕ) → i < n → f i ≡ accepted) → firstOf n f ≡ accepted
+unfolding firstOf
+all-accepted zero f h = refl
+all-accepted (suc n) f h = rw (all-accepted n f (λ i b. h i (omega arith)), h n (omega arith))
+
+-- and a list that fits is accepted
+pub fits-checked : (h : Sheet) (k : ℕ) (l : List ℕ) → legal h ≡ true → Fits h k l → checkList h l ≡ accepted
+unfolding checkList checkWhole overAt overBudget
+fits-checked h k l fine f =
+    let even : length l % h .count ≡ 0 = ap (λ (m : ℕ). m % h .count) (f .whole) ∙ mul-mod-left k (h .count) in
+    let all : firstOf (length l) (overAt h l) ≡ accepted =
+    all-accepted (length l) (overAt h l) (λ i b. ap (λ (t : Bool). pick t (refused 12 (i % h .count)) accepted) (le-ltb (budgetAt h (i % h .count)) (getD l i 0) (f .not-over i b))) in
+    ap (λ (t : Bool). pick t (checkWhole h l) (refused 10 0)) fine
+    ∙ ap (λ (t : Bool). pick t (firstOf (length l) (overAt h l)) (refused 11 0)) (eq-eqb (length l % h .count) 0 even) ∙ all
+
+-- ---- list, bytes, list
+
+-- what the writer that accepts has done
+record Wrote (h : Sheet) (l out : List ℕ) : Type 0 where
+  checked : checkList h l ≡ accepted
+  room : length (fileOf h l) ≤ length out
+  answer : writeScenario h l out ≡ (answer accepted (length (fileOf h l)) (sets out 0 (fileOf h l)))
+
+wrote : (h : Sheet) (l out : List ℕ) → writeScenario h l out .outcome ≡ accepted → Wrote h l out
+unfolding writeScenario
+wrote h l out e = go (checkList h l) refl e
+  where
+    put : (t : Bool) → leb (length (fileOf h l)) (length out) ≡ t → checkList h l ≡ accepted
+        → pick {A = Answer} t (answer accepted (length (fileOf h l)) (sets out 0 (fileOf h l))) (nothingBy (refused 15 0) out) .outcome ≡ accepted → Wrote h l out
+    put true q c f = record {
+      checked = c;
+      room = leb-true _ _ q;
+      answer = ap (λ (o : Outcome). writtenBy o (fileOf h l) out) c ∙ ap (λ (t : Bool). pick {A = Answer} t (answer accepted (length (fileOf h l)) (sets out 0 (fileOf h l))) (nothingBy (refused 15 0) out)) q;
+    }
+    put false q c f = let z : _≡_ {A = ℕ} 0 1 = cc in absurd (omega arith)
+
+    go : (o : Outcome) → checkList h l ≡ o → writtenBy o (fileOf h l) out .outcome ≡ accepted → Wrote h l out
+    go accepted q f = put (leb (length (fileOf h l)) (length out)) refl q f
+    go (refused a b) q f = let z : _≡_ {A = ℕ} 0 1 = cc in absurd (omega arith)
+
+-- the bytes that were scenarioBytes, read into any list that is long enough, give the list and its slots
+pub list-comes-back : (h : Sheet) (l out l′ : List ℕ) → writeScenario h l out .outcome ≡ accepted → length l ≤ length l′
+    → readScenario h (take (writeScenario h l out .count) (writeScenario h l out .lent)) l′ ≡ (answer accepted (length l / h .count) (sets l′ 0 l))
+unfolding readScenario
+list-comes-back h l out l′ e r =
+    let w = wrote h l out e in
+    let fine : legal h ≡ true = checked-legal h l (w .checked) in
+    let bytes : take (writeScenario h l out .count) (writeScenario h l out .lent) ≡ fileOf h l =
+    ap (λ (a : Answer). take (a .count) (a .lent)) (w .answer) ∙ front (fileOf h l) out (w .room) in
+    let read : scenario h (fileOf h l) 0 ≡ ok (record { slots = length l / h .count; entries = l }) (length (fileOf h l)) =
+    written-is-read h (legal-is h fine) (length l / h .count) l (checked-fits h l (w .checked)) in
+    ap (λ (s : List ℕ). pick (legal h) (filledBy (scenario h s 0) l′) (nothingBy (refused 10 0) l′)) bytes
+    ∙ ap (λ (t : Bool). pick t (filledBy (scenario h (fileOf h l) 0) l′) (nothingBy (refused 10 0) l′)) fine
+    ∙ ap (λ (x : Step Held). filledBy x l′) read
+    ∙ ap (λ (t : Bool). pick {A = Answer} t (answer accepted (length l / h .count) (sets l′ 0 l)) (nothingBy (refused 15 0) l′)) (le-leb (length l) (length l′) r)
+
+-- ---- bytes, list, bytes
+
+-- what the reader that accepts has done
+pub record HasRead (h : Sheet) (s l : List ℕ) : Type 0 where
+  pub legally : legal h ≡ true
+  pub held : Held
+  pub end : ℕ
+  pub is : scenario h s 0 ≡ ok held end
+  pub room : length (held .entries) ≤ length l
+  pub answer : readScenario h s l ≡ (answer accepted (held .slots) (sets l 0 (held .entries)))
+
+pub has-read : (h : Sheet) (s l : List ℕ) → readScenario h s l .outcome ≡ accepted → HasRead h s l
+unfolding readScenario
+has-read h s l e = legally (legal h) refl e
+  where
+    put : (x : Held) (n : ℕ) (t : Bool) → legal h ≡ true → scenario h s 0 ≡ ok x n → leb (length (x .entries)) (length l) ≡ t
+        → pick {A = Answer} t (answer accepted (x .slots) (sets l 0 (x .entries))) (nothingBy (refused 15 0) l) .outcome ≡ accepted → HasRead h s l
+    put x n true q g c f = record {
+      legally = q;
+      held = x;
+      end = n;
+      is = g;
+      room = leb-true _ _ c;
+      answer =
+          ap (λ (t : Bool). pick t (filledBy (scenario h s 0) l) (nothingBy (refused 10 0) l)) q
+          ∙ ap (λ (y : Step Held). filledBy y l) g
+          ∙ ap (λ (t : Bool). pick {A = Answer} t (answer accepted (x .slots) (sets l 0 (x .entries))) (nothingBy (refused 15 0) l)) c;
+    }
+    put x n false q g c f = let z : _≡_ {A = ℕ} 0 1 = cc in absurd (omega arith)
+
+    go : (x : Step Held) → legal h ≡ true → scenario h s 0 ≡ x → filledBy x l .outcome ≡ accepted → HasRead h s l
+    go (ok x n) q g f = put x n (leb (length (x .entries)) (length l)) q g refl f
+    go (refuse k p) q g f = let z : _≡_ {A = ℕ} 0 1 = cc in absurd (omega arith)
+
+    legally : (t : Bool) → legal h ≡ t → pick t (filledBy (scenario h s 0) l) (nothingBy (refused 10 0) l) .outcome ≡ accepted → HasRead h s l
+    legally true q f = go (scenario h s 0) q refl f
+    legally false q f = let z : _≡_ {A = ℕ} 0 1 = cc in absurd (omega arith)
+
+-- the slots that were read, scenarioBytes into any buffer that is long enough, give the very bytes
+pub file-comes-back : (h : Sheet) (s l out : List ℕ) → Bytes s → readScenario h s l .outcome ≡ accepted → length s ≤ length out
+    → writeScenario h (take (readScenario h s l .count * h .count) (readScenario h s l .lent)) out ≡ (answer accepted (length s) (sets out 0 s))
+unfolding writeScenario
+file-comes-back h s l out bytes e r =
+    let w = has-read h s l e in
+    let x : Held = w .held in
+    let (same, fits) = read-is-written s bytes h x (w .end) (w .is) in
+    let back : take (readScenario h s l .count * h .count) (readScenario h s l .lent) ≡ x .entries =
+    ap (λ (a : Answer). take (a .count * h .count) (a .lent)) (w .answer) ∙ ap (λ (k : ℕ). take k (sets l 0 (x .entries))) (sym (fits .whole)) ∙ front (x .entries) l (w .room) in
+    let k : length (x .entries) / h .count ≡ x .slots = ap (λ (m : ℕ). m / h .count) (fits .whole) ∙ mul-div-cancel (x .slots) (legal-is h (w .legally) .some-rows) in
+    let ws : fileOf h (x .entries) ≡ s = ap (λ (j : ℕ). scenarioBytes (h .count) j (x .entries)) k ∙ sym same in
+    ap (λ (y : List ℕ). writtenBy (checkList h y) (fileOf h y) out) back
+    ∙ ap₂ (λ (o : Outcome) (y : List ℕ). writtenBy o y out) (fits-checked h (x .slots) (x .entries) (w .legally) fits) ws
+    ∙ ap (λ (t : Bool). pick {A = Answer} t (answer accepted (length s) (sets out 0 s)) (nothingBy (refused 15 0) out)) (le-leb (length s) (length out) r)
+
+-- two accepted files with equal lists are equal
+pub one-file-each : (h : Sheet) (s t : List ℕ) → Bytes s → Bytes t → (x : Held) (n m : ℕ) → scenario h s 0 ≡ ok x n → scenario h t 0 ≡ ok x m → s ≡ t
+one-file-each h s t bs bt x n m e f = read-is-written s bs h x n e .0 ∙ sym (read-is-written t bt h x m f .0)

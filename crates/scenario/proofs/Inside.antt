@@ -1,0 +1,4 @@
+pub mod Lengths
+pub mod Slotwise
+pub mod Stores
+pub mod Wholes

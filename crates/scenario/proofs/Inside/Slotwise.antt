@@ -1,0 +1,106 @@
+-- The loop over the releases of a slot: what is still to be read, into what is there. Assumes nothing.
+use Rattle.basis.specs.Prelude.{ℕ, zero, suc, _+_, _-_, _*_, _≤_, _<_, _≡_, refl, sym, ap, _∙_, Bool, true, false, List, arith, not-suc-le-zero, length, set, length-set, length-replicate, ltb, lt-ltb, le-ltb, ltb-true}
+use Rattle.scenario.proofs.Names.{mostRows, numberAt, sheetIn, rowIn, Row, row-in-sheet, pick, Step, ok, refuse, after, give, Outcome, accepted, refused, got, never-ok, ok-same, after-ok, passed, not-stopped, step, number, upTo, Number, Is, Refused, one-less, legal, Sheet, legal-is, budgetAt, noReleases, row, releases, slot, slotTold, slotAnswer, slotHanded, readSlot, SlotRead}
+
+-- the budget of a row is a number of the sheet's list
+pub budget-handed : (l : List ℕ) (k v : ℕ) → k < mostRows → v ≡ numberAt l (k * 4 + 5) → v ≡ budgetAt (sheetIn l) k
+unfolding rowIn
+budget-handed l k v b e = e ∙ sym (ap (λ (r : Row). r .budget) (row-in-sheet l k b))
+
+-- the ways out of `read_row`
+module _ (n least : ℕ) (s : List ℕ) (at : ℕ) (x : Number) (e : step x ≡ number s at) where
+  pub row-none : (k p : ℕ) → x ≡ Refused k p → refuse k p ≡ row n least s at
+  unfolding row
+  row-none k p g = sym (simp (got step e g))
+
+  pub row-past : (r m : ℕ) → x ≡ Is r m → n ≤ r → refuse 14 at ≡ row n least s at
+  unfolding row
+  row-past r m g h = sym (simp (got step e g, le-ltb r n h))
+
+  pub row-again : (r m : ℕ) → x ≡ Is r m → r < n → r < least → refuse 20 at ≡ row n least s at
+  unfolding row
+  row-again r m g h l = sym (simp (got step e g, lt-ltb r n h, lt-ltb r least l))
+
+  pub row-read : (r m : ℕ) → x ≡ Is r m → r < n → least ≤ r → ok r m ≡ row n least s at
+  unfolding row
+  row-read r m g h l = sym (simp (got step e g, lt-ltb r n h, le-ltb r least l))
+
+-- a row that is read is one of the sheet's
+pub row-few : (n least : ℕ) (s : List ℕ) (at r m : ℕ) → row n least s at ≡ ok r m → r < n
+unfolding row
+row-few n least s at r m e =
+    after-ok (number s at) _ e λ v z e₁ e₂.
+    let (t, e₃) = passed _ 14 at s z (ltb v n) e₂ in
+    let (_, e₄) = not-stopped (give v) 20 at s z (ltb v least) e₃ in
+    let (ev, _) = ok-same e₄ in
+    omega (arith, ltb-true v n t)
+
+-- what is still to be read: left releases into the entries, from next on
+pub record Reading (h : Sheet) (s : List ℕ) (at count : ℕ) (entries : List ℕ) (next least left : ℕ) : Type 0 where
+  pub long : length entries ≡ mostRows
+  pub so-far : releases h count 0 (noReleases mostRows) s at ≡ releases h left least entries s next
+
+pub begun : (h : Sheet) (s : List ℕ) (at count : ℕ) → Reading h s at count (noReleases mostRows) at 0 count
+begun h s at count = record { long = length-replicate {A = ℕ} mostRows 0; so-far = refl }
+
+module _ (h : Sheet) (s : List ℕ) (at count : ℕ) (entries : List ℕ) (next least left : ℕ) (w : Reading h s at count entries next least left) where
+  pub all-read : left ≤ 0 → slotAnswer accepted next entries ≡ slotHanded (releases h count 0 (noReleases mostRows) s at)
+  unfolding releases
+  all-read z = let e : left ≡ 0 = omega arith in sym (ap slotHanded (w .so-far ∙ ap (λ (k : ℕ). releases h k least entries s next) e))
+
+  module _ (pos : 0 < left) (n : ℕ) (en : n ≡ h .count) (x : Number) (ex : step x ≡ row n least s next) where
+    e : step x ≡ row (h .count) least s next
+    e = ex ∙ ap (λ (k : ℕ). row k least s next) en
+
+    turn : (r a : ℕ) → x ≡ Is r a → releases h left least entries s next ≡ after (upTo (budgetAt h r) 12 12 s a) (λ c b. releases h (left - 1) (r + 1) (set entries r c) s b)
+    unfolding releases
+    turn r a g = go left pos
+      where
+        go : (k : ℕ) → 0 < k → releases h k least entries s next ≡ after (upTo (budgetAt h r) 12 12 s a) (λ c b. releases h (k - 1) (r + 1) (set entries r c) s b)
+        go zero p = absurd (not-suc-le-zero p)
+        go (suc k) p = simp (got step e g, one-less k)
+
+    pub no-row : (k p : ℕ) → x ≡ Refused k p → (y : SlotRead) → slotTold y ≡ slotHanded (refuse k p) → slotTold y ≡ slotHanded (releases h count 0 (noReleases mostRows) s at)
+    unfolding releases
+    no-row k p g y f = f ∙ ap slotHanded (sym (w .so-far ∙ go left pos))
+      where
+        go : (j : ℕ) → 0 < j → releases h j least entries s next ≡ refuse k p
+        go zero q = absurd (not-suc-le-zero q)
+        go (suc j) q = simp (got step e g)
+
+    module _ (r a : ℕ) (g : x ≡ Is r a) where
+      module _ (v : ℕ) (ev : v ≡ budgetAt h r) (y : Number) (ey : step y ≡ upTo v 12 12 s a) where
+        d : step y ≡ upTo (budgetAt h r) 12 12 s a
+        d = ey ∙ ap (λ (k : ℕ). upTo k 12 12 s a) ev
+
+        pub no-amount : (k p : ℕ) → y ≡ Refused k p → (z : SlotRead) → slotTold z ≡ slotHanded (refuse k p) → slotTold z ≡ slotHanded (releases h count 0 (noReleases mostRows) s at)
+        no-amount k p f z q = q ∙ ap slotHanded (sym (w .so-far ∙ turn r a g ∙ ap (λ (v : Step ℕ). after v (λ c b. releases h (left - 1) (r + 1) (set entries r c) s b)) (got step d f)))
+
+        pub one-more : (c b : ℕ) → y ≡ Is c b → Reading h s at count (set entries r c) b (r + 1) (left - 1)
+        one-more c b f = record {
+          long = length-set entries r c ∙ w .long;
+          so-far = w .so-far ∙ turn r a g ∙ ap (λ (v : Step ℕ). after v (λ c b. releases h (left - 1) (r + 1) (set entries r c) s b)) (got step d f);
+        }
+
+-- the ways out of `slot_at`
+module _ (h : Sheet) (s : List ℕ) (at : ℕ) (x : Number) (e : step x ≡ number s at) (y : SlotRead) where
+  pub slot-none : (k p : ℕ) → x ≡ Refused k p → slotTold y ≡ slotHanded (refuse k p) → slotTold y ≡ slotHanded (slot h (noReleases mostRows) s at)
+  unfolding slot
+  slot-none k p g f = let q : slot h (noReleases mostRows) s at ≡ refuse k p = simp (got step e g) in f ∙ ap slotHanded (sym q)
+
+  pub slot-some : (k a : ℕ) → x ≡ Is k a → slotTold y ≡ slotHanded (releases h k 0 (noReleases mostRows) s a) → slotTold y ≡ slotHanded (slot h (noReleases mostRows) s at)
+  unfolding slot
+  slot-some k a g f = let q : slot h (noReleases mostRows) s at ≡ releases h k 0 (noReleases mostRows) s a = simp (got step e g) in f ∙ ap slotHanded (sym q)
+
+-- the ways out of `read_slot`
+pub rows-few : (h : Sheet) (t : Bool) → t ≡ legal h → t ≡ true → h .count ≤ mostRows
+rows-few h t e f = legal-is h (sym e ∙ f) .most-rows
+
+module _ (h : Sheet) (s : List ℕ) (at : ℕ) (t : Bool) (e : t ≡ legal h) (y : SlotRead) where
+  pub slot-legal : t ≡ true → slotTold y ≡ slotHanded (slot h (noReleases mostRows) s at) → slotTold y ≡ readSlot h s at
+  unfolding readSlot
+  slot-legal f g = g ∙ ap (λ (b : Bool). slotHanded (pick b (slot h (noReleases mostRows) s at) (refuse 10 0))) (sym f ∙ e)
+
+  pub slot-illegal : t ≡ false → slotTold y ≡ slotHanded (refuse 10 0) → slotTold y ≡ readSlot h s at
+  unfolding readSlot
+  slot-illegal f g = g ∙ ap (λ (b : Bool). slotHanded (pick b (slot h (noReleases mostRows) s at) (refuse 10 0))) (sym f ∙ e)

@@ -1,0 +1,8 @@
+pub mod BothWays
+pub mod Cases
+pub mod Longest
+pub mod ReadIsWritten
+pub mod Same
+pub mod WrittenIsRead
+pub mod Inside
+mod Names

@@ -1,0 +1,34 @@
+-- What the functions inside the reader and the writer answer; no promise of a public function speaks of them.
+use Rattle.basis.specs.Prelude.{ℕ, _/_, _≤_, List, [], _++_, length, sets, eqb}
+use Rattle.basis.specs.Words.{pick}
+use Rattle.basis.specs.Readers.{Step, ok, refuse}
+use Rattle.numbers.specs.Numbers.{spell}
+use Rattle.scenario.specs.Form.{Held}
+use Rattle.scenario.specs.Written.{scenarioBytes}
+use Rattle.scenario.specs.Answers.{Answer, putAll}
+
+-- The number of slots.
+abbrev pub slotsOf : Held → ℕ
+slotsOf x = x .slots
+
+-- What was read has room in a list.
+abbrev pub Fills : Step Held → List ℕ → Type 0
+Fills (ok x n) l = length (x .entries) ≤ length l
+Fills (refuse number place) l = ⊥
+
+-- The list with what was read at its front.
+abbrev pub fillBy : Step Held → List ℕ → List ℕ
+fillBy (ok x n) l = sets l 0 (x .entries)
+fillBy (refuse number place) l = l
+
+-- One for a release, none for no release.
+unfoldable pub oneReleased : ℕ → ℕ
+oneReleased v = pick (eqb v 0) 0 1
+
+-- The bytes of the entry of row i.
+unfoldable pub entryBytes : ℕ → ℕ → List ℕ
+entryBytes i v = pick (eqb v 0) [] (spell i ++ spell v)
+
+-- The bytes of a list on n rows, where there is room.
+unfoldable pub putWritten : ℕ → List ℕ → List ℕ → Answer
+putWritten n l out = putAll (length (scenarioBytes n (length l / n) l)) (scenarioBytes n (length l / n) l) out

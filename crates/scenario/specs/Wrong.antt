@@ -1,0 +1,1 @@
+-- Wrong rules of a scenario, each the rule of wish 1 but for one thing, and the files and lists that tell them.

@@ -1,0 +1,122 @@
+// The reader of a whole scenario: first all of it is checked, and only then the list is filled.
+ghost use mathlib.Core.Path.{_≡_};
+ghost use mathlib.Core.Bool.{true};
+ghost use Prim.Native.Nat.{_+_, _≤_};
+ghost use lib.ListN.{length, take};
+ghost use lib.Seq.{sets};
+ghost use Rattle.basis.specs.Limits.{mostRows};
+ghost use Rattle.basis.specs.Readers.{mapStep};
+ghost use Rattle.numbers.specs.Numbers.{step};
+ghost use Rattle.sheet.specs.Legal.{legal};
+ghost use Rattle.sheet.specs.Lists.{sheetIn};
+ghost use Rattle.scenario.specs.Form.{slots};
+ghost use Rattle.scenario.specs.Answers.{readTold, filledBy, readScenario};
+ghost use Rattle.scenario.specs.Inside.Parts.{slotsOf, Fills, fillBy};
+use crate::slot::slot_at;
+use basis::MOST_ROWS;
+use basis::Refusal;
+use numbers::Number;
+
+// The scenario's mark.
+pub const MARK: [u8; 4] = *b"GSC\x01";
+
+// What the reader answers: accepted with the number of slots, or refused with none.
+pub struct ScenarioRead {
+    pub refusal: Refusal,
+    pub slots: u64,
+}
+
+// How many slots there are after the mark, on a sheet of n rows.
+fn count_slots(sheet: &[u64], n: u64, bytes: &[u8]) -> Number
+    requires { ⌜ (n ≡ sheetIn (now sheet) .count) × (sheetIn (now sheet) .count ≤ mostRows) ⌝ }
+    ensures { λ r. ⌜ step r ≡ mapStep slotsOf (slots (sheetIn (now (sheet .entry))) (length (now (bytes .entry))) (now (bytes .entry)) 4) ⌝ }
+{
+    let mut next: usize = 4;
+    let mut count: u64 = 0;
+    while next < bytes.len() {
+        let read = slot_at(sheet, n, bytes, next);
+        let refusal = read.refusal;
+        if let Refusal::Refused(number, place) = refusal {
+            return Number::Refused(number, place);
+        }
+        next = read.next;
+        count = count + 1;
+    }
+    Number::Is(count, next)
+}
+
+// Writes the entries of a slot into a list, from a place on.
+fn put_slot(entries: [u64; MOST_ROWS], n: usize, releases: &mut [u64], base: usize)
+    requires { ⌜ (n ≤ mostRows) × (base + n ≤ length (now releases)) ⌝ }
+    ensures { λ _. ⌜ now (releases .exit) ≡ sets (now (releases .entry)) base (take n entries) ⌝ }
+{
+    let mut i: usize = 0;
+    while i < n {
+        releases[base + i] = entries[i];
+        i += 1;
+    }
+}
+
+// Fills a list with the slots after the mark, where it has room for all of them and none is refused.
+fn fill(sheet: &[u64], n: u64, bytes: &[u8], releases: &mut [u64])
+    requires { ⌜ (n ≡ sheetIn (now sheet) .count) × (sheetIn (now sheet) .count ≤ mostRows) × Fills (slots (sheetIn (now sheet)) (length (now bytes)) (now bytes) 4) (now releases) ⌝ }
+    ensures { λ _. ⌜ now (releases .exit) ≡ fillBy (slots (sheetIn (now (sheet .entry))) (length (now (bytes .entry))) (now (bytes .entry)) 4) (now (releases .entry)) ⌝ }
+{
+    let wide = n as usize;
+    let mut next: usize = 4;
+    let mut base: usize = 0;
+    while next < bytes.len() {
+        let read = slot_at(sheet, n, bytes, next);
+        let entries = read.entries;
+        put_slot(entries, wide, releases, base);
+        next = read.next;
+        base = base + wide;
+    }
+}
+
+// The slots after the mark, on a sheet of n rows.
+fn read_marked(sheet: &[u64], n: u64, bytes: &[u8], releases: &mut [u64]) -> ScenarioRead
+    requires { ⌜ (n ≡ sheetIn (now sheet) .count) × (1 ≤ sheetIn (now sheet) .count) × (sheetIn (now sheet) .count ≤ mostRows) ⌝ }
+    ensures { λ r. ⌜ readTold r (now (releases .exit)) ≡ filledBy (slots (sheetIn (now (sheet .entry))) (length (now (bytes .entry))) (now (bytes .entry)) 4) (now (releases .entry)) ⌝ }
+{
+    match count_slots(sheet, n, bytes) {
+        Number::Refused(k, p) => ScenarioRead {
+            refusal: Refusal::Refused(k, p),
+            slots: 0,
+        },
+        Number::Is(slots, _) => {
+            if releases.len() as u64 / n < slots {
+                return ScenarioRead {
+                    refusal: Refusal::Refused(15, 0),
+                    slots: 0,
+                };
+            }
+            fill(sheet, n, bytes, releases);
+            ScenarioRead {
+                refusal: Refusal::Accepted,
+                slots,
+            }
+        }
+    }
+}
+
+// The releases that a scenario's bytes hold, written into a list; the number of slots, or the one refusal.
+pub fn read_scenario(sheet: &[u64], bytes: &[u8], releases: &mut [u64]) -> ScenarioRead
+    ensures { λ r. ⌜ readTold r (now (releases .exit)) ≡ readScenario (sheetIn (now (sheet .entry))) (now (bytes .entry)) (now (releases .entry)) ⌝ }
+{
+    let fine = sheet::is_legal(sheet);
+    if fine {
+        if basis::begins_with(bytes, &MARK) {
+            let n = sheet::count(sheet);
+            return read_marked(sheet, n, bytes, releases);
+        }
+        return ScenarioRead {
+            refusal: Refusal::Refused(1, 0),
+            slots: 0,
+        };
+    }
+    ScenarioRead {
+        refusal: Refusal::Refused(10, 0),
+        slots: 0,
+    }
+}
