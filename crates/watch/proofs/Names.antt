@@ -20,7 +20,7 @@ unfoldable pub use Rattle.machine.specs.Slot.{freeAt}
 pub use Rattle.machine.specs.States.{State}
 pub use Rattle.page.proofs.Digits.{decimal-is-short}
 pub use Rattle.page.proofs.Inside.Pages.{four-said, said-is-written, three-said, two-said}
-pub use Rattle.page.proofs.Inside.Written.{part-is-text}
+pub use Rattle.page.proofs.Inside.Written.{part-is-text, written-in-room}
 unfoldable pub use Rattle.page.specs.Decimals.{decimal, digits}
 pub use Rattle.page.specs.Pages.{Page}
 unfoldable pub use Rattle.page.specs.Pages.{said, written}

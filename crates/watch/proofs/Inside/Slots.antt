@@ -1,6 +1,6 @@
 -- One slot that is played, from what the machine answers and what its line's functions say. Assumes nothing.
 use Rattle.basis.specs.Prelude.{ℕ, _≤_, _≡_, refl, sym, ap, _∙_, List, length, take, length-take-le, length-replicate, arith}
-use Rattle.watch.proofs.Names.{mostRows, Outcome, accepted, refused, outcome, Refusal, Accepted, Refused, length-upto, Sheet, State, code, stateIn, slotIn, checkSlot, slotAnswer, SlotAnswer, given, nextState, nextCodes, slotBy, slot, slot-shows, Page, said, said-is-written, slotLine, refusedSlot, lineOf, noCodes, PlayAnswer, playAnswer, playedSlot}
+use Rattle.watch.proofs.Names.{mostRows, Outcome, accepted, refused, outcome, Refusal, Accepted, Refused, length-upto, Sheet, State, code, stateIn, slotIn, checkSlot, slotAnswer, SlotAnswer, given, nextState, nextCodes, slotBy, slot, slot-shows, Page, said, said-is-written, written-in-room, slotLine, refusedSlot, lineOf, noCodes, PlayAnswer, playAnswer, playedSlot}
 
 -- the code buffer after a slot is as long as before it
 pub codes-long : (h : Sheet) (t : State) (rel cs : List ℕ) → length (slot h t rel cs .codes) ≡ length cs
@@ -33,3 +33,12 @@ module _ (h : Sheet) (l rel buffer : List ℕ) (k : ℕ) (c : Refusal) (l′ ds 
     pub play-accepted : (q : Page) → q ≡ said (buffer, 0) (slotLine k (take n ds)) → playAnswer accepted l′ q ≡ playedSlot h l rel k buffer
     unfolding playedSlot lineOf
     play-accepted q g = rw (sym e, f, sym en) (ap (playAnswer accepted l′) (said-is-written q _ buffer g))
+
+-- the line is in its buffer
+module _ (h : Sheet) (l rel : List ℕ) (k : ℕ) (buffer : List ℕ) (o : Outcome) (l′ after : List ℕ) (n : ℕ) (e : playAnswer o l′ (after, n) ≡ playedSlot h l rel k buffer) where
+  pub played-in-room : n ≤ length after
+  unfolding playedSlot
+  played-in-room = written-in-room _ buffer after n (λ i. (e i .text, e i .long))
+
+  pub played-part : n ≡ length (take n after)
+  played-part = sym (length-take-le n after played-in-room)
