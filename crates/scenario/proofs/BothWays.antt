@@ -1,9 +1,9 @@
 -- Both ways, over the promises: a list that is written and read is the list again, a file that is read and written is its very bytes, and so each list has one file and each accepted file one list. Assumes nothing.
-use Rattle.basis.specs.Prelude.{ℕ, zero, suc, _+_, _*_, _/_, _%_, _≤_, _<_, _≡_, refl, sym, ap, ap₂, subst, _∙_, Bool, true, false, List, [], _++_, arith, div-add-mod', mul-mod-left, mul-div-cancel, length, getD, take, drop, length-append, sets, sets-eq, take-at, leb, ltb, eqb, le-leb, le-ltb, ltb-false, eq-eqb, leb-true}
-use Rattle.scenario.proofs.Names.{pick, Bytes, Step, ok, refuse, Outcome, accepted, refused, firstOf, first-at, first-more, rowAt, legal, Sheet, legal-is, Held, budgetAt, scenario, scenarioBytes, Answer, answer, nothingBy, putAll, filledBy, readScenario, overBudget, overAt, checkWhole, checkList, fileOf, writtenBy, writeScenario}
-use Rattle.scenario.proofs.WrittenIsRead.{Fits, written-is-read}
+use Rattle.basis.specs.Prelude.{_%_, _*_, _+_, _/_, _<_, _≤_, suc, zero, ℕ, _∙_, _≡_, ap, ap₂, refl, sym, List, drop, getD, length, take, arith, Bool, false, true, leb, ltb, eq-eqb, le-leb, le-ltb, leb-true, ltb-false, div-add-mod', mul-div-cancel, mul-mod-left, sets, sets-eq, take-at}
+use Rattle.scenario.proofs.Names.{answer, first-at, Bytes, Step, ok, refuse, Outcome, accepted, refused, firstOf, pick, Answer, filledBy, nothingBy, writtenBy, checkList, checkWhole, overAt, overBudget, readScenario, writeScenario, Held, budgetAt, scenario, fileOf, scenarioBytes, legal-is, legal, Sheet}
+use Rattle.scenario.proofs.Inside.Checks.{checked-legal, checked-even, checked-entries}
 use Rattle.scenario.proofs.ReadIsWritten.{read-is-written}
-use Rattle.scenario.proofs.Inside.Lengths.{checked-legal, checked-even, checked-entries}
+use Rattle.scenario.proofs.WrittenIsRead.{Fits, written-is-read}
 
 -- what was scenarioBytes at the front, where there is room
 front : (xs l : List ℕ) → length xs ≤ length l → take (length xs) (sets l 0 xs) ≡ xs

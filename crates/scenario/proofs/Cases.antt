@@ -1,6 +1,6 @@
 -- The worked scenarios hold of the definitions, each way. Assumes nothing.
-use Rattle.basis.specs.Prelude.{ℕ, _≡_, refl, List, [], _∷_, _++_}
-use Rattle.scenario.proofs.Names.{Each, begins, groups, upToBy, spelt, markBytes, row, releases, slot, slots, scenario, releasesIn, releasesBytes, slotBytes, slotsBytes, scenarioBytes, twoRows, FileCase, files}
+use Rattle.basis.specs.Prelude.{_≡_, refl, [], _∷_, _++_}
+use Rattle.scenario.proofs.Names.{Each, begins, groups, upToBy, spelt, markBytes, row, releases, slot, slots, scenario, releasesIn, releasesBytes, slotBytes, slotsBytes, scenarioBytes, twoRows, files}
 
 -- each file reads so
 pub worked-files : Each (λ c. scenario twoRows (markBytes ++ c .after-mark) 0 ≡ c .gives) files

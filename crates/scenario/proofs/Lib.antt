@@ -3,6 +3,8 @@ pub mod Cases
 pub mod Longest
 pub mod ReadIsWritten
 pub mod Same
+pub mod Slots
+pub mod Windows
 pub mod WrittenIsRead
 pub mod Inside
 mod Names

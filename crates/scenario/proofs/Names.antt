@@ -41,3 +41,7 @@ pub use Rattle.sheet.specs.Lists.{numberAt}
 pub use Rattle.sheet.specs.declared.row.Row.{Row}
 unfoldable pub use Rattle.sheet.specs.Lists.{rowIn, sheetIn}
 pub use Rattle.sheet.specs.declared.row.Sheet.{Sheet}
+pub use Rattle.scenario.specs.Windows.{Reaches, movedAnswer}
+unfoldable pub use Rattle.scenario.specs.Windows.{moved, movedBy}
+pub use Rattle.scenario.specs.Longest.{slotReach}
+unfoldable pub use Rattle.scenario.specs.Slots.{slotBySlot, slotThen}

@@ -1,6 +1,6 @@
 -- A scenario that is read is the one that would be written: writing it gives its very bytes. Assumes nothing.
-use Rattle.basis.specs.Prelude.{ℕ, zero, suc, _+_, _-_, _*_, _%_, _≤_, _<_, _≡_, refl, sym, ap, ap₂, subst, _∙_, Bool, true, false, ⊎-elim, List, [], _∷_, _++_, append-assoc, append-nil, arith, add-one, mod-eq-of-lt, add-mod-left, length, getD, take, drop, set, replicate, length-append, length-replicate, getD-replicate, replicate-append-replicate, List·getD-append, set-at, take-at, drop-at, getD-append-add, length-slice, eqb, ltb, lt-ltb, le-ltb, ltb-true, ltb-false, ne-eqb}
-use Rattle.scenario.proofs.Names.{Bytes, Step, ok, refuse, Reader, after, give, refuse-at, begins, marked, pick, getD-all, never-ok, ok-same, after-ok, passed, not-stopped, marked-ok, lt-or-le, number, upTo, spell, number-spelled, bounded, Covers, covers-then, covers-none, covers-as, covers-all, covers-mark, covers-number, covers-up-to, rowAt, Sheet, Held, noSlots, slotBefore, markBytes, budgetAt, noReleases, row, releases, slot, slots, scenario, releasesIn, releasesBytes, slotBytes, slotsBytes, scenarioBytes}
+use Rattle.basis.specs.Prelude.{ℕ, zero, suc, _+_, _-_, _%_, _≤_, _<_, _≡_, refl, sym, ap, ap₂, subst, _∙_, Bool, ⊎-elim, List, [], _∷_, _++_, append-assoc, arith, add-one, mod-eq-of-lt, add-mod-left, length, getD, set, length-append, length-replicate, replicate-append-replicate, List·getD-append, set-at, take-at, drop-at, getD-append-add, length-slice, ltb, lt-ltb, le-ltb, ltb-true, ltb-false, ne-eqb}
+use Rattle.scenario.proofs.Names.{Bytes, ok, after, give, marked, pick, getD-all, ok-same, after-ok, passed, not-stopped, marked-ok, lt-or-le, number, upTo, spell, number-spelled, bounded, Covers, covers-then, covers-none, covers-as, covers-all, covers-mark, covers-up-to, Sheet, Held, noSlots, slotBefore, markBytes, budgetAt, noReleases, row, releases, slot, slots, scenario, releasesIn, releasesBytes, slotBytes, slotsBytes, scenarioBytes}
 use Rattle.scenario.proofs.WrittenIsRead.{Fit, Fits, slot-some}
 
 -- rows without a release take no byte
