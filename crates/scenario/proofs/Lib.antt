@@ -6,5 +6,6 @@ pub mod Same
 pub mod Slots
 pub mod Windows
 pub mod WrittenIsRead
+pub mod Wrong
 pub mod Inside
 mod Names

@@ -1,6 +1,5 @@
 -- `put_mark` meets its promise: the bytes so far are stored. Assumes nothing.
-use Rattle.basis.specs.Prelude.{needs, _+_, _-_, _*_, _≤_, _≡_, refl, length, take, sets}
-use Rattle.scenario.proofs.Names.{mostRows}
+use Rattle.basis.specs.Prelude.{needs, _-_, _≤_, _≡_, length, take, sets}
 use Rattle.scenario.proofs.Inside.Files.{mark-none, mark-one, mark-all}
 use Rattle.scenario.proofs.writer.put_mark as this
 
