@@ -15,7 +15,7 @@ unfoldable pub use Rattle.basis.specs.Words.{allOf, sum}
 pub use Rattle.basis.specs.declared.refusal.Refusal.{Refusal}
 pub use Rattle.numbers.proofs.Back.{Reads, at-place, reads-give, reads-number, reads-then, reads-up-to}
 pub use Rattle.numbers.proofs.Inside.Bounds.{bounded, taken}
-pub use Rattle.numbers.proofs.Inside.Covers.{Covers, covers-all, covers-as, covers-mark, covers-none, covers-then, covers-up-to}
+pub use Rattle.numbers.proofs.Inside.Covers.{Covers, covers-all, covers-as, covers-mark, covers-none, covers-number, covers-then, covers-up-to}
 pub use Rattle.numbers.proofs.Inside.Groups.{one-less}
 pub use Rattle.numbers.proofs.Inside.Reach.{width-grows}
 pub use Rattle.numbers.proofs.OneSpelling.{number-spelled, spelt-more, spelt-one}

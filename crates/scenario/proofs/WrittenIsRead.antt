@@ -143,7 +143,7 @@ module _ (h : Sheet) (fine : Legal h) where
       reads-slots k g rest (p ++ bytes) s (at + length bytes) (omega arith) (fits-rest h k l f (fine .some-rows)) (e ∙ sym (append-assoc p bytes more)) (omega (arith, length-append p bytes)) in
       simp (lt-ltb at (length s) there, e₁, e₂) (ap₂ (λ (j : ℕ) (x : List ℕ). ok (record { slots = j; entries = x }) (length s)) (add-one k) (take-append-drop n l))
 
-  -- what is scenarioBytes is read back
+  -- what is written is read back
   pub written-is-read : (k : ℕ) (l : List ℕ) → Fits h k l → scenario h (scenarioBytes (h .count) k l) 0 ≡ ok (record { slots = k; entries = l }) (length (scenarioBytes (h .count) k l))
   unfolding scenario scenarioBytes begins
   written-is-read k l f =

@@ -1,6 +1,6 @@
 -- The checks of a list before it is written, and what a list that passes them shows. Assumes nothing.
 use Rattle.basis.specs.Prelude.{_%_, _+_, _<_, _≤_, ℕ, _∙_, _≡_, ap, ap₂, refl, sym, List, getD, length, arith, Bool, false, true, eqb, eq-eqb, eqb-true, ne-eqb, mod-lt}
-use Rattle.scenario.proofs.Names.{first-found, first-more, Outcome, accepted, outcome, refused, firstOf, pick, Refusal, Refused, checkList, checkWhole, overAt, overBudget, budgetAt, legal, Sheet}
+use Rattle.scenario.proofs.Names.{first-found, first-more, Outcome, accepted, outcome, refused, firstOf, pick, Refusal, checkList, checkWhole, overAt, overBudget, budgetAt, legal, Sheet}
 use Rattle.basis.specs.declared.refusal.Refusal.the-variants as refusal-variants
 
 module _ (h : Sheet) (l : List ℕ) (n i k : ℕ) (en : n ≡ h .count) (so-far : firstOf i (overAt h l) ≡ accepted) (ek : k ≡ i % n) (v : ℕ) (ev : v ≡ budgetAt h k)

@@ -1,6 +1,6 @@
 -- The loop that counts the slots of a scenario. Assumes nothing.
 use Rattle.basis.specs.Prelude.{_+_, _-_, _<_, _≤_, suc, zero, ℕ, _∙_, _≡_, ap, refl, sym, List, length, take, arith}
-use Rattle.scenario.proofs.Names.{mostRows, Step, after, ok, refuse, mapStep, outcome, Refused, slotHanded, slotTold, Held, noReleases, slotBefore, slot, slots, slotsOf, SlotRead, Sheet}
+use Rattle.scenario.proofs.Names.{mostRows, Step, after, ok, refuse, mapStep, outcome, slotHanded, slotTold, Held, noReleases, slotBefore, slot, slots, slotsOf, SlotRead, Sheet}
 use Rattle.scenario.proofs.Inside.OneSlot.{slot-goes, slot-no, slot-yes, slots-one, slots-no, slots-end}
 use Rattle.basis.specs.declared.refusal.Refusal.the-variants as refusal-variants
 

@@ -1,8 +1,8 @@
 -- The loops of the writer over the slots, after the mark: what they measure and store, and the whole. Assumes nothing.
-use Rattle.basis.specs.Prelude.{_*_, _+_, _-_, _/_, _<_, _≤_, suc, zero, ℕ, _∙_, _≡_, ap, ap₂, refl, sym, List, [], _++_, _∷_, append-assoc, append-nil, drop, getD, length, length-append, length-take, set, take, arith, Bool, false, true, leb, le-leb, leb-true, lt-leb, add-zero, div-add-mod', mul-le-mul-right, drop-drop, length-sets, length-take-le, sets, take-all, take-suc, add-one}
-use Rattle.scenario.proofs.Names.{mostRows, Outcome, accepted, outcome, refused, pick, Refusal, Refused, Answer, answer, nothingBy, writtenBy, checkList, writeScenario, markBytes, slots, putWritten, fileOf, scenarioBytes, slotBytes, slotsBytes, legal-is, Sheet}
+use Rattle.basis.specs.Prelude.{_*_, _+_, _-_, _/_, _<_, _≤_, suc, zero, ℕ, _∙_, _≡_, ap, ap₂, refl, sym, List, _++_, append-assoc, append-nil, drop, getD, length, length-append, length-take, set, take, arith, Bool, false, true, leb, le-leb, leb-true, lt-leb, add-zero, div-add-mod', mul-le-mul-right, drop-drop, length-sets, sets, take-all, add-one}
+use Rattle.scenario.proofs.Names.{mostRows, Outcome, accepted, outcome, refused, pick, Refusal, Answer, answer, nothingBy, writtenBy, checkList, writeScenario, markBytes, putWritten, fileOf, scenarioBytes, slotBytes, slotsBytes, legal-is, Sheet}
 use Rattle.scenario.proofs.Inside.Checks.{checked-legal, checked-even}
-use Rattle.scenario.proofs.Inside.Stored.{sets-after}
+use Rattle.scenario.proofs.Inside.Stored.{sets-after, store-one}
 use Rattle.basis.specs.declared.refusal.Refusal.the-variants as refusal-variants
 
 -- ---- the slots
@@ -128,11 +128,7 @@ pub mark-none : (l xs : List ℕ) → l ≡ sets l 0 (take 0 xs)
 mark-none l xs = refl
 
 pub mark-one : (l₀ l xs : List ℕ) (i : ℕ) → i < length xs → l ≡ sets l₀ 0 (take i xs) → set l i (getD xs i 0) ≡ sets l₀ 0 (take (i + 1) xs)
-mark-one l₀ l xs i b e =
-    let long : i ≡ 0 + length (take i xs) = omega (arith, length-take-le i xs (omega arith)) in
-    ap₂ (λ (x : List ℕ) (k : ℕ). set x k (getD xs i 0)) e long
-    ∙ sets-after l₀ 0 (take i xs) (getD xs i 0 ∷ [])
-    ∙ ap (sets l₀ 0) (sym (ap (λ (k : ℕ). take k xs) (add-one i) ∙ take-suc xs i 0 b))
+mark-one l₀ l xs i b e = let z : i ≡ 0 + i = omega arith in ap (λ (k : ℕ). set l k (getD xs i 0)) z ∙ store-one l₀ l 0 i xs b e
 
 pub mark-all : (l₀ l xs : List ℕ) (i : ℕ) → length xs ≤ i → l ≡ sets l₀ 0 (take i xs) → l ≡ sets l₀ 0 xs
 mark-all l₀ l xs i b e = e ∙ ap (sets l₀ 0) (take-all i xs b)

@@ -1,16 +1,11 @@
 -- The loop that fills a list with the slots of a scenario. Assumes nothing.
-use Rattle.basis.specs.Prelude.{_+_, _-_, _<_, _≤_, suc, zero, ℕ, _∙_, _≡_, ap, ap₂, refl, sym, List, [], _++_, _∷_, append-assoc, append-nil, getD, length, length-append, length-replicate, set, take, arith, lt-ltb, length-take-le, sets, take-suc, add-one}
-use Rattle.scenario.proofs.Names.{after-ok, never-ok, ok-same, mostRows, Step, after, ok, refuse, mapStep, accepted, SlotAnswer, slotHanded, slotTold, Held, noReleases, slotBefore, slot, slots, Fills, fillBy, SlotRead, Sheet}
-use Rattle.scenario.proofs.Inside.OneSlot.{slot-goes, slot-front, slot-yes, slots-end}
-use Rattle.scenario.proofs.Inside.Stored.{sets-after}
+use Rattle.basis.specs.Prelude.{_+_, _-_, _<_, _≤_, suc, zero, ℕ, _∙_, _≡_, ap, ap₂, refl, sym, List, [], _++_, append-assoc, append-nil, getD, length, length-append, length-replicate, set, take, arith, sets}
+use Rattle.scenario.proofs.Names.{never-ok, ok-same, mostRows, Step, ok, refuse, mapStep, accepted, SlotAnswer, slotHanded, slotTold, Held, noReleases, slotBefore, slot, slots, Fills, fillBy, SlotRead, Sheet}
+use Rattle.scenario.proofs.Inside.OneSlot.{slot-goes, slot-front, slot-yes, slots-end, slots-apart}
+use Rattle.scenario.proofs.Inside.Stored.{sets-after, store-one}
 
 pub put-one : (l₀ l : List ℕ) (base n i : ℕ) (xs : List ℕ) → i < n → n ≤ mostRows → length xs ≡ mostRows → l ≡ sets l₀ base (take i xs) → set l (base + i) (getD xs i 0) ≡ sets l₀ base (take (i + 1) xs)
-put-one l₀ l base n i xs b few full e =
-    let long : base + length (take i xs) ≡ base + i = ap (λ (k : ℕ). base + k) (length-take-le i xs (omega arith)) in
-    ap (λ (x : List ℕ). set x (base + i) (getD xs i 0)) e
-    ∙ ap (λ (k : ℕ). set (sets l₀ base (take i xs)) k (getD xs i 0)) (sym long)
-    ∙ sets-after l₀ base (take i xs) (getD xs i 0 ∷ [])
-    ∙ ap (sets l₀ base) (sym (ap (λ (k : ℕ). take k xs) (add-one i) ∙ take-suc xs i 0 (omega arith)))
+put-one l₀ l base n i xs b few full e = store-one l₀ l base i xs (omega arith) e
 
 pub put-all : (l₀ l : List ℕ) (base n i : ℕ) (xs : List ℕ) → i ≤ n → n ≤ i → l ≡ sets l₀ base (take i xs) → l ≡ sets l₀ base (take n xs)
 put-all l₀ l base n i xs a b e = let q : i ≡ n = omega arith in rw q at e
@@ -63,16 +58,12 @@ module _ (h : Sheet) (s l₀ l : List ℕ) (next base : ℕ) (w : Filling h s l�
     joined : slotBefore entries others ≡ w .rest
 
   slot-next : next < length s → Next
-  unfolding slots
   slot-next b = go (w .fuel) refl (w .enough) (w .left)
     where
       go : (f : ℕ) → w .fuel ≡ f → length s ≤ next + f → slots h f s next ≡ ok (w .rest) (w .end) → Next
       go zero ef m q = absurd (omega arith)
       go (suc f) ef m q =
-          let q′ : after (slot h (noReleases (h .count)) s next) (λ x m. after (slots h f s m) (λ y z. ok (slotBefore x y) z)) ≡ ok (w .rest) (w .end) = simp (lt-ltb next (length s) b) at q in
-          after-ok (slot h (noReleases (h .count)) s next) _ q′ λ x m e₁ e₂.
-          after-ok (slots h f s m) _ e₂ λ y z e₃ e₄.
-          let (er, en) = ok-same e₄ in
+          slots-apart h f s next b q λ x m y e₁ e₂ er.
           record {
             fuel = f;
             one-less = ef;
@@ -80,7 +71,7 @@ module _ (h : Sheet) (s l₀ l : List ℕ) (next base : ℕ) (w : Filling h s l�
             to = m;
             slot-is = e₁;
             others = y;
-            others-are = e₃ ∙ ap (ok y) en;
+            others-are = e₂;
             joined = er;
           }
 

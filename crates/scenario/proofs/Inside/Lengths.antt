@@ -72,9 +72,6 @@ pub entry-some : (i v a b : ℕ) → (v ≡ 0 → ⊥) → a ≡ width i → b �
 unfolding entryBytes width
 entry-some i v a b d e f = ap₂ (λ (x : ℕ) (y : ℕ). x + y) e f ∙ sym (simp (ne-eqb v 0 d) (length-append (spell i) (spell v)))
 
-pub two-few : (i v a b : ℕ) → a ≡ width i → b ≡ width v → a + b ≤ 6
-two-few i v a b e f = omega (arith, width-few i, width-few v)
-
 pub slot-long : (l : List ℕ) (k a b : ℕ) → k ≡ releasesIn l → a ≡ width k → b ≡ length (releasesBytes 0 l) → a + b ≡ length (slotBytes l)
 unfolding slotBytes width
 slot-long l k a b ek e f = omega (arith, length-append (spell (releasesIn l)) (releasesBytes 0 l), ap (λ (x : ℕ). length (spell x)) ek)

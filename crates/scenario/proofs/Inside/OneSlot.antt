@@ -1,6 +1,6 @@
 -- One slot of a scenario: it goes on, keeps the length of its entries and leaves rows past n alone; and the slots after it. Assumes nothing.
 use Rattle.basis.specs.Prelude.{_+_, _/_, _<_, _≤_, suc, zero, ℕ, _∙_, _≡_, ap, ap₂, refl, sym, List, _∷_, length, length-set, set, take, arith, ltb, le-ltb, lt-ltb, ltb-false, ltb-true, not-suc-le-zero, ⊎-elim, take-set-lt}
-use Rattle.scenario.proofs.Names.{after-ok, not-stopped, ok-same, passed, lt-or-le, mostGroups, mostRows, Step, after, give, ok, refuse, mapStep, accepted, refused, bounded, taken, spelt-more, spelt-one, number, upTo, spelt, SlotAnswer, slotHanded, slotTold, budgetAt, noReleases, noSlots, slotBefore, releases, row, slot, slots, SlotRead, Sheet}
+use Rattle.scenario.proofs.Names.{after-ok, not-stopped, ok-same, passed, lt-or-le, mostGroups, mostRows, Step, after, give, ok, refuse, mapStep, accepted, refused, bounded, taken, spelt-more, spelt-one, number, upTo, spelt, SlotAnswer, slotHanded, slotTold, Held, budgetAt, noReleases, noSlots, slotBefore, releases, row, slot, slots, SlotRead, Sheet}
 
 -- a number takes no more bytes than groups
 pub spelt-few : (g v : ℕ) → length (spelt g v) ≤ g
@@ -8,15 +8,15 @@ unfolding spelt
 spelt-few zero v = omega arith
 spelt-few (suc g) v = ⊎-elim (λ b. omega (arith, ap length (spelt-one g v b))) (λ b. omega (arith, ap length (spelt-more g v b), spelt-few g (v / 128))) (lt-or-le v 128)
 
--- what is known of a row that was read
-pub record RowIs (n least at r m : ℕ) : Type 0 where
+-- a row that is read is one of the sheet's, at or above the least, and takes a byte or more
+pub record RowIs (n least : ℕ) (s : List ℕ) (at r m : ℕ) : Type 0 where
+  pub read : number s at ≡ ok r m
   pub few : r < n
   pub above : least ≤ r
   pub goes : at < m
   pub near : m ≤ at + mostGroups
 
--- a row that is read is one of the sheet's, at or above the least, and takes a byte or more
-pub row-is : (n least : ℕ) (s : List ℕ) (at r m : ℕ) → row n least s at ≡ ok r m → RowIs n least at r m
+pub row-is : (n least : ℕ) (s : List ℕ) (at r m : ℕ) → row n least s at ≡ ok r m → RowIs n least s at r m
 unfolding row
 row-is n least s at r m e =
     after-ok (number s at) _ e λ v z e₁ e₂.
@@ -24,7 +24,13 @@ row-is n least s at r m e =
     let (u, e₄) = not-stopped (give v) 20 at s z (ltb v least) e₃ in
     let (ev, ez) = ok-same e₄ in
     let q = taken mostGroups at 0 s at v z (omega arith) e₁ in
-    record { few = omega (arith, ltb-true v n t); above = omega (arith, ltb-false v least u); goes = omega (arith, q .some-bytes); near = omega (arith, q .no-more, spelt-few mostGroups v) }
+    record {
+      read = e₁ ∙ e₄;
+      few = omega (arith, ltb-true v n t);
+      above = omega (arith, ltb-false v least u);
+      goes = omega (arith, q .some-bytes);
+      near = omega (arith, q .no-more, spelt-few mostGroups v);
+    }
 
 releases-go : (h : Sheet) (k least : ℕ) (l s : List ℕ) (at : ℕ) (x : List ℕ) (n : ℕ) → releases h k least l s at ≡ ok x n → (at ≤ n) × (length x ≡ length l)
 unfolding releases
@@ -112,3 +118,14 @@ pub slots-end : (h : Sheet) (f : ℕ) (s : List ℕ) (at : ℕ) → length s ≤
 unfolding slots
 slots-end h zero s at b = refl
 slots-end h (suc f) s at b = simp (le-ltb at (length s) b)
+
+-- slots that were read are the next one and the others
+pub slots-apart : {R : Type 0} (h : Sheet) (f : ℕ) (s : List ℕ) (at : ℕ) {x : Held} {n : ℕ} → at < length s → slots h (suc f) s at ≡ ok x n
+    → ((l : List ℕ) (m : ℕ) (y : Held) → slot h (noReleases (h .count)) s at ≡ ok l m → slots h f s m ≡ ok y n → slotBefore l y ≡ x → R) → R
+unfolding slots
+slots-apart h f s at {x} {n} b e k =
+    let e₀ : after (slot h (noReleases (h .count)) s at) (λ l m. after (slots h f s m) (λ y z. ok (slotBefore l y) z)) ≡ ok x n = simp (lt-ltb at (length s) b) at e in
+    after-ok (slot h (noReleases (h .count)) s at) _ e₀ λ l m e₁ e₂.
+    after-ok (slots h f s m) _ e₂ λ y z e₃ e₄.
+    let (ex, en) = ok-same e₄ in
+    k l m y e₁ (e₃ ∙ ap (ok y) en) ex

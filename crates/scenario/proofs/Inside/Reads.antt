@@ -1,7 +1,7 @@
 -- The ways out of the reader of a scenario. Assumes nothing.
-use Rattle.basis.specs.Prelude.{_*_, _/_, _<_, _≤_, suc, zero, ℕ, _∙_, _≡_, ap, ap₂, subst, sym, List, length, length-append, length-replicate, arith, Bool, false, true, le-leb, le-ltb, lt-leb, lt-ltb, div-lt-iff-lt-mul, le-div-iff-mul-le, ⊎-elim}
-use Rattle.scenario.proofs.Names.{after-ok, got, map-step-no, map-step-ok, ok-same, lt-or-le, Step, after, ok, refuse, begins, mapStep, accepted, refused, pick, step, Number, Is, Refused, Answer, answer, filledBy, nothingBy, readScenario, Held, markBytes, noReleases, noSlots, slotBefore, scenario, slot, slots, Fills, fillBy, slotsOf, legal-is, legal, Sheet}
-use Rattle.scenario.proofs.Inside.OneSlot.{slot-goes}
+use Rattle.basis.specs.Prelude.{_*_, _/_, _<_, _≤_, suc, zero, ℕ, _∙_, _≡_, ap, ap₂, subst, sym, List, length, length-append, length-replicate, arith, Bool, false, true, le-leb, le-ltb, lt-leb, div-lt-iff-lt-mul, le-div-iff-mul-le, ⊎-elim}
+use Rattle.scenario.proofs.Names.{got, map-step-no, map-step-ok, ok-same, lt-or-le, Step, after, ok, refuse, begins, mapStep, accepted, refused, pick, step, Number, Is, Refused, Answer, answer, filledBy, nothingBy, readScenario, Held, markBytes, noReleases, noSlots, scenario, slots, Fills, fillBy, slotsOf, legal-is, legal, Sheet}
+use Rattle.scenario.proofs.Inside.OneSlot.{slot-goes, slots-apart}
 
 -- as many entries as slots say
 slots-long : (h : Sheet) (f : ℕ) (s : List ℕ) (at : ℕ) (x : Held) (n : ℕ) → slots h f s at ≡ ok x n → length (x .entries) ≡ x .slots * h .count
@@ -10,12 +10,9 @@ slots-long h zero s at x n e = let (ex, _) = ok-same e in subst (λ (y : Held). 
 slots-long h (suc f) s at x n e =
     ⊎-elim
     (λ b.
-    let e₀ : after (slot h (noReleases (h .count)) s at) (λ l m. after (slots h f s m) (λ y z. ok (slotBefore l y) z)) ≡ ok x n = simp (lt-ltb at (length s) b) at e in
-    after-ok (slot h (noReleases (h .count)) s at) _ e₀ λ l m e₁ e₂.
-    after-ok (slots h f s m) _ e₂ λ y z e₃ e₄.
-    let (ex, _) = ok-same e₄ in
+    slots-apart h f s at b e λ l m y e₁ e₂ ex.
     let here : length l ≡ h .count = slot-goes h (noReleases (h .count)) s at l m e₁ .1 ∙ length-replicate (h .count) 0 in
-    subst (λ (v : Held). length (v .entries) ≡ v .slots * h .count) ex (omega (arith, length-append l (y .entries), slots-long h f s m y z e₃)))
+    subst (λ (v : Held). length (v .entries) ≡ v .slots * h .count) ex (omega (arith, length-append l (y .entries), slots-long h f s m y n e₂)))
     (λ b.
     let e₀ : ok noSlots at ≡ ok x n = simp (le-ltb at (length s) b) at e in
     let (ex, _) = ok-same e₀ in
