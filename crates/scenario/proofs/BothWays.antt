@@ -1,5 +1,5 @@
 -- Both ways, over the promises: a list that is written and read is the list again, a file that is read and written is its very bytes, and so each list has one file and each accepted file one list. Assumes nothing.
-use Rattle.basis.specs.Prelude.{_%_, _*_, _+_, _/_, _<_, _≤_, suc, zero, ℕ, _∙_, _≡_, ap, ap₂, refl, sym, List, drop, getD, length, take, arith, Bool, false, true, leb, ltb, eq-eqb, le-leb, le-ltb, leb-true, ltb-false, div-add-mod', mul-div-cancel, mul-mod-left, sets, sets-eq, take-at}
+use Rattle.basis.specs.Prelude.{ℕ, zero, suc, _+_, _*_, _/_, _≤_, _%_, _<_, _≡_, refl, sym, ap, ap₂, _∙_, Bool, true, mul-div-cancel, mul-mod-left, List, false, arith, length, getD, take, take-at, drop, sets-eq, ltb, div-add-mod', leb, sets, le-ltb, ltb-false, eq-eqb, le-leb, leb-true}
 use Rattle.scenario.proofs.Names.{first-at, Bytes, Step, ok, refuse, Outcome, accepted, refused, firstOf, pick, Answer, answer, filledBy, nothingBy, writtenBy, checkList, checkWhole, overAt, overBudget, readScenario, writeScenario, Held, budgetAt, scenario, fileOf, scenarioBytes, legal-is, legal, Sheet}
 use Rattle.scenario.proofs.Inside.Checks.{checked-legal, checked-even, checked-entries}
 use Rattle.scenario.proofs.ReadIsWritten.{read-is-written}

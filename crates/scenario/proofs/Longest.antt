@@ -1,5 +1,5 @@
 -- No scenario is longer than the longest of its slots, which is met, so a buffer of that size is never 15. Assumes nothing.
-use Rattle.basis.specs.Prelude.{_*_, _+_, _/_, _≤_, suc, zero, ℕ, _∙_, _≡_, ap, refl, sym, List, [], _++_, _∷_, drop, length, length-append, length-replicate, length-take, replicate, replicate-append-replicate, take, arith, Bool, false, true, eqb, le-leb, add-zero, zero-add, drop-at, sets, take-at}
+use Rattle.basis.specs.Prelude.{ℕ, zero, suc, _+_, _*_, _≤_, _/_, _≡_, refl, sym, ap, _∙_, Bool, true, List, false, replicate-append-replicate, [], _++_, _∷_, arith, take, length, drop, add-zero, take-at, replicate, zero-add, length-append, length-take, length-replicate, drop-at, sets, eqb, le-leb}
 use Rattle.scenario.proofs.Names.{sum-grows, mostSeparation, Outcome, accepted, refused, pick, sum, width-grows, spell, spelt, width, Answer, answer, nothingBy, writtenBy, checkList, writeScenario, markBytes, longestRelease, longestScenario, longestSlot, fileOf, releasesBytes, releasesIn, scenarioBytes, slotBytes, slotsBytes, Sheet}
 use Rattle.scenario.proofs.Inside.Lengths.{width-few}
 use Rattle.scenario.proofs.WrittenIsRead.{released-few}

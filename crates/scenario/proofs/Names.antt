@@ -18,7 +18,7 @@ pub use Rattle.numbers.proofs.Inside.Bounds.{bounded, taken}
 pub use Rattle.numbers.proofs.Inside.Covers.{Covers, covers-all, covers-as, covers-mark, covers-none, covers-number, covers-then, covers-up-to}
 pub use Rattle.numbers.proofs.Inside.Groups.{one-less}
 pub use Rattle.numbers.proofs.Inside.Reach.{width-grows}
-pub use Rattle.numbers.proofs.OneSpelling.{number-spelled, spelt-more, spelt-one}
+pub use Rattle.numbers.proofs.OneSpelling.{spelt-more, spelt-one}
 pub use Rattle.numbers.specs.Numbers.{number, spell, step, upTo}
 unfoldable pub use Rattle.numbers.specs.Numbers.{groups, spelt, upToBy, width}
 pub use Rattle.numbers.specs.declared.number.Number.{Number}

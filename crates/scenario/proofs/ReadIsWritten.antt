@@ -1,5 +1,5 @@
 -- A scenario that is read is the one that would be written: writing it gives its very bytes. Assumes nothing.
-use Rattle.basis.specs.Prelude.{_%_, _+_, _-_, _<_, _≤_, suc, zero, ℕ, _∙_, _≡_, ap, ap₂, refl, subst, sym, List, [], _++_, _∷_, append-assoc, List·getD-append, getD, length, length-append, length-replicate, replicate-append-replicate, set, arith, Bool, le-ltb, ne-eqb, add-mod-left, mod-eq-of-lt, ⊎-elim, drop-at, getD-append-add, set-at, take-at, add-one}
+use Rattle.basis.specs.Prelude.{ℕ, zero, _+_, suc, _-_, _≤_, _<_, _≡_, _%_, refl, sym, ap, _∙_, ap₂, subst, List, Bool, replicate-append-replicate, add-mod-left, mod-eq-of-lt, ⊎-elim, [], _++_, _∷_, arith, List·getD-append, append-assoc, take-at, length, getD-append-add, set-at, add-one, getD, set, length-append, length-replicate, drop-at, le-ltb, ne-eqb}
 use Rattle.scenario.proofs.Names.{getD-all, after-ok, marked-ok, ok-same, lt-or-le, Bytes, marked, ok, pick, bounded, Covers, covers-all, covers-as, covers-mark, covers-none, covers-number, covers-then, covers-up-to, number, spell, upTo, Held, budgetAt, markBytes, noReleases, noSlots, releases, row, scenario, slot, slots, releasesBytes, releasesIn, scenarioBytes, slotBytes, slotsBytes, Sheet}
 use Rattle.scenario.proofs.Inside.OneSlot.{row-is, slot-goes, slots-apart}
 use Rattle.scenario.proofs.WrittenIsRead.{Fit, Fits}

@@ -1,7 +1,7 @@
 -- The slots of a scenario are what the reader of one slot answers, one after another up to the end of the bytes. Assumes nothing.
-use Rattle.basis.specs.Prelude.{_<_, suc, zero, ℕ, _∙_, _≡_, ap, refl, sym, List, length, take, arith, Bool, false, true, le-ltb, lt-ltb, ⊎-elim}
-use Rattle.scenario.proofs.Names.{lt-or-le, mostRows, Step, after, ok, refuse, begins, mapStep, Outcome, accepted, refused, pick, SlotAnswer, slotHanded, readSlot, Held, markBytes, noReleases, slotBefore, scenario, slot, slots, legal-is, legal, Sheet, slotBySlot, slotThen}
-use Rattle.scenario.proofs.Inside.OneSlot.{slot-goes, slot-front}
+use Rattle.basis.specs.Prelude.{ℕ, zero, suc, _<_, _≡_, refl, sym, ap, _∙_, Bool, true, List, ⊎-elim, arith, length, take, lt-ltb, le-ltb}
+use Rattle.scenario.proofs.Names.{lt-or-le, mostRows, Step, after, ok, refuse, begins, mapStep, Outcome, accepted, refused, pick, SlotAnswer, slotHanded, readSlot, Held, markBytes, noReleases, slotBefore, scenario, slot, slots, slotBySlot, slotThen, legal-is, legal, Sheet}
+use Rattle.scenario.proofs.Inside.OneSlot.{slot-goes, slot-front, scenario-is}
 
 -- the reader of one slot on a legal sheet
 read-slot-is : (h : Sheet) (s : List ℕ) (at : ℕ) → legal h ≡ true → readSlot h s at ≡ slotHanded (slot h (noReleases mostRows) s at)
@@ -59,9 +59,4 @@ module _ (h : Sheet) (fine : legal h ≡ true) where
 
   -- a scenario: the mark, and from place 4 on slot by slot
   pub scenario-one-by-one : (s : List ℕ) → scenario h s 0 ≡ pick (begins markBytes s) (slotBySlot h (length s) s 4) (refuse 1 0)
-  unfolding scenario
-  scenario-one-by-one s = go (begins markBytes s)
-    where
-      go : (t : Bool) → after (pick t (ok (tt {0}) 4) (refuse 1 0)) (λ u n. slots h (length s) s n) ≡ pick t (slotBySlot h (length s) s 4) (refuse 1 0)
-      go true = slots-one-by-one (length s) s 4
-      go false = refl
+  scenario-one-by-one s = scenario-is h s ∙ ap (λ (x : Step Held). pick (begins markBytes s) x (refuse 1 0)) (slots-one-by-one (length s) s 4)

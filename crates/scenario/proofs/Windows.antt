@@ -1,5 +1,5 @@
 -- A slot is read in a window of the bytes as in the bytes, where the window reaches far enough. Assumes nothing.
-use Rattle.basis.specs.Prelude.{_*_, _+_, _-_, _≤_, suc, zero, ℕ, _∙_, _≡_, ap, refl, sym, List, _++_, length, set, arith, Bool, false, true}
+use Rattle.basis.specs.Prelude.{ℕ, zero, suc, _+_, _*_, _-_, _≤_, _≡_, refl, sym, ap, _∙_, Bool, true, false, List, _++_, arith, length, set}
 use Rattle.scenario.proofs.Names.{mostGroups, mostRows, Reader, Step, ok, refuse, pick, bounded, taken, number, upTo, slotHanded, readSlot, budgetAt, noReleases, releases, row, slot, legal-is, legal, Sheet, Reaches, movedAnswer, moved, movedBy, slotReach}
 use Rattle.scenario.proofs.Inside.Moves.{reaches-less, then-moved, number-moved, up-to-moved, row-moved}
 use Rattle.scenario.proofs.Inside.OneSlot.{spelt-few, row-is}

@@ -1,5 +1,5 @@
 -- A list that is written is read back as it was. Assumes nothing.
-use Rattle.basis.specs.Prelude.{ℕ, zero, suc, _+_, _*_, _%_, _^_, _≤_, _<_, _≡_, refl, sym, ap, ap₂, subst, _∙_, Bool, true, false, ⊎-elim, List, [], _∷_, _++_, append-assoc, append-nil, arith, le-refl, not-suc-le-zero, mod-eq-of-lt, add-mod-left, add-one, length, getD, take, drop, set, length-append, take-append-drop, length-drop, set-at, getD-take, getD-drop, length-take-le, eqb, lt-ltb, le-ltb, eqb-true, eqb-false}
+use Rattle.basis.specs.Prelude.{ℕ, zero, suc, _+_, _*_, _≤_, _<_, _≡_, _^_, _%_, refl, sym, ap, subst, ap₂, _∙_, true, Bool, List, false, ⊎-elim, [], mod-eq-of-lt, add-mod-left, getD-drop, _∷_, _++_, append-nil, arith, append-assoc, length, not-suc-le-zero, take, set-at, add-one, getD, le-refl, set, drop, take-append-drop, length-drop, getD-take, eqb-false, length-append, eqb, length-take-le, eqb-true, lt-ltb, le-ltb}
 use Rattle.scenario.proofs.Names.{mostGroups, pick, ok, give, begins, lt-or-le, number, upTo, spell, spelt-one, spelt-more, Reads, at-place, reads-give, reads-then, reads-number, reads-up-to, Legal, Sheet, noSlots, markBytes, budgetAt, noReleases, row, releases, slot, slots, scenario, releasesIn, releasesBytes, slotBytes, slotsBytes, scenarioBytes}
 
 -- at least one byte for a number

@@ -1,5 +1,5 @@
 -- Wrong rules of a scenario, each the rule of wish 1 but for one thing, and the files and lists that tell them.
-use Rattle.basis.specs.Prelude.{ℕ, zero, suc, _+_, _-_, _/_, List, [], _∷_, _++_, length, take, drop, set, ltb, leb}
+use Rattle.basis.specs.Prelude.{ℕ, zero, suc, _+_, _-_, _/_, List, [], _∷_, _++_, length, set, take, drop, ltb, leb}
 use Rattle.basis.specs.Words.{pick}
 use Rattle.basis.specs.Refusals.{Outcome, accepted, refused}
 use Rattle.basis.specs.Readers.{Reader, after, _>>=_, _>>_, give, refuse-at, here, marked}

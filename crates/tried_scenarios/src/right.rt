@@ -2,7 +2,6 @@
 ghost use mathlib.Core.Path.{_≡_};
 ghost use Rattle.sheet.specs.Lists.{sheetIn};
 ghost use Rattle.scenario.specs.Answers.{slotTold, readTold, writtenTold, readSlot, readScenario, writeScenario};
-use basis::Refusal;
 use scenario::ScenarioRead;
 use scenario::ScenarioWritten;
 use scenario::SlotRead;

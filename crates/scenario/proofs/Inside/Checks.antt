@@ -1,5 +1,5 @@
 -- The checks of a list before it is written, and what a list that passes them shows. Assumes nothing.
-use Rattle.basis.specs.Prelude.{_%_, _+_, _<_, _≤_, ℕ, _∙_, _≡_, ap, ap₂, refl, sym, List, getD, length, arith, Bool, false, true, eqb, eq-eqb, eqb-true, ne-eqb, mod-lt}
+use Rattle.basis.specs.Prelude.{ℕ, _+_, _%_, _≤_, _<_, _≡_, refl, sym, ap, ap₂, _∙_, Bool, true, false, List, length, arith, eqb, getD, mod-lt, eq-eqb, ne-eqb, eqb-true}
 use Rattle.scenario.proofs.Names.{first-found, first-more, Outcome, accepted, outcome, refused, firstOf, pick, Refusal, checkList, checkWhole, overAt, overBudget, budgetAt, legal, Sheet}
 use Rattle.basis.specs.declared.refusal.Refusal.the-variants as refusal-variants
 

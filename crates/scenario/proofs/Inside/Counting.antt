@@ -1,5 +1,5 @@
 -- The loop that counts the slots of a scenario. Assumes nothing.
-use Rattle.basis.specs.Prelude.{_+_, _-_, _<_, _≤_, suc, zero, ℕ, _∙_, _≡_, ap, refl, sym, List, length, take, arith}
+use Rattle.basis.specs.Prelude.{ℕ, zero, suc, _+_, _-_, _≤_, _<_, _≡_, refl, sym, ap, _∙_, List, arith, length, take}
 use Rattle.scenario.proofs.Names.{mostRows, Step, after, ok, refuse, mapStep, outcome, slotHanded, slotTold, Held, noReleases, slotBefore, slot, slots, slotsOf, SlotRead, Sheet}
 use Rattle.scenario.proofs.Inside.OneSlot.{slot-goes, slot-no, slot-yes, slots-one, slots-no, slots-end}
 use Rattle.basis.specs.declared.refusal.Refusal.the-variants as refusal-variants
@@ -18,6 +18,7 @@ unfolding mapStep
 added-one k l (ok y n) = ap (λ (j : ℕ). ok j n) (omega arith)
 added-one k l (refuse i p) = refl
 
+-- the count so far, and the slots still to be counted
 pub record Counting (h : Sheet) (s : List ℕ) (next count : ℕ) : Type 0 where
   pub fuel : ℕ
   pub enough : length s ≤ next + fuel

@@ -1,5 +1,5 @@
 -- The loops of the writer over the slots, after the mark: what they measure and store, and the whole. Assumes nothing.
-use Rattle.basis.specs.Prelude.{_*_, _+_, _-_, _/_, _<_, _≤_, suc, zero, ℕ, _∙_, _≡_, ap, ap₂, refl, sym, List, _++_, append-assoc, append-nil, drop, getD, length, length-append, length-take, set, take, arith, Bool, false, true, leb, le-leb, leb-true, lt-leb, add-zero, div-add-mod', mul-le-mul-right, drop-drop, length-sets, sets, take-all, add-one}
+use Rattle.basis.specs.Prelude.{ℕ, zero, suc, _+_, _*_, _-_, _/_, _≤_, _<_, _≡_, refl, sym, ap, _∙_, ap₂, Bool, true, false, List, drop-drop, length-sets, _++_, append-nil, arith, append-assoc, mul-le-mul-right, length, getD, add-one, set, add-zero, take, drop, length-take, div-add-mod', length-append, leb-true, sets, take-all, leb, lt-leb, le-leb}
 use Rattle.scenario.proofs.Names.{mostRows, Outcome, accepted, outcome, refused, pick, Refusal, Answer, answer, nothingBy, writtenBy, checkList, writeScenario, markBytes, putWritten, fileOf, scenarioBytes, slotBytes, slotsBytes, legal-is, Sheet}
 use Rattle.scenario.proofs.Inside.Checks.{checked-legal, checked-even}
 use Rattle.scenario.proofs.Inside.Stored.{sets-after, store-one}
@@ -124,9 +124,6 @@ pub same-room : (n slots : ℕ) (l out₀ out₁ : List ℕ) → out₁ ≡ sets
 same-room n slots l out₀ out₁ e r = omega (arith, ap length e, length-sets out₀ 0 markBytes)
 
 -- `put_mark`
-pub mark-none : (l xs : List ℕ) → l ≡ sets l 0 (take 0 xs)
-mark-none l xs = refl
-
 pub mark-one : (l₀ l xs : List ℕ) (i : ℕ) → i < length xs → l ≡ sets l₀ 0 (take i xs) → set l i (getD xs i 0) ≡ sets l₀ 0 (take (i + 1) xs)
 mark-one l₀ l xs i b e = let z : i ≡ 0 + i = omega arith in ap (λ (k : ℕ). set l k (getD xs i 0)) z ∙ store-one l₀ l 0 i xs b e
 

@@ -1,15 +1,17 @@
 -- The loop that fills a list with the slots of a scenario. Assumes nothing.
-use Rattle.basis.specs.Prelude.{_+_, _-_, _<_, _≤_, suc, zero, ℕ, _∙_, _≡_, ap, ap₂, refl, sym, List, [], _++_, append-assoc, append-nil, getD, length, length-append, length-replicate, set, take, arith, sets}
+use Rattle.basis.specs.Prelude.{ℕ, zero, suc, _+_, _-_, _≤_, _<_, _≡_, refl, sym, ap, ap₂, _∙_, List, [], _++_, append-nil, append-assoc, arith, length, getD, set, take, length-append, length-replicate, sets}
 use Rattle.scenario.proofs.Names.{never-ok, ok-same, mostRows, Step, ok, refuse, mapStep, accepted, SlotAnswer, slotHanded, slotTold, Held, noReleases, slotBefore, slot, slots, Fills, fillBy, SlotRead, Sheet}
 use Rattle.scenario.proofs.Inside.OneSlot.{slot-goes, slot-front, slot-yes, slots-end, slots-apart}
 use Rattle.scenario.proofs.Inside.Stored.{sets-after, store-one}
 
+-- the loop of `put_slot`
 pub put-one : (l₀ l : List ℕ) (base n i : ℕ) (xs : List ℕ) → i < n → n ≤ mostRows → length xs ≡ mostRows → l ≡ sets l₀ base (take i xs) → set l (base + i) (getD xs i 0) ≡ sets l₀ base (take (i + 1) xs)
 put-one l₀ l base n i xs b few full e = store-one l₀ l base i xs (omega arith) e
 
 pub put-all : (l₀ l : List ℕ) (base n i : ℕ) (xs : List ℕ) → i ≤ n → n ≤ i → l ≡ sets l₀ base (take i xs) → l ≡ sets l₀ base (take n xs)
 put-all l₀ l base n i xs a b e = let q : i ≡ n = omega arith in rw q at e
 
+-- the slots so far are stored at the front of the list, and those still to be read have room after them
 pub record Filling (h : Sheet) (s l₀ l : List ℕ) (next base : ℕ) : Type 0 where
   pub fuel : ℕ
   pub enough : length s ≤ next + fuel
@@ -49,7 +51,7 @@ module _ (h : Sheet) (s l₀ l : List ℕ) (next base : ℕ) (w : Filling h s l�
   -- the slot that is next
   record Next : Type 0 where
     fuel : ℕ
-    one-less : w .fuel ≡ suc fuel
+    enough : length s ≤ next + suc fuel
     entries : List ℕ
     to : ℕ
     slot-is : slot h (noReleases (h .count)) s next ≡ ok entries to
@@ -58,22 +60,13 @@ module _ (h : Sheet) (s l₀ l : List ℕ) (next base : ℕ) (w : Filling h s l�
     joined : slotBefore entries others ≡ w .rest
 
   slot-next : next < length s → Next
-  slot-next b = go (w .fuel) refl (w .enough) (w .left)
+  slot-next b = go (w .fuel) (w .enough) (w .left)
     where
-      go : (f : ℕ) → w .fuel ≡ f → length s ≤ next + f → slots h f s next ≡ ok (w .rest) (w .end) → Next
-      go zero ef m q = absurd (omega arith)
-      go (suc f) ef m q =
-          slots-apart h f s next b q λ x m y e₁ e₂ er.
-          record {
-            fuel = f;
-            one-less = ef;
-            entries = x;
-            to = m;
-            slot-is = e₁;
-            others = y;
-            others-are = e₂;
-            joined = er;
-          }
+      go : (f : ℕ) → length s ≤ next + f → slots h f s next ≡ ok (w .rest) (w .end) → Next
+      go zero m q = absurd (omega arith)
+      go (suc f) m q =
+          slots-apart h f s next b q λ x to y e₁ e₂ er.
+          record { fuel = f; enough = m; entries = x; to = to; slot-is = e₁; others = y; others-are = e₂; joined = er }
 
   module _ (few : h .count ≤ mostRows) (b : next < length s) where
     slot-long : (x : Next) → length (x .entries) ≡ h .count
@@ -109,7 +102,7 @@ module _ (h : Sheet) (s l₀ l : List ℕ) (next base : ℕ) (w : Filling h s l�
           let (ex, em) = same-slot x in
           record {
             fuel = x .fuel;
-            enough = omega (arith, w .enough, x .one-less, fill-goes);
+            enough = omega (arith, x .enough, fill-goes);
             rest = x .others;
             end = w .end;
             left = ap (slots h (x .fuel) s) (sym em) ∙ x .others-are;

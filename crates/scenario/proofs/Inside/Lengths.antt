@@ -1,5 +1,5 @@
 -- How many bytes the entries of a slot take, one after another. Assumes nothing.
-use Rattle.basis.specs.Prelude.{_+_, _<_, _≤_, suc, ℕ, _∙_, _≡_, ap, ap₂, sym, List, [], _++_, _∷_, append-assoc, append-nil, getD, length, length-append, take, arith, Bool, false, true, eqb, eq-eqb, ne-eqb, add-zero, length-take-le, take-all, take-suc, add-one}
+use Rattle.basis.specs.Prelude.{ℕ, suc, _+_, _≤_, _<_, _≡_, sym, ap, ap₂, _∙_, Bool, true, List, false, [], _∷_, _++_, append-nil, append-assoc, arith, add-one, length, getD, add-zero, take, length-append, length-take-le, take-suc, eqb, take-all, eq-eqb, ne-eqb}
 use Rattle.scenario.proofs.Names.{mostGroups, pick, spell, width, entryBytes, oneReleased, releasesBytes, releasesIn, slotBytes}
 use Rattle.scenario.proofs.Inside.OneSlot.{spelt-few}
 

@@ -1,5 +1,5 @@
 -- What a reader says of a window of the bytes it says of the bytes, its place so much further on. Assumes nothing.
-use Rattle.basis.specs.Prelude.{_*_, _+_, _-_, _≤_, suc, zero, ℕ, _∙_, _≡_, ap, ap₂, refl, List, _++_, List·getD-append, getD, length, length-append, arith, Bool, false, true, eqb, leb, ltb, le-ltb, lt-ltb, inl, inr, ⊎-elim, getD-append-add}
+use Rattle.basis.specs.Prelude.{ℕ, zero, _+_, suc, _*_, _-_, _≤_, _≡_, refl, ap, _∙_, ap₂, Bool, true, false, inl, List, inr, ⊎-elim, _++_, arith, List·getD-append, length, getD, getD-append-add, length-append, ltb, eqb, leb, lt-ltb, le-ltb}
 use Rattle.scenario.proofs.Names.{lt-or-le, mostGroups, Reader, Step, after, give, ok, refuse, refuse-at, pick, number, upTo, groups, upToBy, row, Reaches, moved}
 use Rattle.basis.proofs.Inside.Steps.{byte-ok}
 use Rattle.basis.specs.Readers.{_>>=_, byte}

@@ -1,6 +1,6 @@
 -- One slot of a scenario: it goes on, keeps the length of its entries and leaves rows past n alone; and the slots after it. Assumes nothing.
-use Rattle.basis.specs.Prelude.{_+_, _/_, _<_, _≤_, suc, zero, ℕ, _∙_, _≡_, ap, ap₂, refl, sym, List, _∷_, length, length-set, set, take, arith, ltb, le-ltb, lt-ltb, ltb-false, ltb-true, not-suc-le-zero, ⊎-elim, take-set-lt}
-use Rattle.scenario.proofs.Names.{after-ok, not-stopped, ok-same, passed, lt-or-le, mostGroups, mostRows, Step, after, give, ok, refuse, mapStep, accepted, refused, bounded, taken, spelt-more, spelt-one, number, upTo, spelt, SlotAnswer, slotHanded, slotTold, Held, budgetAt, noReleases, noSlots, slotBefore, releases, row, slot, slots, SlotRead, Sheet}
+use Rattle.basis.specs.Prelude.{ℕ, zero, suc, _+_, _/_, _≤_, _<_, _≡_, refl, sym, ap, ap₂, _∙_, Bool, true, take-set-lt, false, List, ⊎-elim, _∷_, arith, not-suc-le-zero, length, set, length-set, take, ltb, lt-ltb, ltb-true, le-ltb, ltb-false}
+use Rattle.scenario.proofs.Names.{after-ok, not-stopped, ok-same, passed, lt-or-le, mostGroups, mostRows, Step, after, give, ok, refuse, begins, mapStep, accepted, refused, pick, bounded, taken, spelt-more, spelt-one, number, upTo, spelt, SlotAnswer, slotHanded, slotTold, Held, budgetAt, markBytes, noReleases, noSlots, slotBefore, releases, row, scenario, slot, slots, SlotRead, Sheet}
 
 -- a number takes no more bytes than groups
 pub spelt-few : (g v : ℕ) → length (spelt g v) ≤ g
@@ -129,3 +129,12 @@ slots-apart h f s at {x} {n} b e k =
     after-ok (slots h f s m) _ e₂ λ y z e₃ e₄.
     let (ex, en) = ok-same e₄ in
     k l m y e₁ (e₃ ∙ ap (ok y) en) ex
+
+-- a scenario is what stands after its mark
+pub scenario-is : (h : Sheet) (s : List ℕ) → scenario h s 0 ≡ pick (begins markBytes s) (slots h (length s) s 4) (refuse 1 0)
+unfolding scenario
+scenario-is h s = go (begins markBytes s)
+  where
+    go : (t : Bool) → after (pick t (ok (tt {0}) 4) (refuse 1 0)) (λ u n. slots h (length s) s n) ≡ pick t (slots h (length s) s 4) (refuse 1 0)
+    go true = refl
+    go false = refl

@@ -1,7 +1,7 @@
 -- The ways out of the reader of a scenario. Assumes nothing.
-use Rattle.basis.specs.Prelude.{_*_, _/_, _<_, _≤_, suc, zero, ℕ, _∙_, _≡_, ap, ap₂, subst, sym, List, length, length-append, length-replicate, arith, Bool, false, true, le-leb, le-ltb, lt-leb, div-lt-iff-lt-mul, le-div-iff-mul-le, ⊎-elim}
-use Rattle.scenario.proofs.Names.{got, map-step-no, map-step-ok, ok-same, lt-or-le, Step, after, ok, refuse, begins, mapStep, accepted, refused, pick, step, Number, Is, Refused, Answer, answer, filledBy, nothingBy, readScenario, Held, markBytes, noReleases, noSlots, scenario, slots, Fills, fillBy, slotsOf, legal-is, legal, Sheet}
-use Rattle.scenario.proofs.Inside.OneSlot.{slot-goes, slots-apart}
+use Rattle.basis.specs.Prelude.{ℕ, zero, suc, _*_, _/_, _≤_, _<_, _≡_, sym, ap, ap₂, subst, _∙_, div-lt-iff-lt-mul, le-div-iff-mul-le, Bool, true, false, List, ⊎-elim, arith, length, length-append, length-replicate, le-ltb, le-leb, lt-leb}
+use Rattle.scenario.proofs.Names.{got, map-step-no, map-step-ok, ok-same, lt-or-le, Step, ok, refuse, begins, mapStep, accepted, refused, pick, step, Number, Is, Refused, Answer, answer, filledBy, nothingBy, readScenario, Held, markBytes, noReleases, noSlots, scenario, slots, Fills, fillBy, slotsOf, legal-is, legal, Sheet}
+use Rattle.scenario.proofs.Inside.OneSlot.{slot-goes, slots-apart, scenario-is}
 
 -- as many entries as slots say
 slots-long : (h : Sheet) (f : ℕ) (s : List ℕ) (at : ℕ) (x : Held) (n : ℕ) → slots h f s at ≡ ok x n → length (x .entries) ≡ x .slots * h .count
@@ -18,15 +18,6 @@ slots-long h (suc f) s at x n e =
     let (ex, _) = ok-same e₀ in
     subst (λ (y : Held). length (y .entries) ≡ y .slots * h .count) ex (omega arith))
     (lt-or-le at (length s))
-
--- a scenario that is marked is what stands after the mark
-marked-is : (h : Sheet) (s : List ℕ) (b : Bool) → b ≡ begins markBytes s → b ≡ true → scenario h s 0 ≡ slots h (length s) s 4
-unfolding scenario
-marked-is h s b e f = ap (λ (t : Bool). after (pick t (ok (tt {0}) 4) (refuse 1 0)) (λ u n. slots h (length s) s n)) (sym e ∙ f)
-
-unmarked-is : (h : Sheet) (s : List ℕ) (b : Bool) → b ≡ begins markBytes s → b ≡ false → scenario h s 0 ≡ refuse 1 0
-unfolding scenario
-unmarked-is h s b e f = ap (λ (t : Bool). after (pick t (ok (tt {0}) 4) (refuse 1 0)) (λ u n. slots h (length s) s n)) (sym e ∙ f)
 
 -- the ways out of `read_marked`
 module _ (h : Sheet) (s l : List ℕ) (pos : 1 ≤ h .count) (x : Number) (ex : step x ≡ mapStep slotsOf (slots h (length s) s 4)) where
@@ -62,15 +53,17 @@ module _ (h : Sheet) (s l : List ℕ) (t : Bool) (et : t ≡ legal h) where
   read-illegal f = ap (λ (b : Bool). pick b (filledBy (scenario h s 0) l) (nothingBy (refused 10 0) l)) (sym f ∙ et)
 
   module _ (legally : t ≡ true) (b : Bool) (eb : b ≡ begins markBytes s) where
-    read-as : (x : Step Held) → scenario h s 0 ≡ x → readScenario h s l ≡ filledBy x l
+    read-as : readScenario h s l ≡ filledBy (pick b (slots h (length s) s 4) (refuse 1 0)) l
     unfolding readScenario
-    read-as x q = ap (λ (b : Bool). pick b (filledBy (scenario h s 0) l) (nothingBy (refused 10 0) l)) (sym (sym legally ∙ et)) ∙ ap (λ (y : Step Held). filledBy y l) q
+    read-as =
+        ap (λ (b : Bool). pick b (filledBy (scenario h s 0) l) (nothingBy (refused 10 0) l)) (sym et ∙ legally)
+        ∙ ap (λ (x : Step Held). filledBy x l) (scenario-is h s ∙ ap (λ (t : Bool). pick t (slots h (length s) s 4) (refuse 1 0)) (sym eb))
 
     pub read-unmarked : b ≡ false → nothingBy (refused 1 0) l ≡ readScenario h s l
-    read-unmarked f = sym (read-as (refuse 1 0) (unmarked-is h s b eb f))
+    read-unmarked f = sym (read-as ∙ ap (λ (t : Bool). filledBy (pick t (slots h (length s) s 4) (refuse 1 0)) l) f)
 
     pub read-rest : b ≡ true → (a : Answer) → a ≡ filledBy (slots h (length s) s 4) l → a ≡ readScenario h s l
-    read-rest is a f = f ∙ sym (read-as (slots h (length s) s 4) (marked-is h s b eb is))
+    read-rest is a f = f ∙ sym (read-as ∙ ap (λ (t : Bool). filledBy (pick t (slots h (length s) s 4) (refuse 1 0)) l) is)
 
   pub rows-some : t ≡ true → 1 ≤ h .count
   rows-some f = legal-is h (sym et ∙ f) .some-rows

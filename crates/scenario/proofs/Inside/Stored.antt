@@ -1,5 +1,5 @@
 -- Stores one after another. Assumes nothing.
-use Rattle.basis.specs.Prelude.{_+_, _<_, suc, ℕ, _∙_, _≡_, ap, ap₂, sym, List, [], _++_, _∷_, getD, length, set, take, arith, add-zero, length-take-le, sets, take-suc, add-one}
+use Rattle.basis.specs.Prelude.{ℕ, suc, _+_, _<_, _≡_, sym, ap, ap₂, _∙_, List, [], _∷_, _++_, arith, length, getD, add-zero, add-one, set, take, length-take-le, sets, take-suc}
 
 pub sets-after : (l : List ℕ) (i : ℕ) (xs ys : List ℕ) → sets (sets l i xs) (i + length xs) ys ≡ sets l i (xs ++ ys)
 sets-after l i [] ys = ap (λ (k : ℕ). sets l k ys) (add-zero i)

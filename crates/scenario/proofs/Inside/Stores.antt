@@ -1,5 +1,5 @@
 -- The loop of the writer that stores the entries of a slot, and the room that it has. Assumes nothing.
-use Rattle.basis.specs.Prelude.{_+_, _<_, _≤_, ℕ, _∙_, _≡_, ap, ap₂, refl, sym, List, [], _++_, drop, getD, length, length-append, take, take-append-drop, arith, Bool, eqb, eq-eqb, ne-eqb, add-zero, length-sets, sets, take-all}
+use Rattle.basis.specs.Prelude.{ℕ, _+_, _≤_, _<_, _≡_, refl, sym, ap, ap₂, _∙_, List, Bool, [], _++_, length-sets, arith, length, getD, take, drop, take-append-drop, add-zero, length-append, take-all, eqb, sets, eq-eqb, ne-eqb}
 use Rattle.scenario.proofs.Names.{pick, spell, width, entryBytes, releasesBytes, releasesIn, slotBytes}
 use Rattle.scenario.proofs.Inside.Lengths.{releases-both, bytes-more, entry-some}
 use Rattle.scenario.proofs.Inside.Stored.{sets-after}
