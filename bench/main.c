@@ -4,6 +4,7 @@
 int printf(const char *format, ...);
 int dprintf(int file, const char *format, ...);
 int memcmp(const void *a, const void *b, size_t count);
+void *memcpy(void *to, const void *from, size_t count);
 void exit(int status);
 struct clock_reading {
   long seconds, nanoseconds;
@@ -20,6 +21,8 @@ const written_t *sheets = batch;
 size_t sheet_count;
 sheet_t running;
 uint64_t list[2 + 4 * MOST_ROWS], releases[SLOTS * MOST_ROWS];
+uint8_t scenario[SCENARIO_ROOM];
+size_t scenario_length;
 
 /* The sides, the proved one first; one that is left out is NULL. */
 enum { SIDES = 3 };
@@ -164,6 +167,37 @@ static void slots(const char *name, uint64_t rows, int job) {
   measure("Slots", name, job, SLOTS);
 }
 
+/* -- scenarios -- */
+
+/* One row in so many releases a part of its budget. */
+static void release_some(uint64_t often) {
+  uint64_t seed = 20261116;
+  for (size_t i = 0; i < SLOTS * running.count; i++) releases[i] = roll(&seed, often) == 0 ? 1 + roll(&seed, running.rows[i % running.count].budget) : 0;
+}
+
+/* All sides write the same bytes, which are kept, and read the releases back. */
+static void same_scenarios(const char *name) {
+  proved.jobs[WRITE_SCENARIO]();
+  scenario_length = *proved.length;
+  memcpy(scenario, proved.bytes, scenario_length);
+  for (int i = 0; i < SIDES; i++) {
+    if (!side[i]) continue;
+    side[i]->jobs[WRITE_SCENARIO]();
+    if (*side[i]->length != scenario_length || memcmp(side[i]->bytes, scenario, scenario_length) != 0) differ(name, "a scenario");
+    side[i]->jobs[READ_SCENARIO]();
+    if (*side[i]->done != SLOTS || memcmp(side[i]->entries, releases, SLOTS * running.count * sizeof *releases) != 0) differ(name, "releases");
+  }
+}
+
+static void scenarios(const char *name, uint64_t rows, uint64_t often, int job) {
+  uint64_t seed = 20261115;
+  running = ordinary(&seed, rows, 100000, 70);
+  list_sheet(&running, list);
+  release_some(often);
+  same_scenarios(name);
+  measure("Slots of a scenario", name, job, SLOTS);
+}
+
 int main(void) {
   against("Verdicts, against the same search in C", VERDICTS);
   slots("a run, 2 rows", 2, RUN);
@@ -172,6 +206,16 @@ int main(void) {
   slots("one by one, 8 rows", 8, ONE_BY_ONE);
   slots("a run, 32 rows", 32, RUN);
   slots("one by one, 32 rows", 32, ONE_BY_ONE);
+  scenarios("read, 2 rows, each row released", 2, 1, READ_SCENARIO);
+  scenarios("read, 2 rows, one in 20", 2, 20, READ_SCENARIO);
+  scenarios("read, 8 rows, one in 4", 8, 4, READ_SCENARIO);
+  scenarios("read, 32 rows, each row released", 32, 1, READ_SCENARIO);
+  scenarios("read, 32 rows, one in 20", 32, 20, READ_SCENARIO);
+  scenarios("written, 2 rows, each row released", 2, 1, WRITE_SCENARIO);
+  scenarios("written, 2 rows, one in 20", 2, 20, WRITE_SCENARIO);
+  scenarios("written, 8 rows, one in 4", 8, 4, WRITE_SCENARIO);
+  scenarios("written, 32 rows, each row released", 32, 1, WRITE_SCENARIO);
+  scenarios("written, 32 rows, one in 20", 32, 20, WRITE_SCENARIO);
   against("Verdicts, against the paper's iteration in C", PAPER_VERDICTS);
   growth("Growth with T, against the paper's iteration in C (16 rows, loaded to 40 in a hundred)", PAPER_VERDICTS);
   return 0;

@@ -261,7 +261,7 @@ refusal_t plain_slot(const sheet_t *sheet, record_t *state, const uint64_t *rele
   return (refusal_t){0, 0};
 }
 
-static bool legal_sheet(const sheet_t *sheet) {
+bool legal_sheet(const sheet_t *sheet) {
   if (sheet->processors < 1 || sheet->processors > MOST_PROCESSORS || sheet->count < 1 || sheet->count > MOST_ROWS) return false;
   for (size_t k = 0; k < sheet->count; k++) {
     const row_t *row = &sheet->rows[k];

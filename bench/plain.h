@@ -52,7 +52,10 @@ extern uint64_t lengths_tried, stretches_tried;
 refusal_t plain_read(const uint8_t *bytes, size_t count, sheet_t *sheet);
 bool plain_bounds(const sheet_t *sheet, search_t *search, uint64_t *bounds);
 size_t plain_verdict(const uint8_t *bytes, size_t count, search_t *search, char *text);
+bool legal_sheet(const sheet_t *sheet);
 refusal_t plain_slot(const sheet_t *sheet, record_t *state, const uint64_t *releases, uint8_t *codes);
 refusal_t plain_run(const sheet_t *sheet, record_t *state, const uint64_t *releases, size_t count, uint8_t *codes, uint64_t *done);
+refusal_t plain_read_scenario(const sheet_t *sheet, const uint8_t *bytes, size_t count, uint64_t *releases, size_t room, uint64_t *slots);
+refusal_t plain_write_scenario(const sheet_t *sheet, const uint64_t *releases, size_t count, uint8_t *bytes, size_t room, size_t *length);
 
 #endif

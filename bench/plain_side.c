@@ -4,7 +4,8 @@
 static char text[1094];
 static uint8_t codes[SLOTS * MOST_ROWS];
 static record_t state[MOST_ROWS];
-static uint64_t done;
+static uint64_t done, entries[SLOTS * MOST_ROWS];
+static uint8_t bytes[SCENARIO_ROOM];
 static size_t length;
 
 static void verdicts_by(search_t *search) {
@@ -32,4 +33,8 @@ static void one_by_one(void) {
     if (plain_run(&running, state, releases + done * n, n, codes + done * n, &one).number != 0) return;
 }
 
-const side_t SIDE = {{verdicts, paper_verdicts, run, one_by_one}, text, codes, state, &length, &done};
+static void read_scenario(void) { plain_read_scenario(&running, scenario, scenario_length, entries, SLOTS * MOST_ROWS, &done); }
+
+static void write_scenario(void) { plain_write_scenario(&running, releases, SLOTS * running.count, bytes, SCENARIO_ROOM, &length); }
+
+const side_t SIDE = {{verdicts, paper_verdicts, run, one_by_one, read_scenario, write_scenario}, text, codes, state, entries, bytes, &length, &done};

@@ -2,8 +2,8 @@
 #include "../library/giachimu.h"
 #include "sides.h"
 
-static uint8_t text[GIACHIMU_TEXT_LENGTH], codes[SLOTS * MOST_ROWS];
-static uint64_t state[GIACHIMU_PAIRS_LENGTH], done;
+static uint8_t text[GIACHIMU_TEXT_LENGTH], codes[SLOTS * MOST_ROWS], bytes[SCENARIO_ROOM];
+static uint64_t state[GIACHIMU_PAIRS_LENGTH], entries[SLOTS * MOST_ROWS], done;
 static size_t length, place;
 
 static void verdicts(void) {
@@ -22,4 +22,12 @@ static void one_by_one(void) {
     if (giachimu_slot(list, GIACHIMU_SHEET_LENGTH, state, GIACHIMU_PAIRS_LENGTH, releases + done * n, n, codes + done * n, n, &place) != 0) return;
 }
 
-const side_t proved = {{verdicts, verdicts, run, one_by_one}, text, codes, state, &length, &done};
+static void read_scenario(void) {
+  giachimu_read_scenario(list, GIACHIMU_SHEET_LENGTH, scenario, scenario_length, entries, SLOTS * MOST_ROWS, &done, &place);
+}
+
+static void write_scenario(void) {
+  giachimu_write_scenario(list, GIACHIMU_SHEET_LENGTH, releases, SLOTS * running.count, bytes, SCENARIO_ROOM, &length, &place);
+}
+
+const side_t proved = {{verdicts, verdicts, run, one_by_one, read_scenario, write_scenario}, text, codes, state, entries, bytes, &length, &done};

@@ -4,7 +4,7 @@
 
 #include "sheets.h"
 
-enum { BATCH = 64, SLOTS = 1000 };
+enum { BATCH = 64, SLOTS = 1000, SCENARIO_ROOM = 4 + SLOTS * (1 + 4 * MOST_ROWS) };
 
 /* Sheets to judge. */
 extern const written_t *sheets;
@@ -14,14 +14,19 @@ extern size_t sheet_count;
 extern sheet_t running;
 extern uint64_t list[2 + 4 * MOST_ROWS], releases[SLOTS * MOST_ROWS];
 
-/* The jobs of a side: judge the sheets, by its search or by the paper's iteration; from the fresh state, a run of the slots, and the slots one by one. */
-enum { VERDICTS, PAPER_VERDICTS, RUN, ONE_BY_ONE, JOBS };
+/* The same releases as a scenario's bytes. */
+extern uint8_t scenario[SCENARIO_ROOM];
+extern size_t scenario_length;
+
+/* The jobs of a side: judge the sheets, by its search or by the paper's iteration; from the fresh state, a run of the slots, and the slots one by one;
+ * read the scenario, and write it. */
+enum { VERDICTS, PAPER_VERDICTS, RUN, ONE_BY_ONE, READ_SCENARIO, WRITE_SCENARIO, JOBS };
 typedef void job_t(void);
 
 /* What a side does, and where what it did last is found. */
 typedef struct {
   job_t *jobs[JOBS];
-  const void *text, *codes, *state;
+  const void *text, *codes, *state, *entries, *bytes;
   const size_t *length;
   const uint64_t *done;
 } side_t;

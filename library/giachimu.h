@@ -10,6 +10,7 @@
  * A sheet's list: processors m, rows n, and then of each row threads, separation, deadline, budget.
  * A state's list: of each row remaining, since.
  * A list of results: of each row a word, and the bound or 0.
+ * A release list: of each slot an entry for each row, for how many slots it is released, or 0 for no release.
  */
 #ifndef GIACHIMU_H
 #define GIACHIMU_H
@@ -26,7 +27,7 @@ extern "C" {
 enum giachimu_refusal {
   GIACHIMU_ACCEPTED = 0,
   GIACHIMU_NO_SHEET = 1,           /* under four bytes, or the mark differs */
-  GIACHIMU_CUT_OFF = 2,            /* the sheet ends inside a field */
+  GIACHIMU_CUT_OFF = 2,            /* the sheet ends inside a field, or the scenario inside a slot */
   GIACHIMU_BAD_NUMBER = 3,         /* a number is too long, or not written in the shortest form */
   GIACHIMU_BAD_PROCESSORS = 4,     /* processors out of range */
   GIACHIMU_BAD_ROWS = 5,           /* rows out of range */
@@ -36,11 +37,12 @@ enum giachimu_refusal {
   GIACHIMU_BYTES_AFTER = 9,        /* bytes after the last row */
   GIACHIMU_SHEET_NOT_LEGAL = 10,   /* the sheet's list is out of range, or has fewer rows than n */
   GIACHIMU_NOT_WHOLE_SLOTS = 11,   /* the release list is not n entries (a run: no multiple of n) */
-  GIACHIMU_OVER_BUDGET = 12,       /* a release is over the budget; the place is the row */
+  GIACHIMU_OVER_BUDGET = 12,       /* a release is over the budget; the place is the row (in a scenario's bytes: a slot count of 0 too, and its place) */
   GIACHIMU_TOO_SOON = 13,          /* a release is too soon; the place is the row */
-  GIACHIMU_NO_SUCH_ROW = 14,       /* the row number is n or more */
+  GIACHIMU_NO_SUCH_ROW = 14,       /* the row number is n or more (in a scenario's bytes: its place) */
   GIACHIMU_NO_ROOM = 15,           /* a list that is written is too short */
-  GIACHIMU_STATE_NOT_LEGAL = 16    /* the state's list is not legal for the sheet, has fewer records than n, or is not zero past them */
+  GIACHIMU_STATE_NOT_LEGAL = 16,   /* the state's list is not legal for the sheet, has fewer records than n, or is not zero past them */
+  GIACHIMU_ROW_OUT_OF_ORDER = 20   /* a scenario's row is not above the one before it in its slot */
 };
 
 /* What a row did in a slot. */
@@ -54,6 +56,9 @@ enum giachimu_word { GIACHIMU_UNREACHED = 0, GIACHIMU_BOUND = 1, GIACHIMU_NONE =
 #define GIACHIMU_SHEET_LENGTH (4 * GIACHIMU_MOST_ROWS + 2)
 #define GIACHIMU_PAIRS_LENGTH (2 * GIACHIMU_MOST_ROWS)
 #define GIACHIMU_TEXT_LENGTH 1084
+
+/* The bytes of the longest scenario of so many slots of a sheet with so many rows. */
+#define GIACHIMU_SCENARIO_LENGTH(rows, slots) (4 + (slots) * (1 + 4 * (rows)))
 
 /* Whether the bytes are a sheet whose every row has a bound: then no job is ever late. */
 bool giachimu_green(const uint8_t *bytes, size_t bytes_length);
@@ -89,6 +94,15 @@ uint64_t giachimu_box(const uint64_t *sheet, size_t sheet_length, uint64_t *stat
 /* The margin of a row: 1 in `job` and its margin where the row has a job; 0 in `job`, and no margin is written, where it has none. Refusals: 10, 16, 14. */
 uint64_t giachimu_margin(const uint64_t *sheet, size_t sheet_length, const uint64_t *state, size_t state_length, size_t row, uint64_t *job, int64_t *margin,
                          size_t *place);
+
+/* Reads a scenario's bytes into a release list for a sheet, and how many slots there are; places past them are left as they were. Refusals: 10, then by place 1, 2, 3,
+ * 14, 20, 12, then 15. */
+uint64_t giachimu_read_scenario(const uint64_t *sheet, size_t sheet_length, const uint8_t *bytes, size_t bytes_length, uint64_t *releases,
+                                size_t releases_length, uint64_t *slots, size_t *place);
+
+/* Writes a release list for a sheet as a scenario's bytes, and how many bytes these are; bytes past them are left as they were. Refusals: 10, 11, 12, 15. */
+uint64_t giachimu_write_scenario(const uint64_t *sheet, size_t sheet_length, const uint64_t *releases, size_t releases_length, uint8_t *bytes,
+                                 size_t bytes_length, size_t *length, size_t *place);
 
 /* Whether a sheet's list is in the ranges: where it is not, the other functions refuse it by 10. */
 bool giachimu_legal(const uint64_t *sheet, size_t sheet_length);

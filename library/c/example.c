@@ -61,6 +61,22 @@ static void show_further(const uint64_t *sheet) {
   printf("the box: %llu slots done, refusal %llu at %zu\n", (unsigned long long)done, (unsigned long long)number, place);
 }
 
+static void show_scenario(const uint64_t *sheet) {
+  static const uint64_t RELEASES[] = {1, 2, 0, 0, 1, 0};
+  uint8_t bytes[GIACHIMU_SCENARIO_LENGTH(2, 3)];
+  uint64_t releases[6] = {0}, slots = 0;
+  size_t length = 0, place;
+  giachimu_write_scenario(sheet, GIACHIMU_SHEET_LENGTH, RELEASES, 6, bytes, sizeof bytes, &length, &place);
+  printf("a scenario of %zu bytes:", length);
+  for (size_t i = 0; i < length; i++) printf(" %02x", bytes[i]);
+  giachimu_read_scenario(sheet, GIACHIMU_SHEET_LENGTH, bytes, length, releases, 6, &slots, &place);
+  printf("\n%llu slots:", (unsigned long long)slots);
+  for (size_t i = 0; i < 6; i++) printf(" %llu", (unsigned long long)releases[i]);
+  bytes[8] = 7;
+  uint64_t number = giachimu_read_scenario(sheet, GIACHIMU_SHEET_LENGTH, bytes, length, releases, 6, &slots, &place);
+  printf("\na slot count of 7: refusal %llu at %zu\n", (unsigned long long)number, place);
+}
+
 int main(void) {
   uint64_t sheet[GIACHIMU_SHEET_LENGTH];
   size_t place;
@@ -71,5 +87,6 @@ int main(void) {
   show_bounds(sheet);
   show_run(sheet);
   show_further(sheet);
+  show_scenario(sheet);
   return 0;
 }

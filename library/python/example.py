@@ -43,3 +43,11 @@ except Refused as refused:
 print(f"legal: {int(giachimu.legal(sheet))}, sheet D: {int(giachimu.fixed(3) == sheet)}")
 ran, _ = giachimu.boxed(sheet, RELEASES)
 print(f"the box: {len(ran.codes)} slots done, {ran.refusal}")
+scenario = giachimu.write_scenario(sheet, [1, 2, 0, 0, 1, 0])
+print(f"a scenario of {len(scenario)} bytes: {scenario.hex(' ')}")
+slots = giachimu.read_scenario(sheet, scenario)
+print(f"{len(slots)} slots:", *(release for slot in slots for release in slot))
+try:
+    giachimu.read_scenario(sheet, scenario[:8] + b"\x07" + scenario[9:])
+except Refused as refused:
+    print(f"a slot count of 7: {refused}")

@@ -170,6 +170,20 @@ class Giachimu:
         slots = [[Code(code) for code in codes[slot * width : (slot + 1) * width]] for slot in range(done.value)]
         return Ran(slots, Refused(number, place) if number else None)
 
+    def read_scenario(self, sheet, data):
+        """The releases of each slot of a scenario's bytes, by a sheet."""
+        numbers, slots, width = _listed(sheet), ctypes.c_uint64(), len(sheet.rows)
+        list_ = _numbers([0] * (len(data) * width))
+        self._ask("giachimu_read_scenario", numbers, _length(numbers), data, _length(data), list_, _length(list_), ctypes.byref(slots))
+        return [list_[slot * width : (slot + 1) * width] for slot in range(slots.value)]
+
+    def write_scenario(self, sheet, releases):
+        """The scenario's bytes of a release list, n entries to a slot, by a sheet."""
+        numbers, list_, length = _listed(sheet), _numbers(releases), ctypes.c_size_t()
+        data = (ctypes.c_uint8 * (4 + 5 * len(releases)))()
+        self._ask("giachimu_write_scenario", numbers, _length(numbers), list_, _length(list_), data, _length(data), ctypes.byref(length))
+        return bytes(data[: length.value])
+
     def margin(self, sheet, state, row):
         """The margin of a row; None where it has no job."""
         numbers, job, margin = _listed(sheet), ctypes.c_uint64(), ctypes.c_int64()

@@ -43,4 +43,14 @@ fn main() {
     let (run, _) = State::boxed(&sheet, &[1, 2, 0, 0, 1, 0, 0, 0, 1, 2, 0, 1]);
     let refusal = run.refusal.expect("the last slot releases too soon");
     println!("the box: {} slots done, refusal {} at {}", run.done, refusal.number, refusal.place);
+    let scenario = sheet.write_scenario(&[1, 2, 0, 0, 1, 0]).expect("whole slots within the budgets");
+    let shown: Vec<String> = scenario.iter().map(|byte| format!("{byte:02x}")).collect();
+    println!("a scenario of {} bytes: {}", scenario.len(), shown.join(" "));
+    let (slots, releases) = sheet.read_scenario(&scenario).expect("it was written");
+    let shown: Vec<String> = releases.iter().map(u64::to_string).collect();
+    println!("{slots} slots: {}", shown.join(" "));
+    let mut damaged = scenario;
+    damaged[8] = 7;
+    let refused = sheet.read_scenario(&damaged).expect_err("the count is over the budget");
+    println!("a slot count of 7: refusal {} at {}", refused.number, refused.place);
 }

@@ -20,6 +20,10 @@ extern "C" {
     #[rustfmt::skip]
     fn giachimu_number_up_to(bytes: *const u8, bytes_length: usize, at: usize, most: u64, value: *mut u64, after: *mut usize, place: *mut usize) -> u64;
     #[rustfmt::skip]
+    fn giachimu_read_scenario(sheet: *const u64, sheet_length: usize, bytes: *const u8, bytes_length: usize, releases: *mut u64, releases_length: usize, slots: *mut u64, place: *mut usize) -> u64;
+    #[rustfmt::skip]
+    fn giachimu_write_scenario(sheet: *const u64, sheet_length: usize, releases: *const u64, releases_length: usize, bytes: *mut u8, bytes_length: usize, length: *mut usize, place: *mut usize) -> u64;
+    #[rustfmt::skip]
     fn giachimu_margin(sheet: *const u64, sheet_length: usize, state: *const u64, state_length: usize, row: usize, job: *mut u64, margin: *mut i64, place: *mut usize) -> u64;
 }
 
@@ -179,6 +183,28 @@ impl Sheet {
             _ => Outcome::Unreached,
         });
         answer(number, place, outcomes.collect())
+    }
+
+    /// The releases in a scenario's bytes, n to a slot, and how many slots there are.
+    pub fn read_scenario(&self, bytes: &[u8]) -> Result<(u64, Vec<u64>), Refusal> {
+        let (list, mut releases, mut slots, mut place) = (self.list(), vec![0; bytes.len() * self.rows.len()], 0, 0);
+        // SAFETY: as above.
+        let number = unsafe {
+            giachimu_read_scenario(list.as_ptr(), list.len(), bytes.as_ptr(), bytes.len(), releases.as_mut_ptr(), releases.len(), &mut slots, &mut place)
+        };
+        releases.truncate(slots as usize * self.rows.len());
+        answer(number, place, (slots, releases))
+    }
+
+    /// The scenario's bytes of a release list.
+    pub fn write_scenario(&self, releases: &[u64]) -> Result<Vec<u8>, Refusal> {
+        let (list, mut bytes, mut length, mut place) = (self.list(), vec![0; 4 + 5 * releases.len()], 0, 0);
+        // SAFETY: as above.
+        let number = unsafe {
+            giachimu_write_scenario(list.as_ptr(), list.len(), releases.as_ptr(), releases.len(), bytes.as_mut_ptr(), bytes.len(), &mut length, &mut place)
+        };
+        bytes.truncate(length);
+        answer(number, place, bytes)
     }
 
     /// The fresh state.

@@ -7,6 +7,7 @@ use crate::number::{number, refuse, up_to, Refusal};
 use crate::page::Page;
 use crate::reader::{label, read};
 use crate::rules::{broken, Rule};
+use crate::scenario;
 use crate::sheet::{fixed, Sheet};
 use crate::text::verdict;
 
@@ -55,6 +56,9 @@ impl Case {
                 let sheet = fixed().get(usize::try_from(*number).unwrap_or(usize::MAX)).map(Sheet::list);
                 filled(list, Ok(sheet.unwrap_or(vec![0, 0])))
             }
+            Case::ReadScenario { sheet, list, bytes } => scenario_read(sheet, list, bytes),
+            Case::WriteScenario { sheet, releases, buffer } => scenario_written(sheet, releases, buffer),
+            Case::ScenarioSweep { sheet, bytes } => scenario_swept(sheet, bytes),
         };
         page.0
     }
@@ -181,6 +185,56 @@ fn swept(bytes: &[u8]) -> Page {
         *longer.last_mut().expect("a byte was added") = last;
         let refusal = read(&longer).err().unwrap_or(Refusal { number: 0, place: 0 });
         page = page.bytes(&[refusal.number as u8, refusal.place as u8]);
+    }
+    page
+}
+
+/// How many slots a scenario has, and the list with their entries at its front; 15 where it is too short.
+fn slots_in(sheet: &[u64], list: &mut [u64], bytes: &[u8]) -> Result<u64, Refusal> {
+    let sheet = Sheet::handed(sheet)?;
+    if broken(Rule::RoomFirst) && list.is_empty() {
+        return refuse(15, 0);
+    }
+    let slots = scenario::read(&sheet, bytes)?;
+    let entries = slots.concat();
+    if list.len() < entries.len() {
+        return refuse(15, 0);
+    }
+    let (front, rest) = list.split_at_mut(entries.len());
+    front.copy_from_slice(&entries);
+    if broken(Rule::PastSlotsCleared) {
+        rest.fill(0);
+    }
+    Ok(slots.len() as u64)
+}
+
+/// The slots of a scenario, and the list.
+fn scenario_read(sheet: &[u64], list: &[u64], bytes: &[u8]) -> Page {
+    let mut list = list.to_vec();
+    let slots = slots_in(sheet, &mut list, bytes);
+    Page::default().refusal(slots.err()).word(slots.unwrap_or(BEFORE)).words(&list)
+}
+
+/// The bytes of a release list in a buffer, or 15 where they are more.
+fn scenario_written(sheet: &[u64], releases: &[u64], buffer: &Room) -> Page {
+    match Sheet::handed(sheet).and_then(|sheet| scenario::write(&sheet, releases)) {
+        Ok(bytes) => told(buffer, &bytes),
+        Err(refusal) => Page::default().refusal(Some(refusal)).word(BEFORE).bytes(&buffer.bytes),
+    }
+}
+
+/// Of the bytes followed by each byte there is: the refusal, the slots, and the entries folded into a byte.
+fn scenario_swept(sheet: &[u64], bytes: &[u8]) -> Page {
+    let mut longer = bytes.to_vec();
+    longer.push(0);
+    let mut page = Page::default();
+    for last in 0..=255 {
+        *longer.last_mut().expect("a byte was added") = last;
+        let mut list = [BEFORE; 8];
+        let slots = slots_in(sheet, &mut list, &longer);
+        let refusal = slots.err().unwrap_or(Refusal { number: 0, place: 0 });
+        let fold = list.iter().fold(0u8, |sum, entry| sum.wrapping_mul(31).wrapping_add(*entry as u8));
+        page = page.bytes(&[refusal.number as u8, refusal.place as u8, slots.unwrap_or(BEFORE) as u8, fold]);
     }
     page
 }

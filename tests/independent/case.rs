@@ -20,12 +20,16 @@ pub enum Kind {
     Legal,
     BoxRun,
     Fixed,
+    ReadScenario,
+    WriteScenario,
+    ScenarioSweep,
     VerdictProgram,
     ReferenceProgram,
+    PlayProgram,
 }
 
 /// The kinds of the wire.
-pub const EVERY_KIND: [Kind; 15] = [
+pub const EVERY_KIND: [Kind; 18] = [
     Kind::Number,
     Kind::UpTo,
     Kind::Read,
@@ -41,6 +45,9 @@ pub const EVERY_KIND: [Kind; 15] = [
     Kind::Legal,
     Kind::BoxRun,
     Kind::Fixed,
+    Kind::ReadScenario,
+    Kind::WriteScenario,
+    Kind::ScenarioSweep,
 ];
 
 /// A buffer lent out of the middle of some bytes, so that those before and after it are guards.
@@ -85,6 +92,9 @@ pub enum Case {
     Legal { sheet: Vec<u64> },
     BoxRun(Step),
     Fixed { number: u64, list: Vec<u64> },
+    ReadScenario { sheet: Vec<u64>, list: Vec<u64>, bytes: Vec<u8> },
+    WriteScenario { sheet: Vec<u64>, releases: Vec<u64>, buffer: Room },
+    ScenarioSweep { sheet: Vec<u64>, bytes: Vec<u8> },
 }
 
 impl Page {
@@ -116,6 +126,9 @@ impl Case {
             Case::Legal { .. } => Kind::Legal,
             Case::BoxRun(_) => Kind::BoxRun,
             Case::Fixed { .. } => Kind::Fixed,
+            Case::ReadScenario { .. } => Kind::ReadScenario,
+            Case::WriteScenario { .. } => Kind::WriteScenario,
+            Case::ScenarioSweep { .. } => Kind::ScenarioSweep,
         }
     }
 
@@ -134,6 +147,9 @@ impl Case {
             Case::Green { bytes } | Case::Sweep { bytes } => page.bytes(bytes),
             Case::Legal { sheet } => page.list(sheet),
             Case::Fixed { number, list } => page.word(*number).list(list),
+            Case::ReadScenario { sheet, list, bytes } => page.list(sheet).list(list).bytes(bytes),
+            Case::WriteScenario { sheet, releases, buffer } => page.list(sheet).list(releases).room(buffer).bytes(&buffer.bytes),
+            Case::ScenarioSweep { sheet, bytes } => page.list(sheet).bytes(bytes),
         };
         page.0
     }

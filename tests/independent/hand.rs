@@ -3,7 +3,9 @@
 use crate::bound::{bounds, Outcome};
 use crate::machine::{fresh, margin, run, slot};
 use crate::number::{number, Refusal};
+use crate::play::played;
 use crate::reader::{label, read};
+use crate::scenario;
 use crate::sheet::fixed;
 use crate::text::{reference, verdict};
 
@@ -16,6 +18,7 @@ pub fn check() {
     runs();
     bytes();
     texts();
+    scenarios();
 }
 
 /// The bounds of sheets A to F.
@@ -68,4 +71,31 @@ fn texts() {
     assert!(
         reference().starts_with(b"A\n0 r0 bound 2\n1 r1 bound 5\nHOLDS\nB\n0 r0 bound 2\n1 r1 bound 4\n2 r2 bound 7\nHOLDS\nC\n")
     );
+}
+
+/// G as a scenario, written, read and played, and a file for each refusal.
+fn scenarios() {
+    let c = &fixed()[2];
+    let bytes = b"GSC\x01\x02\x00\x01\x01\x03\x00\x01\x00\x01\x00";
+    assert_eq!(scenario::write(c, &[1, 3, 0, 0, 1, 0, 0, 0]), Ok(bytes.to_vec()));
+    assert_eq!(scenario::read(c, bytes).map(|slots| slots.concat()), Ok(vec![1, 3, 0, 0, 1, 0, 0, 0]));
+    assert_eq!(played(SHEET_C, bytes), b"0 3 1\n1 0 2\n2 3 1\n3 0 4\nSLOTS 4\n");
+    assert_eq!(played(SHEET_C, b"GSC\x01\x01\x01\x03\x01\x01\x03"), b"0 0 2\nSLOT 1 REFUSED 13 1\n");
+    let refused: [(&[u8], u64, u64); 8] = [
+        (b"GSH\x01", 1, 0),
+        (b"GSC\x01\x00\x01", 2, 6),
+        (b"GSC\x01\x80\x00", 3, 4),
+        (b"GSC\x01\x01\x02\x01", 14, 5),
+        (b"GSC\x01\x02\x01\x01\x01\x01", 20, 7),
+        (b"GSC\x01\x02\x01\x01\x00\x01", 20, 7),
+        (b"GSC\x01\x01\x00\x00", 12, 6),
+        (b"GSC\x01\x01\x01\x04", 12, 6),
+    ];
+    for (bytes, number, place) in refused {
+        assert_eq!(scenario::read(c, bytes), Err(Refusal { number, place }));
+        assert_eq!(played(SHEET_C, bytes), format!("REFUSED {number} {place} scenario\n").into_bytes());
+    }
+    assert_eq!(played(b"", bytes), b"REFUSED 1 0 sheet\n");
+    assert_eq!(scenario::write(c, &[1]), Err(Refusal { number: 11, place: 0 }));
+    assert_eq!(scenario::write(c, &[1, 3, 2, 0]), Err(Refusal { number: 12, place: 0 }));
 }

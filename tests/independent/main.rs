@@ -1,4 +1,4 @@
-//! A second program for the sheet, the bound and the slot machine, written from their rules alone: it makes cases, and compares
+//! A second program for the sheet, the bound, the slot machine and the scenario, written from their rules alone: it makes cases, and compares
 //! the answers to them with its own.
 
 mod answer;
@@ -12,11 +12,13 @@ mod machine;
 mod make;
 mod number;
 mod page;
+mod play;
 mod probe;
 mod programs;
 mod random;
 mod reader;
 mod rules;
+mod scenario;
 mod sheet;
 mod table;
 mod text;
@@ -31,7 +33,7 @@ use std::sync::atomic::{AtomicBool, Ordering::Relaxed};
 const SEED: u64 = 20_240_229;
 
 const USAGE: &str = "check STARTER PROBE FOLDER [--seed N] [--times K] [--break RULE], rules, or hand CASES ANSWERS
-  STARTER starts a program, PROBE answers cases, FOLDER has verdict and reference; --times makes so many times the random cases;
+  STARTER starts a program, PROBE answers cases, FOLDER has verdict, reference and play; --times makes so many times the random cases;
   --break breaks one rule of this program and asks only what has to show it; rules prints their names;
   hand writes the cases worked by hand and their answers, in the bytes of the wire
 status: 0 where nothing differs, 1 at a difference, another where it cannot be told";

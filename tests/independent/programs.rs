@@ -1,13 +1,16 @@
-//! The built programs: the verdict program on some hundreds of inputs, two at a time, and the reference program.
+//! The built programs: the verdict program on some hundreds of inputs, two at a time, the reference program, and the program that
+//! plays a scenario, on some hundreds of pairs of files.
 
 use crate::case::Kind;
 use crate::dice::Dice;
-use crate::make::texts;
-use crate::probe::{show, start, Choice};
+use crate::make::{scenarios, texts};
+use crate::play::played;
+use crate::probe::{hex, show, start, Choice};
 use crate::table::Table;
 use crate::text::{reference, verdict};
 use std::io::Write;
 use std::path::Path;
+use std::process::Command;
 use std::sync::atomic::{AtomicBool, Ordering::Relaxed};
 
 /// The most bytes that the verdict program reads.
@@ -41,7 +44,29 @@ fn verdict_printed(input: &[u8]) -> Vec<u8> {
     verdict(&input[..input.len().min(MOST_INPUT)])
 }
 
-/// The verdict program and the reference program compared, as far as they are asked for; `differs` becomes true where they do.
+/// Plays each pair of files, up to a difference; they stand in a folder of their own.
+fn play(starter: &Path, program: &Path, pairs: &[(Vec<u8>, Vec<u8>)], room: &Path, differs: &AtomicBool) {
+    std::fs::create_dir_all(room).expect("a folder can be made");
+    let (sheet_file, scenario_file) = (room.join("sheet"), room.join("scenario"));
+    for (sheet, scenario) in pairs {
+        std::fs::write(&sheet_file, sheet).expect("a file can be written");
+        std::fs::write(&scenario_file, scenario).expect("a file can be written");
+        let output = Command::new(starter).args([program, &sheet_file, &scenario_file]).output().expect("the program ends");
+        let expected = played(sheet, scenario);
+        if (output.stdout != expected || !output.stderr.is_empty()) && !differs.swap(true, Relaxed) {
+            println!("a difference in what {} prints", program.display());
+            println!("  sheet: {}", hex(sheet));
+            show(scenario, &expected, &output.stdout);
+            println!("  on standard error: {}", String::from_utf8_lossy(&output.stderr));
+        }
+        if differs.load(Relaxed) {
+            break;
+        }
+    }
+    std::fs::remove_dir_all(room).expect("the folder can be removed");
+}
+
+/// The programs compared, as far as they are asked for; `differs` becomes true where they do.
 pub fn check(starter: &Path, folder: &Path, choice: Choice, table: &mut Table, differs: &AtomicBool) {
     let wants = |kind: Kind| choice.only.is_none_or(|only| only == kind) && !differs.load(Relaxed);
     if wants(Kind::VerdictProgram) {
@@ -58,5 +83,19 @@ pub fn check(starter: &Path, folder: &Path, choice: Choice, table: &mut Table, d
     if wants(Kind::ReferenceProgram) {
         compare(starter, &folder.join("reference"), &[vec![]], |_| reference(), differs);
         table.count_runs("the reference program", 1);
+    }
+    if wants(Kind::PlayProgram) {
+        let pairs = scenarios::pairs(&mut Dice(choice.seed), 260 * choice.times);
+        let program = folder.join("play");
+        let room = std::env::temp_dir().join(format!("giachimu-{}", std::process::id()));
+        let (first, second) = pairs.split_at(pairs.len() / 2);
+        let (one, two) = (room.join("one"), room.join("two"));
+        std::thread::scope(|scope| {
+            for (half, room) in [(first, &one), (second, &two)] {
+                scope.spawn(|| play(starter, &program, half, room, differs));
+            }
+        });
+        std::fs::remove_dir_all(&room).expect("the folder can be removed");
+        table.count_runs("the program that plays a scenario", pairs.len() as u64);
     }
 }

@@ -36,10 +36,18 @@ pub enum Rule {
     FixedNumber,
     PlaceFromOne,
     LabelsFromOne,
+    RepeatedRow,
+    ZeroCount,
+    NoRowIsOrder,
+    RoomFirst,
+    PastSlotsCleared,
+    OneReleaseShort,
+    PlaceInList,
+    SlotsFromOne,
 }
 
 /// Every rule with the kind of case that has to show it broken, and its name.
-pub const RULES: [(Rule, Kind, &str); 30] = [
+pub const RULES: [(Rule, Kind, &str); 38] = [
     (Rule::ZeroLastGroup, Kind::Number, "zero-last-group"),
     (Rule::FourthGroup, Kind::Number, "fourth-group"),
     (Rule::MostRefused, Kind::UpTo, "most-refused"),
@@ -70,6 +78,14 @@ pub const RULES: [(Rule, Kind, &str); 30] = [
     (Rule::FixedNumber, Kind::Fixed, "fixed-number"),
     (Rule::PlaceFromOne, Kind::VerdictProgram, "place-from-one"),
     (Rule::LabelsFromOne, Kind::ReferenceProgram, "labels-from-one"),
+    (Rule::RepeatedRow, Kind::ReadScenario, "repeated-row"),
+    (Rule::ZeroCount, Kind::ScenarioSweep, "zero-count"),
+    (Rule::NoRowIsOrder, Kind::ReadScenario, "no-row-is-order"),
+    (Rule::RoomFirst, Kind::ReadScenario, "room-first"),
+    (Rule::PastSlotsCleared, Kind::ReadScenario, "past-slots-cleared"),
+    (Rule::OneReleaseShort, Kind::WriteScenario, "one-release-short"),
+    (Rule::PlaceInList, Kind::WriteScenario, "place-in-list"),
+    (Rule::SlotsFromOne, Kind::PlayProgram, "slots-from-one"),
 ];
 
 /// No rule.

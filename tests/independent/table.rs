@@ -18,7 +18,7 @@ pub struct Table(Vec<Line>);
 /// What a case stands for, by its answer: strings, sheets with bounds, or slots that are worked.
 fn parts(case: &Case, answer: &[u8]) -> (u64, &'static str) {
     match case.kind() {
-        Kind::Sweep => (256, "strings"),
+        Kind::Sweep | Kind::ScenarioSweep => (256, "strings"),
         Kind::Slot => ((word_at(answer, 0) == Some(0)) as u64, "slots"),
         Kind::Run | Kind::BoxRun => (word_at(answer, 16).unwrap_or(0), "slots"),
         Kind::Bounds => (1, "sheets"),

@@ -171,6 +171,51 @@ static void answer_fixed(void) {
   put_list(&list);
 }
 
+/* Kind 16: a sheet's list, a list and bytes; the slots of the scenario, and the list. */
+static void answer_read_scenario(void) {
+  uint64_t slots = 7;
+  size_t count, place = 7;
+  take_list(&sheet);
+  take_list(&list);
+  const uint8_t *bytes = take_rest(&count);
+  uint64_t number = giachimu_read_scenario(sheet.at, sheet.count, bytes, count, list.at, list.count, &slots, &place);
+  put_told(number, place);
+  put_word(slots);
+  put_list(&list);
+}
+
+/* Kind 17: a sheet's list, and a step whose buffer is for the scenario; its length, and the bytes. */
+static void answer_write_scenario(void) {
+  size_t length = 7, place = 7;
+  take_list(&sheet);
+  take_step();
+  uint64_t number = giachimu_write_scenario(sheet.at, sheet.count, releases.at, releases.count, room.lent, room.lent_count, &length, &place);
+  put_told(number, place);
+  put_word(length);
+  put_bytes(room.bytes, room.count);
+}
+
+/* Kind 18: a sheet's list and bytes; what reading them with each byte after them as a scenario tells, a byte each for the number, the place, the slots and all entries. */
+static void answer_scenario_sweep(void) {
+  static uint8_t longer[ROOM + 1];
+  size_t count;
+  take_list(&sheet);
+  const uint8_t *bytes = take_rest(&count);
+  for (size_t i = 0; i < count; i++) longer[i] = bytes[i];
+  for (unsigned last = 0; last < 256; last++) {
+    uint64_t entries[8] = {7, 7, 7, 7, 7, 7, 7, 7}, slots = 7;
+    size_t place = 7;
+    uint8_t fold = 0;
+    longer[count] = (uint8_t)last;
+    uint64_t number = giachimu_read_scenario(sheet.at, sheet.count, longer, count + 1, entries, 8, &slots, &place);
+    for (size_t i = 0; i < 8; i++) fold = (uint8_t)(fold * 31 + (uint8_t)entries[i]);
+    put_byte((uint8_t)number);
+    put_byte((uint8_t)place);
+    put_byte((uint8_t)slots);
+    put_byte(fold);
+  }
+}
+
 /* One case by its kind. */
 static void answer(uint64_t kind) {
   switch (kind) {
@@ -189,6 +234,9 @@ static void answer(uint64_t kind) {
     case 13: answer_legal(); break;
     case 14: answer_run(giachimu_box); break;
     case 15: answer_fixed(); break;
+    case 16: answer_read_scenario(); break;
+    case 17: answer_write_scenario(); break;
+    case 18: answer_scenario_sweep(); break;
     default: stop("a case of no kind");
   }
 }

@@ -1,6 +1,7 @@
 -- How long a text can be: any is whole in the buffer that the programs lend. Assumes nothing.
-use Rattle.basis.specs.Prelude.{ℕ, zero, suc, _+_, _*_, _≤_, _<_, min, _≡_, refl, Bool, true, false, List, _++_, arith, length, drop, length-append, length-take, take-all}
+use Rattle.basis.specs.Prelude.{ℕ, zero, suc, _+_, _*_, _≤_, _<_, _≡_, refl, Bool, true, false, List, _++_, arith, length, drop, length-append, length-take}
 use Rattle.dashboard.proofs.Names.{mostRows, longestLabel, mostSeparation, sum, sum-grows, accepted, sheet, Legal, reading, rowsRead, Sheet, accepted-read, accepted-is-legal, legal-is, label-of-row, passes, Word, bound, none, unreached, isBound, valueOf, resultOf, holds, bound-in-range, passes-local, digits, decimal, mostDigits, boundWord, resultWords, lineStart, line, holdsLine, ending, refusedBy, noVerdict, ownLabel, lines, board, verdictText, referenceText, written, longestLine, longestText, textSize, decimal-grows, decimal-is-short}
+use Rattle.page.proofs.Inside.Written.{whole-text}
 use Rattle.dashboard.proofs.Cases.{reference-is}
 use Rattle.dashboard.proofs.Outcomes.{by-outcome, accepted-prints-its-rows, refused-prints-one-line}
 
@@ -79,15 +80,11 @@ longest-fits = omega (arith, longest-is-1084)
 
 -- ---- whole in a buffer of the size that the programs lend
 
-whole : (t o : List ℕ) → length t ≤ textSize → textSize ≤ length o → written t o ≡ (t ++ drop (length t) o, length t)
-unfolding written
-whole t o h g = let m : min (length t) (length o) ≡ length t = omega arith in rw (take-all (length o) t (omega arith), m)
-
 pub verdict-is-whole : (s o : List ℕ) → textSize ≤ length o → written (verdictText s) o ≡ (verdictText s ++ drop (length (verdictText s)) o, length (verdictText s))
-verdict-is-whole s o = whole (verdictText s) o (omega (arith, verdict-is-short s, longest-fits))
+verdict-is-whole s o room = whole-text (verdictText s) o (omega (arith, verdict-is-short s, longest-fits))
 
 pub reference-is-short : length referenceText ≤ textSize
 reference-is-short = rw reference-is (omega arith)
 
 pub reference-is-whole : (o : List ℕ) → textSize ≤ length o → written referenceText o ≡ (referenceText ++ drop (length referenceText) o, length referenceText)
-reference-is-whole o = whole referenceText o reference-is-short
+reference-is-whole o room = whole-text referenceText o (omega (arith, reference-is-short))

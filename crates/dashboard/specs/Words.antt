@@ -3,14 +3,7 @@ use Rattle.basis.specs.Prelude.{ℕ, Bool, List, [], _∷_, _++_}
 use Rattle.basis.specs.Words.{pick}
 use Rattle.bound.specs.Bound.{Word, bound, none, unreached}
 use Rattle.page.specs.Decimals.{decimal}
-
--- A space.
-abbrev pub space : List ℕ
-space = 0x20 ∷ []
-
--- The end of a line.
-abbrev pub newline : List ℕ
-newline = 0x0A ∷ []
+pub use Rattle.page.specs.Words.{newline, space}
 
 -- `bound` and a space.
 abbrev pub boundWord : List ℕ

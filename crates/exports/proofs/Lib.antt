@@ -2,7 +2,9 @@ pub mod Back
 pub mod ListCalls
 pub mod Refusals
 pub mod Same
+pub mod ScenarioCalls
 pub mod Wrong
 pub mod WrongFurther
+pub mod WrongScenarios
 pub mod Inside
 mod Names

@@ -22,6 +22,8 @@ pub use Rattle.exports.specs.Answers.{flag, labelOutcome, slotTold, told
 unfoldable pub use Rattle.exports.specs.Answers.{boundsIn, fieldsIn, freshIn, labelAnswer, marginGiven, marginIn, readIn, resultsIn, runOn, slotOn, verdictIn}
 pub use Rattle.exports.specs.Further.{boxBy, stateCell}
 unfoldable pub use Rattle.exports.specs.Further.{boxOf, boxOn, fixedIn, numberOn, stepTold, upToOn}
+pub use Rattle.exports.specs.Scenarios.{scenarioTold}
+unfoldable pub use Rattle.exports.specs.Scenarios.{scenarioRead, scenarioWritten}
 pub use Rattle.green.specs.Demand.{InTime, NoJobIsLate}
 pub use Rattle.machine.specs.Answers.{MarginAnswer, RunAnswer, freshAnswer, margin-is, marginAnswer, no-job, refused-by, runAnswer, slotAnswer, slotBy}
 unfoldable pub use Rattle.machine.specs.Answers.{course, fresh, given, margin, marginAt, nextCodes, nextState, onward, run, slot, slotAt}
@@ -43,6 +45,8 @@ unfoldable pub use Rattle.records.specs.Checks.{checkRow}
 pub use Rattle.records.specs.Records.{noRecord}
 unfoldable pub use Rattle.records.specs.Records.{isZeroJob, legalJob}
 unfoldable pub use Rattle.records.specs.Steps.{aged, codeOf, ended, fits, freeBelow, missed, older, released, worked}
+pub use Rattle.scenario.specs.Answers.{readTold, writtenTold}
+unfoldable pub use Rattle.scenario.specs.Answers.{readScenario, writeScenario}
 pub use Rattle.sheet.proofs.Inside.Cells.{cell-past}
 pub use Rattle.sheet.proofs.Inside.FilledLists.{fill-done, zeros, zeros-long}
 unfoldable pub use Rattle.sheet.specs.Legal.{legal, legalAt, legalRow}

@@ -2,7 +2,7 @@
 use Rattle.basis.specs.Prelude.{ℕ, _≡_, Bool, List}
 use Rattle.basis.proofs.Same.{same}
 use lib.IntN.{ℤ}
-use Rattle.exports.proofs.Names.{legal, sheetIn, numberOn, upToOn, fixedIn, boxOn, verdictIn, readIn, labelAnswer, boundsIn, freshIn, slotOn, runOn, marginIn}
+use Rattle.exports.proofs.Names.{legal, sheetIn, numberOn, upToOn, fixedIn, boxOn, verdictIn, readIn, labelAnswer, boundsIn, freshIn, slotOn, runOn, marginIn, scenarioRead, scenarioWritten}
 
 -- `giachimu_read`: the number and the place, and the list.
 pub read-same : (s list : List ℕ) (a b : (ℕ × ℕ) × List ℕ) → a ≡ readIn s list → b ≡ readIn s list → a ≡ b
@@ -55,3 +55,11 @@ fixed-same k list = same (fixedIn k list)
 -- `giachimu_box`: the number and the place, the slots done, the list and the codes.
 pub box-same : (s list rel cs : List ℕ) (a b : (ℕ × ℕ) × (ℕ × (List ℕ × List ℕ))) → a ≡ boxOn s list rel cs → b ≡ boxOn s list rel cs → a ≡ b
 box-same s list rel cs = same (boxOn s list rel cs)
+
+-- `giachimu_read_scenario`: the number and the place, how many slots, and the list.
+pub read-scenario-same : (sheet s : List ℕ) (lent : ℕ × List ℕ) (a b : (ℕ × ℕ) × (ℕ × List ℕ)) → a ≡ scenarioRead sheet s lent → b ≡ scenarioRead sheet s lent → a ≡ b
+read-scenario-same sheet s lent = same (scenarioRead sheet s lent)
+
+-- `giachimu_write_scenario`: the number and the place, how many bytes, and the buffer.
+pub write-scenario-same : (sheet list : List ℕ) (lent : ℕ × List ℕ) (a b : (ℕ × ℕ) × (ℕ × List ℕ)) → a ≡ scenarioWritten sheet list lent → b ≡ scenarioWritten sheet list lent → a ≡ b
+write-scenario-same sheet list lent = same (scenarioWritten sheet list lent)

@@ -1,5 +1,7 @@
 pub mod Answers
 pub mod ListCalls
 pub mod Further
+pub mod Scenarios
 pub mod Wrong
 pub mod WrongFurther
+pub mod WrongScenarios

@@ -2,6 +2,7 @@
 mod boxes;
 mod machines;
 mod numerals;
+mod scenarios;
 mod sheets;
 mod telling;
 mod verdicts;
@@ -14,6 +15,8 @@ pub use machines::giachimu_run;
 pub use machines::giachimu_slot;
 pub use numerals::giachimu_number;
 pub use numerals::giachimu_number_up_to;
+pub use scenarios::giachimu_read_scenario;
+pub use scenarios::giachimu_write_scenario;
 pub use sheets::giachimu_label;
 pub use sheets::giachimu_read;
 pub use verdicts::giachimu_bounds;

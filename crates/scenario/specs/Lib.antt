@@ -1,6 +1,7 @@
 pub mod Form
 pub mod Written
 pub mod Answers
+pub mod Listed
 pub mod Longest
 pub mod Slots
 pub mod Windows

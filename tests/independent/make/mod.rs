@@ -9,6 +9,7 @@ mod handed;
 mod jobs;
 mod numbers;
 mod runs;
+pub mod scenarios;
 mod sheets;
 mod slots;
 mod small;
@@ -33,7 +34,7 @@ pub enum Half {
 }
 
 /// Every group: its half, the kinds of its cases, and what makes it.
-const GROUPS: [(Half, &[Kind], Make); 17] = [
+const GROUPS: [(Half, &[Kind], Make); 21] = [
     (Half::Machine, &EVERY_KIND, worked::all),
     (Half::Machine, &[Kind::Number, Kind::UpTo], numbers::all),
     (Half::Sheets, &[Kind::Read, Kind::Label], sheets::all),
@@ -51,6 +52,10 @@ const GROUPS: [(Half, &[Kind], Make); 17] = [
     (Half::Machine, &[Kind::Run, Kind::BoxRun], runs::all),
     (Half::Machine, &[Kind::Verdict, Kind::Green], texts::all),
     (Half::Sheets, &[Kind::Read, Kind::Sweep], strings::all),
+    (Half::Machine, &[Kind::ReadScenario], scenarios::files),
+    (Half::Machine, &[Kind::ReadScenario], scenarios::made_up),
+    (Half::Machine, &[Kind::ScenarioSweep], scenarios::strings),
+    (Half::Machine, &[Kind::WriteScenario], scenarios::lists),
 ];
 
 /// Whether a half has cases of the kind, or any cases where no kind is named.

@@ -5,18 +5,21 @@ use crate::case::{Case, Room, Step};
 use crate::dice::Dice;
 use crate::hand::SHEET_C;
 use crate::machine::{fresh, listed};
+use crate::scenario::write;
 use crate::sheet::{fixed, Sheet, MOST_ROWS};
 
 /// The names of the groups.
 const BYTES: &str = "worked by hand, bytes";
 const SHEETS: &str = "worked by hand, sheets";
 const MACHINES: &str = "worked by hand, slots";
+const SCENARIOS: &str = "worked by hand, scenarios";
 
 /// One or a few cases of each kind.
 pub fn all(cases: &mut dyn Cases, _: &mut Dice, _: u64) {
     bytes(cases);
     sheets(cases);
     machines(cases);
+    scenarios(cases);
 }
 
 /// So many bytes to lend, with one before and two after.
@@ -69,4 +72,19 @@ fn machines(cases: &mut dyn Cases) {
         cases.add(MACHINES, Case::Slot(Step { sheet: list, state, codes: room(n), releases: first }));
     }
     (0..=2).for_each(|row| cases.add(MACHINES, Case::Margin { sheet: c.list(), state: vec![0, 1, 3, 1], row }));
+}
+
+/// G and H as scenarios, written and read; G with a row twice.
+fn scenarios(cases: &mut dyn Cases) {
+    let [_, b, c, ..] = fixed();
+    for (sheet, releases) in [(&c, vec![1, 3, 0, 0, 1, 0, 0, 0]), (&b, vec![2, 2, 3, 0, 0, 0, 0, 0, 0, 0, 0, 0])] {
+        let (list, bytes) = (sheet.list(), write(sheet, &releases).unwrap_or_default());
+        cases.add(SCENARIOS, Case::WriteScenario { sheet: list.clone(), buffer: room(bytes.len()), releases });
+        cases.add(SCENARIOS, Case::ReadScenario { sheet: list.clone(), list: vec![7; 14], bytes: bytes.clone() });
+        cases.add(SCENARIOS, Case::ScenarioSweep { sheet: list, bytes });
+    }
+    cases.add(
+        SCENARIOS,
+        Case::ReadScenario { sheet: c.list(), list: vec![7; 14], bytes: b"GSC\x01\x02\x01\x01\x01\x01".to_vec() },
+    );
 }

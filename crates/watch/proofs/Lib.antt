@@ -1,0 +1,7 @@
+pub mod Same
+pub mod Cases
+pub mod LineLengths
+pub mod PlayedRuns
+pub mod Wrong
+pub mod Inside
+mod Names
