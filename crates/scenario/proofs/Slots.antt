@@ -1,12 +1,7 @@
 -- The slots of a scenario are what the reader of one slot answers, one after another up to the end of the bytes. Assumes nothing.
-use Rattle.basis.specs.Prelude.{ℕ, zero, suc, _<_, _≡_, refl, sym, ap, _∙_, Bool, true, List, ⊎-elim, arith, length, take, lt-ltb, le-ltb}
+use Rattle.basis.specs.Prelude.{ℕ, zero, suc, _<_, _≡_, refl, sym, ap, _∙_, true, List, ⊎-elim, arith, length, take, lt-ltb, le-ltb}
 use Rattle.scenario.proofs.Names.{lt-or-le, mostRows, Step, after, ok, refuse, begins, mapStep, Outcome, accepted, refused, pick, SlotAnswer, slotHanded, readSlot, Held, markBytes, noReleases, slotBefore, scenario, slot, slots, slotBySlot, slotThen, legal-is, legal, Sheet}
-use Rattle.scenario.proofs.Inside.OneSlot.{slot-goes, slot-front, scenario-is}
-
--- the reader of one slot on a legal sheet
-read-slot-is : (h : Sheet) (s : List ℕ) (at : ℕ) → legal h ≡ true → readSlot h s at ≡ slotHanded (slot h (noReleases mostRows) s at)
-unfolding readSlot
-read-slot-is h s at fine = ap (λ (b : Bool). slotHanded (pick b (slot h (noReleases mostRows) s at) (refuse 10 0))) fine
+use Rattle.scenario.proofs.Inside.OneSlot.{slot-goes, slot-front, read-slot-is, scenario-is}
 
 -- an accepted slot takes a byte or more
 pub slot-goes-on : (h : Sheet) (s : List ℕ) (at : ℕ) → legal h ≡ true → readSlot h s at .outcome ≡ accepted → at < readSlot h s at .next

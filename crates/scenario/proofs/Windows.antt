@@ -1,8 +1,8 @@
 -- A slot is read in a window of the bytes as in the bytes, where the window reaches far enough. Assumes nothing.
 use Rattle.basis.specs.Prelude.{ℕ, zero, suc, _+_, _*_, _-_, _≤_, _≡_, refl, sym, ap, _∙_, Bool, true, false, List, _++_, arith, length, set}
-use Rattle.scenario.proofs.Names.{mostGroups, mostRows, Reader, Step, ok, refuse, pick, bounded, taken, number, upTo, slotHanded, readSlot, budgetAt, noReleases, releases, row, slot, legal-is, legal, Sheet, Reaches, movedAnswer, moved, movedBy, slotReach}
+use Rattle.scenario.proofs.Names.{mostGroups, mostRows, Reader, Step, ok, refuse, pick, bounded, taken, number, upTo, slotHanded, readSlot, budgetAt, noReleases, releases, row, slot, slotReach, Reaches, movedAnswer, moved, movedBy, legal-is, legal, Sheet}
 use Rattle.scenario.proofs.Inside.Moves.{reaches-less, then-moved, number-moved, up-to-moved, row-moved}
-use Rattle.scenario.proofs.Inside.OneSlot.{spelt-few, row-is}
+use Rattle.scenario.proofs.Inside.OneSlot.{spelt-few, row-is, read-slot-is}
 use Rattle.basis.specs.Readers.{_>>=_}
 
 module _ (h : Sheet) (before w rest : List ℕ) where
@@ -34,12 +34,12 @@ module _ (h : Sheet) (before w rest : List ℕ) where
   -- so of the promise: where the sheet is legal, the place is so much further on
   pub read-slot-in-a-window : (at : ℕ) → legal h ≡ true → Reaches w rest at slotReach
       → readSlot h (before ++ (w ++ rest)) (length before + at) ≡ movedAnswer (length before) (readSlot h w at)
-  unfolding readSlot movedBy moved
+  unfolding movedBy moved
   read-slot-in-a-window at fine e =
-      ap (λ (b : Bool). slotHanded (pick b (slot h (noReleases mostRows) (before ++ (w ++ rest)) (length before + at)) (refuse 10 0))) fine
+      read-slot-is h (before ++ (w ++ rest)) (length before + at) fine
       ∙ ap slotHanded (slot-in-a-window (noReleases mostRows) at (legal-is h fine .most-rows) e)
       ∙ go (slot h (noReleases mostRows) w at)
-      ∙ ap (λ (b : Bool). movedAnswer (length before) (slotHanded (pick b (slot h (noReleases mostRows) w at) (refuse 10 0)))) (sym fine)
+      ∙ ap (movedAnswer (length before)) (sym (read-slot-is h w at fine))
     where
       go : (x : Step (List ℕ)) → slotHanded (moved (length before) x) ≡ movedAnswer (length before) (slotHanded x)
       go (ok l n) = refl

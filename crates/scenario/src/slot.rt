@@ -49,15 +49,13 @@ fn read_row(bytes: &[u8], at: usize, count: u64, least: u64) -> Number
     match numbers::read_number(bytes, at) {
         Number::Refused(k, p) => Number::Refused(k, p),
         Number::Is(r, next) => {
-            if r < count {
-                if r < least {
-                    Number::Refused(20, at)
-                } else {
-                    Number::Is(r, next)
-                }
-            } else {
-                Number::Refused(14, at)
+            if count <= r {
+                return Number::Refused(14, at);
             }
+            if r < least {
+                return Number::Refused(20, at);
+            }
+            Number::Is(r, next)
         }
     }
 }

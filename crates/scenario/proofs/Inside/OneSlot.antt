@@ -1,6 +1,6 @@
 -- One slot of a scenario: it goes on, keeps the length of its entries and leaves rows past n alone; and the slots after it. Assumes nothing.
 use Rattle.basis.specs.Prelude.{ℕ, zero, suc, _+_, _/_, _≤_, _<_, _≡_, refl, sym, ap, ap₂, _∙_, Bool, true, take-set-lt, false, List, ⊎-elim, _∷_, arith, not-suc-le-zero, length, set, length-set, take, ltb, lt-ltb, ltb-true, le-ltb, ltb-false}
-use Rattle.scenario.proofs.Names.{after-ok, not-stopped, ok-same, passed, lt-or-le, mostGroups, mostRows, Step, after, give, ok, refuse, begins, mapStep, accepted, refused, pick, bounded, taken, spelt-more, spelt-one, number, upTo, spelt, SlotAnswer, slotHanded, slotTold, Held, budgetAt, markBytes, noReleases, noSlots, slotBefore, releases, row, scenario, slot, slots, SlotRead, Sheet}
+use Rattle.scenario.proofs.Names.{after-ok, not-stopped, ok-same, passed, lt-or-le, mostGroups, mostRows, Step, after, give, ok, refuse, begins, mapStep, accepted, refused, pick, bounded, taken, spelt-more, spelt-one, number, upTo, spelt, SlotAnswer, slotHanded, slotTold, readSlot, Held, budgetAt, markBytes, noReleases, noSlots, slotBefore, releases, row, scenario, slot, slots, SlotRead, legal, Sheet}
 
 -- a number takes no more bytes than groups
 pub spelt-few : (g v : ℕ) → length (spelt g v) ≤ g
@@ -73,6 +73,11 @@ unfolding slot
 slot-front h s at few =
     told-pick (take (h .count)) (number s at) _ _ λ k a e.
     releases-front h k 0 (noReleases mostRows) s a ∙ ap (λ (x : List ℕ). releases h k 0 x s a) (take-all-alike (h .count) mostRows few)
+
+-- the reader of one slot on a legal sheet
+pub read-slot-is : (h : Sheet) (s : List ℕ) (at : ℕ) → legal h ≡ true → readSlot h s at ≡ slotHanded (slot h (noReleases mostRows) s at)
+unfolding readSlot
+read-slot-is h s at fine = ap (λ (b : Bool). slotHanded (pick b (slot h (noReleases mostRows) s at) (refuse 10 0))) fine
 
 -- what one call of `slot_at` says of the slot
 pub slot-no : (h : Sheet) (s : List ℕ) (at : ℕ) → h .count ≤ mostRows → (y : SlotRead) → slotTold y ≡ slotHanded (slot h (noReleases mostRows) s at) → (k p : ℕ) → slotTold y .outcome ≡ refused k p

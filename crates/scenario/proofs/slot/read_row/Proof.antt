@@ -5,5 +5,5 @@ use Rattle.scenario.proofs.slot.read_row as this
 
 pub read-row-spec : {M : Type 1} → this.Statement.statement M
 read-row-spec =
-    this.Tie.close (this.Tie.spec (λ c κs. search needs) (λ c. search needs) (λ c. search needs) (λ c. search row-none) (λ c. search row-again)
-    (λ c. search row-read) (λ c. search row-past))
+    this.Tie.close (this.Tie.spec (λ c κs. search needs) (λ c. search needs) (λ c. search needs) (λ c. search row-past) (λ c. search row-again)
+    (λ c. search row-none) (λ c. search row-read))
