@@ -35,7 +35,7 @@ unfoldable pub use Rattle.sheet.specs.Lists.{rowIn, sheetIn}
 pub use Rattle.sheet.specs.declared.row.Row.{Row}
 pub use Rattle.sheet.specs.declared.row.Sheet.{Sheet}
 unfoldable pub use Rattle.tables.specs.Tables.{fixedSheet}
-pub use Rattle.watch.specs.Lines.{refusedWord, scenarioWord, sheetWord, slotWord, slotsWord}
+pub use Rattle.watch.specs.Lines.{scenarioWord, sheetWord, slotsWord}
 unfoldable pub use Rattle.watch.specs.Lines.{codesText, endLine, fileName, refusedBy, refusedFile, refusedSlot, slotLine, slotNumber}
 pub use Rattle.watch.specs.Longest.{lineBuffer, lineSize}
 pub use Rattle.watch.specs.Texts.{PlayAnswer, goingOn, noCodes, playAnswer}
