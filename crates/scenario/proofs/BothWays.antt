@@ -1,11 +1,11 @@
 -- Both ways, over the promises: a list that is written and read is the list again, a file that is read and written is its very bytes, and so each list has one file and each accepted file one list. Assumes nothing.
-use Rattle.basis.specs.Prelude.{ℕ, zero, suc, _+_, _*_, _/_, _%_, _≤_, _<_, _≡_, refl, sym, ap, ap₂, subst, _∙_, Bool, true, false, List, [], _++_, arith, div-add-mod', mul-mod-left, mul-div-cancel, length, getD, take, drop, length-append, sets, sets-eq, take-at, leb, ltb, eqb, le-leb, le-ltb, ltb-false, eq-eqb, leb-true}
-use Rattle.scenario.proofs.Names.{pick, Bytes, Step, ok, refuse, Outcome, accepted, refused, firstOf, first-at, first-more, rowAt, legal, Sheet, legal-is, Held, budgetAt, scenario, scenarioBytes, Answer, answer, nothingBy, putAll, filledBy, readScenario, overBudget, overAt, checkWhole, checkList, fileOf, writtenBy, writeScenario}
-use Rattle.scenario.proofs.WrittenIsRead.{Fits, written-is-read}
+use Rattle.basis.specs.Prelude.{ℕ, zero, suc, _+_, _*_, _/_, _≤_, _%_, _<_, _≡_, refl, sym, ap, ap₂, _∙_, Bool, true, mul-div-cancel, mul-mod-left, List, false, arith, length, getD, take, take-at, drop, sets-eq, ltb, div-add-mod', leb, sets, le-ltb, ltb-false, eq-eqb, le-leb, leb-true}
+use Rattle.scenario.proofs.Names.{first-at, Bytes, Step, ok, refuse, Outcome, accepted, refused, firstOf, pick, Answer, answer, filledBy, nothingBy, writtenBy, checkList, checkWhole, overAt, overBudget, readScenario, writeScenario, Held, budgetAt, scenario, fileOf, scenarioBytes, legal-is, legal, Sheet}
+use Rattle.scenario.proofs.Inside.Checks.{checked-legal, checked-even, checked-entries}
 use Rattle.scenario.proofs.ReadIsWritten.{read-is-written}
-use Rattle.scenario.proofs.Inside.Lengths.{checked-legal, checked-even, checked-entries}
+use Rattle.scenario.proofs.WrittenIsRead.{Fits, written-is-read}
 
--- what was scenarioBytes at the front, where there is room
+-- what was stored at the front, where there is room
 front : (xs l : List ℕ) → length xs ≤ length l → take (length xs) (sets l 0 xs) ≡ xs
 front xs l r =
     let z : 0 + length xs ≤ length l = omega arith in
@@ -46,7 +46,7 @@ fits-checked h k l fine f =
 record Wrote (h : Sheet) (l out : List ℕ) : Type 0 where
   checked : checkList h l ≡ accepted
   room : length (fileOf h l) ≤ length out
-  answer : writeScenario h l out ≡ (answer accepted (length (fileOf h l)) (sets out 0 (fileOf h l)))
+  told : writeScenario h l out ≡ (answer accepted (length (fileOf h l)) (sets out 0 (fileOf h l)))
 
 wrote : (h : Sheet) (l out : List ℕ) → writeScenario h l out .outcome ≡ accepted → Wrote h l out
 unfolding writeScenario
@@ -57,7 +57,7 @@ wrote h l out e = go (checkList h l) refl e
     put true q c f = record {
       checked = c;
       room = leb-true _ _ q;
-      answer = ap (λ (o : Outcome). writtenBy o (fileOf h l) out) c ∙ ap (λ (t : Bool). pick {A = Answer} t (answer accepted (length (fileOf h l)) (sets out 0 (fileOf h l))) (nothingBy (refused 15 0) out)) q;
+      told = ap (λ (o : Outcome). writtenBy o (fileOf h l) out) c ∙ ap (λ (t : Bool). pick {A = Answer} t (answer accepted (length (fileOf h l)) (sets out 0 (fileOf h l))) (nothingBy (refused 15 0) out)) q;
     }
     put false q c f = let z : _≡_ {A = ℕ} 0 1 = cc in absurd (omega arith)
 
@@ -65,7 +65,7 @@ wrote h l out e = go (checkList h l) refl e
     go accepted q f = put (leb (length (fileOf h l)) (length out)) refl q f
     go (refused a b) q f = let z : _≡_ {A = ℕ} 0 1 = cc in absurd (omega arith)
 
--- the bytes that were scenarioBytes, read into any list that is long enough, give the list and its slots
+-- the bytes that were written, read into any list that is long enough, give the list and its slots
 pub list-comes-back : (h : Sheet) (l out l′ : List ℕ) → writeScenario h l out .outcome ≡ accepted → length l ≤ length l′
     → readScenario h (take (writeScenario h l out .count) (writeScenario h l out .lent)) l′ ≡ (answer accepted (length l / h .count) (sets l′ 0 l))
 unfolding readScenario
@@ -73,7 +73,7 @@ list-comes-back h l out l′ e r =
     let w = wrote h l out e in
     let fine : legal h ≡ true = checked-legal h l (w .checked) in
     let bytes : take (writeScenario h l out .count) (writeScenario h l out .lent) ≡ fileOf h l =
-    ap (λ (a : Answer). take (a .count) (a .lent)) (w .answer) ∙ front (fileOf h l) out (w .room) in
+    ap (λ (a : Answer). take (a .count) (a .lent)) (w .told) ∙ front (fileOf h l) out (w .room) in
     let read : scenario h (fileOf h l) 0 ≡ ok (record { slots = length l / h .count; entries = l }) (length (fileOf h l)) =
     written-is-read h (legal-is h fine) (length l / h .count) l (checked-fits h l (w .checked)) in
     ap (λ (s : List ℕ). pick (legal h) (filledBy (scenario h s 0) l′) (nothingBy (refused 10 0) l′)) bytes
@@ -84,15 +84,15 @@ list-comes-back h l out l′ e r =
 -- ---- bytes, list, bytes
 
 -- what the reader that accepts has done
-pub record HasRead (h : Sheet) (s l : List ℕ) : Type 0 where
-  pub legally : legal h ≡ true
-  pub held : Held
-  pub end : ℕ
-  pub is : scenario h s 0 ≡ ok held end
-  pub room : length (held .entries) ≤ length l
-  pub answer : readScenario h s l ≡ (answer accepted (held .slots) (sets l 0 (held .entries)))
+record HasRead (h : Sheet) (s l : List ℕ) : Type 0 where
+  legally : legal h ≡ true
+  held : Held
+  end : ℕ
+  is : scenario h s 0 ≡ ok held end
+  room : length (held .entries) ≤ length l
+  told : readScenario h s l ≡ (answer accepted (held .slots) (sets l 0 (held .entries)))
 
-pub has-read : (h : Sheet) (s l : List ℕ) → readScenario h s l .outcome ≡ accepted → HasRead h s l
+has-read : (h : Sheet) (s l : List ℕ) → readScenario h s l .outcome ≡ accepted → HasRead h s l
 unfolding readScenario
 has-read h s l e = legally (legal h) refl e
   where
@@ -104,7 +104,7 @@ has-read h s l e = legally (legal h) refl e
       end = n;
       is = g;
       room = leb-true _ _ c;
-      answer =
+      told =
           ap (λ (t : Bool). pick t (filledBy (scenario h s 0) l) (nothingBy (refused 10 0) l)) q
           ∙ ap (λ (y : Step Held). filledBy y l) g
           ∙ ap (λ (t : Bool). pick {A = Answer} t (answer accepted (x .slots) (sets l 0 (x .entries))) (nothingBy (refused 15 0) l)) c;
@@ -119,7 +119,7 @@ has-read h s l e = legally (legal h) refl e
     legally true q f = go (scenario h s 0) q refl f
     legally false q f = let z : _≡_ {A = ℕ} 0 1 = cc in absurd (omega arith)
 
--- the slots that were read, scenarioBytes into any buffer that is long enough, give the very bytes
+-- the slots that were read, written into any buffer that is long enough, give the very bytes
 pub file-comes-back : (h : Sheet) (s l out : List ℕ) → Bytes s → readScenario h s l .outcome ≡ accepted → length s ≤ length out
     → writeScenario h (take (readScenario h s l .count * h .count) (readScenario h s l .lent)) out ≡ (answer accepted (length s) (sets out 0 s))
 unfolding writeScenario
@@ -128,7 +128,7 @@ file-comes-back h s l out bytes e r =
     let x : Held = w .held in
     let (same, fits) = read-is-written s bytes h x (w .end) (w .is) in
     let back : take (readScenario h s l .count * h .count) (readScenario h s l .lent) ≡ x .entries =
-    ap (λ (a : Answer). take (a .count * h .count) (a .lent)) (w .answer) ∙ ap (λ (k : ℕ). take k (sets l 0 (x .entries))) (sym (fits .whole)) ∙ front (x .entries) l (w .room) in
+    ap (λ (a : Answer). take (a .count * h .count) (a .lent)) (w .told) ∙ ap (λ (k : ℕ). take k (sets l 0 (x .entries))) (sym (fits .whole)) ∙ front (x .entries) l (w .room) in
     let k : length (x .entries) / h .count ≡ x .slots = ap (λ (m : ℕ). m / h .count) (fits .whole) ∙ mul-div-cancel (x .slots) (legal-is h (w .legally) .some-rows) in
     let ws : fileOf h (x .entries) ≡ s = ap (λ (j : ℕ). scenarioBytes (h .count) j (x .entries)) k ∙ sym same in
     ap (λ (y : List ℕ). writtenBy (checkList h y) (fileOf h y) out) back

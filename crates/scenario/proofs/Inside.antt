@@ -1,4 +1,11 @@
+pub mod Checks
+pub mod Counting
+pub mod Files
+pub mod Filling
 pub mod Lengths
+pub mod Moves
+pub mod OneSlot
+pub mod Reads
 pub mod Slotwise
+pub mod Stored
 pub mod Stores
-pub mod Wholes

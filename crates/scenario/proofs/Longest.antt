@@ -1,8 +1,8 @@
 -- No scenario is longer than the longest of its slots, which is met, so a buffer of that size is never 15. Assumes nothing.
-use Rattle.basis.specs.Prelude.{ℕ, zero, suc, _+_, _*_, _/_, _≤_, _<_, _≡_, refl, sym, ap, _∙_, Bool, true, false, List, [], _∷_, _++_, arith, add-zero, zero-add, length, take, drop, replicate, length-append, length-replicate, length-take, sets, take-at, drop-at, replicate-append-replicate, eqb, le-leb, ne-eqb}
-use Rattle.scenario.proofs.Names.{mostRows, mostSeparation, mostGroups, sum, sum-grows, pick, Outcome, accepted, refused, spell, spelt, width, width-grows, Sheet, legal-is, markBytes, releasesIn, releasesBytes, slotBytes, slotsBytes, scenarioBytes, Answer, answer, nothingBy, checkList, fileOf, writtenBy, writeScenario, longestRelease, longestSlot, longestScenario}
+use Rattle.basis.specs.Prelude.{ℕ, zero, suc, _+_, _*_, _≤_, _/_, _≡_, refl, sym, ap, _∙_, Bool, true, List, false, replicate-append-replicate, [], _++_, _∷_, arith, take, length, drop, add-zero, take-at, replicate, zero-add, length-append, length-take, length-replicate, drop-at, sets, eqb, le-leb}
+use Rattle.scenario.proofs.Names.{sum-grows, mostSeparation, Outcome, accepted, refused, pick, sum, width-grows, spell, spelt, width, Answer, answer, nothingBy, writtenBy, checkList, writeScenario, markBytes, longestRelease, longestScenario, longestSlot, fileOf, releasesBytes, releasesIn, scenarioBytes, slotBytes, slotsBytes, Sheet}
+use Rattle.scenario.proofs.Inside.Lengths.{width-few}
 use Rattle.scenario.proofs.WrittenIsRead.{released-few}
-use Rattle.scenario.proofs.Inside.Lengths.{width-few, checked-legal}
 
 -- the bytes of a release
 release-long : (i v : ℕ) (rest : List ℕ) → length (spell i ++ (spell v ++ rest)) ≡ width i + (width v + length rest)

@@ -1,7 +1,8 @@
 -- A scenario that is read is the one that would be written: writing it gives its very bytes. Assumes nothing.
-use Rattle.basis.specs.Prelude.{ℕ, zero, suc, _+_, _-_, _*_, _%_, _≤_, _<_, _≡_, refl, sym, ap, ap₂, subst, _∙_, Bool, true, false, ⊎-elim, List, [], _∷_, _++_, append-assoc, append-nil, arith, add-one, mod-eq-of-lt, add-mod-left, length, getD, take, drop, set, replicate, length-append, length-replicate, getD-replicate, replicate-append-replicate, List·getD-append, set-at, take-at, drop-at, getD-append-add, length-slice, eqb, ltb, lt-ltb, le-ltb, ltb-true, ltb-false, ne-eqb}
-use Rattle.scenario.proofs.Names.{Bytes, Step, ok, refuse, Reader, after, give, refuse-at, begins, marked, pick, getD-all, never-ok, ok-same, after-ok, passed, not-stopped, marked-ok, lt-or-le, number, upTo, spell, number-spelled, bounded, Covers, covers-then, covers-none, covers-as, covers-all, covers-mark, covers-number, covers-up-to, rowAt, Sheet, Held, noSlots, slotBefore, markBytes, budgetAt, noReleases, row, releases, slot, slots, scenario, releasesIn, releasesBytes, slotBytes, slotsBytes, scenarioBytes}
-use Rattle.scenario.proofs.WrittenIsRead.{Fit, Fits, slot-some}
+use Rattle.basis.specs.Prelude.{ℕ, zero, _+_, suc, _-_, _≤_, _<_, _≡_, _%_, refl, sym, ap, _∙_, ap₂, subst, List, Bool, replicate-append-replicate, add-mod-left, mod-eq-of-lt, ⊎-elim, [], _++_, _∷_, arith, List·getD-append, append-assoc, take-at, length, getD-append-add, set-at, add-one, getD, set, length-append, length-replicate, drop-at, le-ltb, ne-eqb}
+use Rattle.scenario.proofs.Names.{getD-all, after-ok, marked-ok, ok-same, lt-or-le, Bytes, marked, ok, pick, bounded, Covers, covers-all, covers-as, covers-mark, covers-none, covers-number, covers-then, covers-up-to, number, spell, upTo, Held, budgetAt, markBytes, noReleases, noSlots, releases, row, scenario, slot, slots, releasesBytes, releasesIn, scenarioBytes, slotBytes, slotsBytes, Sheet}
+use Rattle.scenario.proofs.Inside.OneSlot.{row-is, slot-goes, slots-apart}
+use Rattle.scenario.proofs.WrittenIsRead.{Fit, Fits}
 
 -- rows without a release take no byte
 skip : (d i : ℕ) (l : List ℕ) → releasesBytes i (noReleases d ++ l) ≡ releasesBytes (i + d) l
@@ -58,29 +59,7 @@ record Rest (h : Sheet) (s : List ℕ) (k : ℕ) (pre : List ℕ) (i j at : ℕ)
   many : releasesIn entries ≡ k
   not-over : (x : ℕ) → x < j → getD entries x 0 ≤ budgetAt h (i + x)
 
--- a row that was read
-record RowIs (s : List ℕ) (n least at r m : ℕ) : Type 0 where
-  few : r < n
-  above : least ≤ r
-  covers : Covers s at m (spell r)
-
 module _ (s : List ℕ) (bytes : Bytes s) where
-  covers-one : (at v n : ℕ) → number s at ≡ ok v n → Covers s at n (spell v)
-  covers-one at v n e = let r = number-spelled s at v n bytes e in record { forward = omega (arith, r .some-bytes); inside = r .inside; same = r .spelling }
-
-  row-is : (n least at r m : ℕ) → row n least s at ≡ ok r m → RowIs s n least at r m
-  unfolding row
-  row-is n least at r m e =
-      after-ok (number s at) _ e λ v z e₁ e₂.
-      let (t, e₃) = passed _ 14 at s z (ltb v n) e₂ in
-      let (u, e₄) = not-stopped (give v) 20 at s z (ltb v least) e₃ in
-      let (ev, ez) = ok-same e₄ in
-      record {
-        few = omega (arith, ltb-true v n t);
-        above = omega (arith, ltb-false v least u);
-        covers = covers-as s ez (ap spell ev) (covers-one at v z e₁);
-      }
-
   -- a release before the rest
   release-before : (h : Sheet) (k : ℕ) (pre : List ℕ) (i j at : ℕ) (l : List ℕ) (n r c a b d g : ℕ) → i + d ≡ r → j ≡ d + suc g → Covers s at a (spell r) → Covers s a b (spell c)
       → 0 < c → c ≤ budgetAt h r → Rest h s k ((pre ++ noReleases d) ++ (c ∷ [])) (r + 1) g b l n → Rest h s (suc k) pre i j at l n
@@ -122,11 +101,11 @@ module _ (s : List ℕ) (bytes : Bytes s) where
   releases-are h (suc k) pre acc i j at l n inside lp lj ea e =
       after-ok (row (h .count) i s at) _ e λ r a e₁ e₂.
       after-ok (upTo (budgetAt h r) 12 12 s a) _ e₂ λ c b e₃ e₄.
-      let ri = row-is (h .count) i at r a e₁ in
+      let ri = row-is (h .count) i s at r a e₁ in
       let cb = bounded (budgetAt h r) 12 12 s a c b e₃ in
       let ir : i + (r - i) ≡ r = omega (arith, ri .above) in
       let ej : j ≡ r - i + suc (h .count - (r + 1)) = omega (arith, ri .above, ri .few) in
-      release-before h k pre i j at l n r c a b (r - i) (h .count - (r + 1)) ir ej (ri .covers) (covers-up-to s bytes (budgetAt h r) 12 12 a c b e₃) (cb .positive) (cb .not-over)
+      release-before h k pre i j at l n r c a b (r - i) (h .count - (r + 1)) ir ej (covers-number s bytes at r a (ri .read)) (covers-up-to s bytes (budgetAt h r) 12 12 a c b e₃) (cb .positive) (cb .not-over)
       (releases-are h k ((pre ++ noReleases (r - i)) ++ (c ∷ [])) (set acc r c) (r + 1) (h .count - (r + 1)) b l n (cb .in-bytes) (long-before pre i r (r - i) c lp ir) (omega (arith, ri .few))
       (stored-before pre acc i j r (r - i) (h .count - (r + 1)) c lp ir ej ea) e₄)
 
@@ -135,7 +114,7 @@ module _ (s : List ℕ) (bytes : Bytes s) where
   unfolding slot slotBytes
   slot-is h at l n e =
       after-ok (number s at) _ e λ k a e₁ e₂.
-      let first = covers-one at k a e₁ in
+      let first = covers-number s bytes at k a e₁ in
       let r = releases-are h k [] (noReleases (h .count)) 0 (h .count) a l n (first .inside) refl (omega arith) refl e₂ in
       let whole : Covers s at n (slotBytes (r .entries)) =
       covers-then s (covers-as s refl (ap spell (sym (r .many))) first) (r .covers) in
@@ -183,12 +162,6 @@ module _ (s : List ℕ) (bytes : Bytes s) (h : Sheet) where
         end = omega arith;
       })
 
-  -- a slot takes a byte or more
-  slot-goes : (at : ℕ) (l : List ℕ) (m : ℕ) → slot h (noReleases (h .count)) s at ≡ ok l m → at < m
-  slot-goes at l m e =
-      let c = slot-is s bytes h at l m e .0 in
-      omega (arith, c .forward, c .inside, length-slice at m s (c .inside), ap length (c .same), slot-some l)
-
   -- slots up to the end
   slots-are : (f at : ℕ) (x : Held) (n : ℕ) → at ≤ length s → length s ≤ at + f → slots h f s at ≡ ok x n → All at x n
   unfolding slots slotsBytes
@@ -196,26 +169,23 @@ module _ (s : List ℕ) (bytes : Bytes s) (h : Sheet) where
   slots-are (suc f) at x n inside fuel e =
       ⊎-elim
       (λ b.
-      let e₀ : after (slot h (noReleases (h .count)) s at) (λ l m. after (slots h f s m) (λ y z. ok (slotBefore l y) z)) ≡ ok x n = simp (lt-ltb at (length s) b) at e in
-      after-ok (slot h (noReleases (h .count)) s at) _ e₀ λ l m e₁ e₂.
-      after-ok (slots h f s m) _ e₂ λ y z e₃ e₄.
+      slots-apart h f s at b e λ l m y e₁ e₂ ex.
       let (first, fit) = slot-is s bytes h at l m e₁ in
-      let rest = slots-are f m y z (first .inside) (omega (arith, slot-goes at l m e₁)) e₃ in
-      let (ex, en) = ok-same e₄ in
+      let rest = slots-are f m y n (first .inside) (omega (arith, slot-goes h (noReleases (h .count)) s at l m e₁ .0)) e₂ in
       let long : length l ≡ h .count = omega (arith, fit .inside) in
       let joined : slotBytes l ++ slotsBytes (h .count) (y .slots) (y .entries) ≡ slotsBytes (h .count) (y .slots + 1) (l ++ y .entries) =
       sym (ap (λ (k : ℕ). slotsBytes (h .count) k (l ++ y .entries)) (add-one (y .slots))
       ∙ ap₂ (λ (a : List ℕ) (c : List ℕ). slotBytes a ++ slotsBytes (h .count) (y .slots) c) (take-at l (y .entries) (h .count) long) (drop-at l (y .entries) (h .count) long)) in
       subst (λ (v : Held). All at v n) ex
       (record {
-        covers = covers-as s en joined (covers-then s first (rest .covers));
+        covers = covers-as s refl joined (covers-then s first (rest .covers));
         fits = fits-before h (y .slots) l (y .entries) fit (rest .fits);
-        end = omega (arith, rest .end);
+        end = rest .end;
       }))
       (λ b. none-are at n x inside b (simp (le-ltb at (length s) b) at e))
       (lt-or-le at (length s))
 
-  -- what is read is what is scenarioBytes, and fits
+  -- what is read is what is written, and fits
   pub read-is-written : (x : Held) (n : ℕ) → scenario h s 0 ≡ ok x n → (s ≡ scenarioBytes (h .count) (x .slots) (x .entries)) × Fits h (x .slots) (x .entries)
   unfolding scenario scenarioBytes
   read-is-written x n e =

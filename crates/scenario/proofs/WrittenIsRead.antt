@@ -1,6 +1,6 @@
 -- A list that is written is read back as it was. Assumes nothing.
-use Rattle.basis.specs.Prelude.{ℕ, zero, suc, _+_, _*_, _%_, _^_, _≤_, _<_, _≡_, refl, sym, ap, ap₂, subst, _∙_, Bool, true, false, ⊎-elim, List, [], _∷_, _++_, append-assoc, append-nil, arith, le-refl, not-suc-le-zero, mod-eq-of-lt, add-mod-left, add-one, length, getD, take, drop, set, replicate, length-append, length-replicate, take-append-drop, length-drop, set-at, getD-take, getD-drop, length-take-le, eqb, ltb, lt-ltb, le-ltb, eq-eqb, ne-eqb, eqb-true, eqb-false}
-use Rattle.scenario.proofs.Names.{mostGroups, mostRows, pick, Step, ok, refuse, Reader, after, give, begins, lt-or-le, number, upTo, spell, spelt, spelt-one, spelt-more, Reads, at-place, reads-give, reads-then, reads-number, reads-up-to, rowAt, Legal, Sheet, Held, noSlots, slotBefore, markBytes, budgetAt, noReleases, row, releases, slot, slots, scenario, releasesIn, releasesBytes, slotBytes, slotsBytes, scenarioBytes}
+use Rattle.basis.specs.Prelude.{ℕ, zero, suc, _+_, _*_, _≤_, _<_, _≡_, _^_, _%_, refl, sym, ap, subst, ap₂, _∙_, true, Bool, List, false, ⊎-elim, [], mod-eq-of-lt, add-mod-left, getD-drop, _∷_, _++_, append-nil, arith, append-assoc, length, not-suc-le-zero, take, set-at, add-one, getD, le-refl, set, drop, take-append-drop, length-drop, getD-take, eqb-false, length-append, eqb, length-take-le, eqb-true, lt-ltb, le-ltb}
+use Rattle.scenario.proofs.Names.{mostGroups, pick, ok, give, begins, lt-or-le, number, upTo, spell, spelt-one, spelt-more, Reads, at-place, reads-give, reads-then, reads-number, reads-up-to, Legal, Sheet, noSlots, markBytes, budgetAt, noReleases, row, releases, slot, slots, scenario, releasesIn, releasesBytes, slotBytes, slotsBytes, scenarioBytes}
 
 -- at least one byte for a number
 pub some-bytes : (v : ℕ) → 1 ≤ length (spell v)
@@ -143,7 +143,7 @@ module _ (h : Sheet) (fine : Legal h) where
       reads-slots k g rest (p ++ bytes) s (at + length bytes) (omega arith) (fits-rest h k l f (fine .some-rows)) (e ∙ sym (append-assoc p bytes more)) (omega (arith, length-append p bytes)) in
       simp (lt-ltb at (length s) there, e₁, e₂) (ap₂ (λ (j : ℕ) (x : List ℕ). ok (record { slots = j; entries = x }) (length s)) (add-one k) (take-append-drop n l))
 
-  -- what is scenarioBytes is read back
+  -- what is written is read back
   pub written-is-read : (k : ℕ) (l : List ℕ) → Fits h k l → scenario h (scenarioBytes (h .count) k l) 0 ≡ ok (record { slots = k; entries = l }) (length (scenarioBytes (h .count) k l))
   unfolding scenario scenarioBytes begins
   written-is-read k l f =

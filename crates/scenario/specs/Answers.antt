@@ -2,9 +2,9 @@
 use Rattle.basis.specs.Prelude.{ℕ, _%_, List, length, getD, sets, ltb, leb, eqb}
 use Rattle.basis.specs.Limits.{mostRows}
 use Rattle.basis.specs.Words.{pick}
-use Rattle.basis.specs.Refusals.{Outcome, accepted, refused, outcome, orElse, firstOf, needed}
+use Rattle.basis.specs.Refusals.{Outcome, accepted, refused, outcome, firstOf}
 use Rattle.basis.specs.Readers.{Step, ok, refuse}
-use Rattle.sheet.specs.Legal.{rowAt, legal}
+use Rattle.sheet.specs.Legal.{legal}
 use Rattle.sheet.specs.declared.row.Sheet.{Sheet}
 use Rattle.scenario.specs.Form.{Held, budgetAt, noReleases, slot, scenario}
 use Rattle.scenario.specs.Written.{fileOf}

@@ -3,7 +3,6 @@ use Rattle.basis.specs.Prelude.{ℕ, List, [], _∷_}
 use Rattle.basis.specs.Readers.{Step, ok, refuse}
 use Rattle.sheet.specs.Values.{noRows}
 use Rattle.sheet.specs.declared.row.Sheet.{Sheet}
-use Rattle.sheet.specs.declared.row.Row.{Row}
 use Rattle.scenario.specs.Form.{Held}
 
 -- A sheet of two rows, whose budgets are 2 and 200.

@@ -1,7 +1,7 @@
 -- The form of a scenario file, read from left to right: the first fault decides.
 use Rattle.basis.specs.Prelude.{ℕ, zero, suc, _+_, List, [], _∷_, _++_, length, set, replicate, ltb}
 use Rattle.basis.specs.Words.{pick}
-use Rattle.basis.specs.Readers.{Step, ok, refuse, Reader, _>>=_, _>>_, give, refuse-at, here, marked}
+use Rattle.basis.specs.Readers.{ok, Reader, _>>=_, _>>_, give, refuse-at, here, marked}
 use Rattle.numbers.specs.Numbers.{number, upTo}
 use Rattle.sheet.specs.Legal.{rowAt}
 use Rattle.sheet.specs.declared.row.Sheet.{Sheet}

@@ -1,7 +1,10 @@
 pub mod Form
 pub mod Written
 pub mod Answers
+pub mod Listed
 pub mod Longest
+pub mod Slots
+pub mod Windows
 pub mod Cases
 pub mod Wrong
 pub mod Inside

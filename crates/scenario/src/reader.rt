@@ -1,13 +1,11 @@
 // The reader of a whole scenario: first all of it is checked, and only then the list is filled.
 ghost use mathlib.Core.Path.{_≡_};
-ghost use mathlib.Core.Bool.{true};
 ghost use Prim.Native.Nat.{_+_, _≤_};
 ghost use lib.ListN.{length, take};
 ghost use lib.Seq.{sets};
 ghost use Rattle.basis.specs.Limits.{mostRows};
 ghost use Rattle.basis.specs.Readers.{mapStep};
 ghost use Rattle.numbers.specs.Numbers.{step};
-ghost use Rattle.sheet.specs.Legal.{legal};
 ghost use Rattle.sheet.specs.Lists.{sheetIn};
 ghost use Rattle.scenario.specs.Form.{slots};
 ghost use Rattle.scenario.specs.Answers.{readTold, filledBy, readScenario};

@@ -1,5 +1,5 @@
 -- Laws of steps: what is known where readers that follow each other accept, and of a step with what a function makes of its value. Assumes nothing.
-use Rattle.basis.specs.Prelude.{ℕ, _+_, _≤_, _<_, _≡_, refl, sym, ap, _∙_, Bool, true, false, List, arith, length, getD, ltb, leb, ltb-true, ltb-false, leb-true}
+use Rattle.basis.specs.Prelude.{ℕ, _+_, _≤_, _<_, _≡_, refl, sym, ap, ap₂, _∙_, Bool, true, false, List, arith, length, getD, ltb, leb, ltb-true, ltb-false, leb-true}
 use Rattle.basis.specs.Words.{pick}
 use Rattle.basis.specs.Readers.{Step, ok, refuse, Reader, after, refuse-at, byte, enough, end, begins, marked, mapStep}
 
@@ -19,6 +19,11 @@ refuse-same e = (cc, cc)
 pub after-ok : {A B R : Type 0} (x : Step A) (f : A → ℕ → Step B) {b : B} {n : ℕ} → after x f ≡ ok b n → ((a : A) (m : ℕ) → x ≡ ok a m → f a m ≡ ok b n → R) → R
 after-ok (ok a m) f e k = k a m refl e
 after-ok (refuse j p) f e k = absurd (never-ok refl e)
+
+-- where they refuse, the first does, or it accepts and the second does
+pub after-no : {A B R : Type 0} (x : Step A) (f : A → ℕ → Step B) {k p : ℕ} → after x f ≡ refuse k p → (x ≡ refuse k p → R) → ((a : A) (n : ℕ) → x ≡ ok a n → f a n ≡ refuse k p → R) → R
+after-no (ok a n) f e first second = second a n refl e
+after-no (refuse j q) f e first second = let (a, b) = refuse-same e in first (ap₂ (λ (x : ℕ) (y : ℕ). refuse x y) a b)
 
 -- where a test stands before a refusal, or after it, the test says so
 module _ {A : Type 0} (r : Reader A) (k p : ℕ) (s : List ℕ) (at : ℕ) {a : A} {n : ℕ} where

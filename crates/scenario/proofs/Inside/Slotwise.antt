@@ -1,6 +1,8 @@
 -- The loop over the releases of a slot: what is still to be read, into what is there. Assumes nothing.
-use Rattle.basis.specs.Prelude.{ℕ, zero, suc, _+_, _-_, _*_, _≤_, _<_, _≡_, refl, sym, ap, _∙_, Bool, true, false, List, arith, not-suc-le-zero, length, set, length-set, length-replicate, ltb, lt-ltb, le-ltb, ltb-true}
-use Rattle.scenario.proofs.Names.{mostRows, numberAt, sheetIn, rowIn, Row, row-in-sheet, pick, Step, ok, refuse, after, give, Outcome, accepted, refused, got, never-ok, ok-same, after-ok, passed, not-stopped, step, number, upTo, Number, Is, Refused, one-less, legal, Sheet, legal-is, budgetAt, noReleases, row, releases, slot, slotTold, slotAnswer, slotHanded, readSlot, SlotRead}
+use borrow.Author.Needs.{scaled-fits}
+use Rattle.basis.specs.Prelude.{ℕ, zero, suc, _+_, _*_, _-_, _≤_, _<_, _≡_, refl, sym, ap, _∙_, Bool, true, false, List, arith, not-suc-le-zero, length, set, length-replicate, length-set, lt-ltb, le-ltb, w64, Fits}
+use Rattle.scenario.proofs.Names.{got, mostRows, Step, after, ok, refuse, accepted, pick, one-less, number, step, upTo, Number, Is, Refused, slotAnswer, slotHanded, slotTold, readSlot, budgetAt, noReleases, releases, row, slot, SlotRead, row-in-sheet, legal-is, legal, numberAt, rowIn, sheetIn, Row, Sheet}
+use Rattle.scenario.proofs.Inside.OneSlot.{row-is}
 
 -- the budget of a row is a number of the sheet's list
 pub budget-handed : (l : List ℕ) (k v : ℕ) → k < mostRows → v ≡ numberAt l (k * 4 + 5) → v ≡ budgetAt (sheetIn l) k
@@ -26,14 +28,15 @@ module _ (n least : ℕ) (s : List ℕ) (at : ℕ) (x : Number) (e : step x ≡ 
   row-read r m g h l = sym (simp (got step e g, lt-ltb r n h, le-ltb r least l))
 
 -- a row that is read is one of the sheet's
-pub row-few : (n least : ℕ) (s : List ℕ) (at r m : ℕ) → row n least s at ≡ ok r m → r < n
-unfolding row
-row-few n least s at r m e =
-    after-ok (number s at) _ e λ v z e₁ e₂.
-    let (t, e₃) = passed _ 14 at s z (ltb v n) e₂ in
-    let (_, e₄) = not-stopped (give v) 20 at s z (ltb v least) e₃ in
-    let (ev, _) = ok-same e₄ in
-    omega (arith, ltb-true v n t)
+module _ (l : List ℕ) (n least : ℕ) (s : List ℕ) (at : ℕ) (x : Number) (r m : ℕ) (e : step x ≡ row n least s at) (g : x ≡ Is r m) (en : n ≡ sheetIn l .count) (few : sheetIn l .count ≤ mostRows) where
+  pub row-few : r < mostRows
+  row-few = omega (arith, row-is n least s at r m (got step e g) .few)
+
+  pub row-scaled : Fits w64 (r * 8)
+  row-scaled = scaled-fits r mostRows 8 row-few (omega arith)
+
+  pub row-next : Fits w64 (r + 1)
+  row-next = record { fits = omega (arith, row-few) }
 
 -- what is still to be read: left releases into the entries, from next on
 pub record Reading (h : Sheet) (s : List ℕ) (at count : ℕ) (entries : List ℕ) (next least left : ℕ) : Type 0 where

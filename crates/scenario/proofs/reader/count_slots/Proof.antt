@@ -1,7 +1,7 @@
 -- `count_slots` meets its promise. The invariant: what is still to be counted, and the count, is the whole. Assumes nothing.
 use Rattle.basis.specs.Prelude.{needs, _≡_, _-_, _≤_, length}
 use Rattle.scenario.proofs.Names.{mostRows, sheetIn}
-use Rattle.scenario.proofs.Inside.Wholes.{Counting, none-counted, all-counted, count-no, count-less, count-more}
+use Rattle.scenario.proofs.Inside.Counting.{Counting, none-counted, all-counted, count-no, count-less, count-more}
 use Rattle.scenario.proofs.reader.count_slots as this
 
 abbrev Inv-loop : this.Tie.InvT-loop

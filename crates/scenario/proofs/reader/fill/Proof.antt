@@ -1,7 +1,7 @@
 -- `fill` meets its promise. The invariant: the slots so far are stored, and those still to be read have room. Assumes nothing.
 use Rattle.basis.specs.Prelude.{needs, _-_, _≤_, _≡_, length}
 use Rattle.scenario.proofs.Names.{mostRows, sheetIn}
-use Rattle.scenario.proofs.Inside.Wholes.{Filling, none-filled, all-filled, slot-room, fill-less, fill-more}
+use Rattle.scenario.proofs.Inside.Filling.{Filling, none-filled, all-filled, slot-room, fill-less, fill-more}
 use Rattle.scenario.proofs.reader.fill as this
 
 abbrev Inv-loop : this.Tie.InvT-loop

@@ -1,7 +1,7 @@
 -- `put_slot` meets its promise. The invariant: the entries so far are stored. Assumes nothing.
 use Rattle.basis.specs.Prelude.{needs, _+_, _-_, _≤_, _≡_, length, take, sets}
 use Rattle.scenario.proofs.Names.{mostRows}
-use Rattle.scenario.proofs.Inside.Wholes.{put-one, put-all}
+use Rattle.scenario.proofs.Inside.Filling.{put-one, put-all}
 use Rattle.scenario.proofs.reader.put_slot as this
 
 abbrev Inv-loop : this.Tie.InvT-loop

@@ -1,6 +1,6 @@
 -- `read_marked` meets its promise. Assumes nothing.
 use Rattle.basis.specs.Prelude.{needs}
-use Rattle.scenario.proofs.Inside.Wholes.{read-no, read-short, fill-room, read-whole}
+use Rattle.scenario.proofs.Inside.Reads.{read-no, read-short, fill-room, read-whole}
 use Rattle.scenario.proofs.reader.read_marked as this
 
 pub read-marked-spec : {M : Type 1} → this.Statement.statement M

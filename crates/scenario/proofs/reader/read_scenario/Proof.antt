@@ -1,7 +1,7 @@
 -- `read_scenario` meets its promise. Assumes nothing.
 use Rattle.basis.specs.Prelude.{needs}
 use Rattle.scenario.proofs.Inside.Slotwise.{rows-few}
-use Rattle.scenario.proofs.Inside.Wholes.{read-illegal, read-unmarked, read-rest, rows-some}
+use Rattle.scenario.proofs.Inside.Reads.{read-illegal, read-unmarked, read-rest, rows-some}
 use Rattle.scenario.proofs.reader.read_scenario as this
 
 pub read-scenario-spec : {M : Type 1} → this.Statement.statement M

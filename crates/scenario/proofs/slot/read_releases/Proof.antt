@@ -1,7 +1,7 @@
 -- `read_releases` meets its promise. The invariant: what is still to be read, into the entries so far, is the whole. Assumes nothing.
-use Rattle.basis.specs.Prelude.{needs, _≡_, arith, _≤_}
-use Rattle.scenario.proofs.Names.{mostRows, sheetIn, got, step}
-use Rattle.scenario.proofs.Inside.Slotwise.{Reading, begun, all-read, row-few, no-row, no-amount, one-more}
+use Rattle.basis.specs.Prelude.{needs, _≡_, _≤_}
+use Rattle.scenario.proofs.Names.{mostRows, sheetIn}
+use Rattle.scenario.proofs.Inside.Slotwise.{Reading, begun, all-read, row-few, row-scaled, row-next, no-row, no-amount, one-more}
 use Rattle.scenario.proofs.slot.read_releases as this
 
 abbrev Inv-loop : this.Tie.InvT-loop
@@ -13,10 +13,6 @@ abbrev μ-loop : this.Tie.MeasureT-loop
 pub read-releases-spec : {M : Type 1} → this.Statement.statement M
 read-releases-spec =
     this.Tie.close (this.Tie.spec Inv-loop μ-loop (λ c. (begun _ _ _ _, search needs, search needs)) (λ c κs. search needs) (λ c. search needs)
-    (λ c κs. search needs) (λ c. search no-row) (λ c. search needs)
-    (λ c κs. omega (arith, row-few _ _ _ _ _ _ (got step (c .before .before .before .read-row .ensures) (c .before .r .given .1))))
-    (λ c κs. search needs) (λ c. search needs) (λ c κs. search needs) (λ c. search no-amount) (λ c. search needs)
-    (λ c. omega (arith, row-few _ _ _ _ _ _ (got step (c .before .before .before .before .before .before .before .before .read-row .ensures) (c .before .before .before .before .before .before .r .given .1))))
-    (λ c. omega (arith, row-few _ _ _ _ _ _ (got step (c .before .before .before .before .before .before .before .before .read-row .ensures) (c .before .before .before .before .before .before .r .given .1))))
-    (λ c. omega (arith, row-few _ _ _ _ _ _ (got step (c .before .before .before .before .before .before .before .before .read-row .ensures) (c .before .before .before .before .before .before .r .given .1))))
+    (λ c κs. search needs) (λ c. search no-row) (λ c. search needs) (λ c κs. search row-few) (λ c κs. search needs) (λ c. search needs)
+    (λ c κs. search needs) (λ c. search no-amount) (λ c. search needs) (λ c. search row-scaled) (λ c. search row-few) (λ c. search row-next)
     (λ c. search needs) (λ c. search needs) (λ c. (search one-more, search needs, search needs)) (λ c. search all-read))

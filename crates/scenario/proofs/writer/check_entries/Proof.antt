@@ -1,7 +1,7 @@
 -- `check_entries` meets its promise: none of the entries so far is over. Assumes nothing.
 use Rattle.basis.specs.Prelude.{needs, _-_, _≤_, _≡_, refl, length}
 use Rattle.scenario.proofs.Names.{mostRows, sheetIn, accepted, firstOf, overAt}
-use Rattle.scenario.proofs.Inside.Lengths.{entry-over, entry-fine, entries-fine}
+use Rattle.scenario.proofs.Inside.Checks.{entry-over, entry-fine, entries-fine}
 use Rattle.scenario.proofs.writer.check_entries as this
 
 abbrev Inv-loop : this.Tie.InvT-loop

@@ -1,5 +1,4 @@
 -- `check_entry` meets its promise. Assumes nothing.
-use Rattle.basis.specs.Prelude.{needs}
 use Rattle.scenario.proofs.Names.{tests, overBudget}
 use Rattle.scenario.proofs.writer.check_entry as this
 

@@ -1,8 +1,8 @@
 -- `check_list` meets its promise. Assumes nothing.
 use Rattle.basis.specs.Prelude.{needs}
 use Rattle.scenario.proofs.Inside.Slotwise.{rows-few}
-use Rattle.scenario.proofs.Inside.Wholes.{rows-some}
-use Rattle.scenario.proofs.Inside.Lengths.{list-illegal, list-legal}
+use Rattle.scenario.proofs.Inside.Reads.{rows-some}
+use Rattle.scenario.proofs.Inside.Checks.{list-illegal, list-legal}
 use Rattle.scenario.proofs.writer.check_list as this
 
 pub check-list-spec : {M : Type 1} → this.Statement.statement M

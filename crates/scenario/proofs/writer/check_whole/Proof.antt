@@ -1,6 +1,6 @@
 -- `check_whole` meets its promise. Assumes nothing.
 use Rattle.basis.specs.Prelude.{needs}
-use Rattle.scenario.proofs.Inside.Lengths.{list-uneven, list-even}
+use Rattle.scenario.proofs.Inside.Checks.{list-uneven, list-even}
 use Rattle.scenario.proofs.writer.check_whole as this
 
 pub check-whole-spec : {M : Type 1} → this.Statement.statement M

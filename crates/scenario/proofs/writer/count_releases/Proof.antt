@@ -1,5 +1,5 @@
 -- `count_releases` meets its promise: the entries so far are counted. Assumes nothing.
-use Rattle.basis.specs.Prelude.{needs, _+_, _-_, _*_, _≤_, _≡_, refl, length, take, sets}
+use Rattle.basis.specs.Prelude.{needs, _-_, _≤_, _≡_, refl, length, take}
 use Rattle.scenario.proofs.Names.{mostRows, releasesIn}
 use Rattle.scenario.proofs.Inside.Lengths.{count-one, count-whole}
 use Rattle.scenario.proofs.writer.count_releases as this

@@ -1,7 +1,7 @@
 -- `fits` meets its promise: the room that is left, and the slots so far, are the whole room. Assumes nothing.
-use Rattle.basis.specs.Prelude.{needs, _+_, _-_, _*_, _≤_, _≡_, refl, length, take, sets}
+use Rattle.basis.specs.Prelude.{needs, _+_, _-_, _*_, _≤_, _≡_, length}
 use Rattle.scenario.proofs.Names.{mostRows, scenarioBytes}
-use Rattle.scenario.proofs.Inside.Stores.{slot-inside, fits-not, fits-more, fits-mark, fits-none, fits-all}
+use Rattle.scenario.proofs.Inside.Files.{slot-inside, fits-not, fits-more, fits-mark, fits-none, fits-all}
 use Rattle.scenario.proofs.writer.fits as this
 
 abbrev Inv-loop : this.Tie.InvT-loop

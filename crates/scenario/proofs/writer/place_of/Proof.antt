@@ -1,6 +1,6 @@
 -- `place_of` meets its promise. Assumes nothing.
 use Rattle.basis.specs.Prelude.{needs}
-use Rattle.scenario.proofs.Inside.Lengths.{place-few}
+use Rattle.scenario.proofs.Inside.Checks.{place-few}
 use Rattle.scenario.proofs.writer.place_of as this
 
 pub place-of-spec : {M : Type 1} → this.Statement.statement M

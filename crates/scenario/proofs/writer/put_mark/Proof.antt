@@ -1,7 +1,6 @@
 -- `put_mark` meets its promise: the bytes so far are stored. Assumes nothing.
-use Rattle.basis.specs.Prelude.{needs, _+_, _-_, _*_, _≤_, _≡_, refl, length, take, sets}
-use Rattle.scenario.proofs.Names.{mostRows}
-use Rattle.scenario.proofs.Inside.Stores.{mark-none, mark-one, mark-all}
+use Rattle.basis.specs.Prelude.{needs, _-_, _≤_, _≡_, length, take, sets}
+use Rattle.scenario.proofs.Inside.Files.{mark-one, mark-all}
 use Rattle.scenario.proofs.writer.put_mark as this
 
 abbrev Inv-loop : this.Tie.InvT-loop
@@ -12,6 +11,6 @@ abbrev μ-loop : this.Tie.MeasureT-loop
 
 pub put-mark-spec : {M : Type 1} → this.Statement.statement M
 put-mark-spec =
-    this.Tie.close (this.Tie.spec Inv-loop μ-loop (λ c. (search needs, search needs, search needs, search mark-none)) (λ c. search needs)
+    this.Tie.close (this.Tie.spec Inv-loop μ-loop (λ c. (search needs, search needs, search needs, search needs)) (λ c. search needs)
     (λ c. search needs) (λ c. search needs) (λ c. search needs) (λ c. (search needs, search needs, search needs, search mark-one)) (λ c. search needs)
     (λ c. search mark-all))

@@ -1,5 +1,5 @@
 -- `releases_length` meets its promise: the entries so far are measured. Assumes nothing.
-use Rattle.basis.specs.Prelude.{needs, _+_, _-_, _*_, _≤_, _≡_, refl, length, take, sets}
+use Rattle.basis.specs.Prelude.{needs, _-_, _*_, _≤_, _≡_, refl, length, take}
 use Rattle.scenario.proofs.Names.{mostRows, releasesBytes}
 use Rattle.scenario.proofs.Inside.Lengths.{long-one, long-whole}
 use Rattle.scenario.proofs.writer.releases_length as this

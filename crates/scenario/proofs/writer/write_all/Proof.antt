@@ -1,6 +1,6 @@
 -- `write_all` meets its promise. Assumes nothing.
 use Rattle.basis.specs.Prelude.{needs}
-use Rattle.scenario.proofs.Inside.Stores.{mark-room, same-room, wrote-whole}
+use Rattle.scenario.proofs.Inside.Files.{mark-room, same-room, wrote-whole}
 use Rattle.scenario.proofs.writer.write_all as this
 
 pub write-all-spec : {M : Type 1} → this.Statement.statement M

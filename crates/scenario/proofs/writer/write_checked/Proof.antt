@@ -1,6 +1,6 @@
 -- `write_checked` meets its promise. Assumes nothing.
 use Rattle.basis.specs.Prelude.{needs}
-use Rattle.scenario.proofs.Inside.Stores.{put-short, put-room, put-whole}
+use Rattle.scenario.proofs.Inside.Files.{put-short, put-room, put-whole}
 use Rattle.scenario.proofs.writer.write_checked as this
 
 pub write-checked-spec : {M : Type 1} → this.Statement.statement M

@@ -1,5 +1,5 @@
 -- `write_releases` meets its promise: the entries so far are stored. Assumes nothing.
-use Rattle.basis.specs.Prelude.{needs, _+_, _-_, _*_, _≤_, _≡_, refl, length, take, sets}
+use Rattle.basis.specs.Prelude.{needs, _+_, _-_, _≤_, _≡_, length, take, sets}
 use Rattle.scenario.proofs.Names.{mostRows, releasesBytes}
 use Rattle.scenario.proofs.Inside.Stores.{next-none, stored-none, next-room, next-more, next-all, stored-more, stored-all}
 use Rattle.scenario.proofs.writer.write_releases as this

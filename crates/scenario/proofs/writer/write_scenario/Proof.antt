@@ -1,6 +1,6 @@
 -- `write_scenario` meets its promise. Assumes nothing.
 use Rattle.basis.specs.Prelude.{needs}
-use Rattle.scenario.proofs.Inside.Stores.{write-refused, count-some, count-few, list-whole, write-rest}
+use Rattle.scenario.proofs.Inside.Files.{write-refused, count-some, count-few, list-whole, write-rest}
 use Rattle.scenario.proofs.writer.write_scenario as this
 
 pub write-scenario-spec : {M : Type 1} → this.Statement.statement M

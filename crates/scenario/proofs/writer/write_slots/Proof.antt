@@ -1,7 +1,7 @@
 -- `write_slots` meets its promise: the slots so far are stored. Assumes nothing.
-use Rattle.basis.specs.Prelude.{needs, _+_, _-_, _*_, _≤_, _≡_, refl, length, take, sets}
+use Rattle.basis.specs.Prelude.{needs, _-_, _*_, _≤_, _≡_, length, sets}
 use Rattle.scenario.proofs.Names.{mostRows, slotsBytes, scenarioBytes}
-use Rattle.scenario.proofs.Inside.Stores.{slot-inside, next-slot-room, next-slot, wrote-slot, written-none, wrote-none, wrote-length, wrote-all}
+use Rattle.scenario.proofs.Inside.Files.{slot-inside, next-slot-room, next-slot, wrote-slot, written-none, wrote-none, wrote-length, wrote-all}
 use Rattle.scenario.proofs.writer.write_slots as this
 
 abbrev Inv-loop : this.Tie.InvT-loop
