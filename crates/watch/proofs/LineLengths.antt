@@ -1,6 +1,6 @@
 -- How long a line can be: any is whole in the buffer that a program lends. Assumes nothing.
-use Rattle.basis.specs.Prelude.{ℕ, zero, suc, _+_, _*_, _≤_, _<_, _≡_, refl, sym, subst, Bool, true, false, List, [], _∷_, _++_, arith, length, getD, take, getD-take, length-append, length-take, length-replicate, eqb, lt-ltb}
-use Rattle.watch.proofs.Names.{mostRows, Outcome, accepted, refused, upto-below, hasJob, codeOf, Row, Job, Sheet, State, code, stateIn, slotIn, checkSlot, given, nextCodes, nextState, slotBy, slot, slot-shows, decimal, digits, decimal-is-short, codesText, slotLine, endLine, slotNumber, refusedBy, refusedSlot, refusedFile, fileName, written, part-is-text, noCodes, lineOf, playAnswer, playedSlot, lineSize, lineBuffer, File}
+use Rattle.basis.specs.Prelude.{ℕ, suc, _*_, _≤_, _<_, _≡_, refl, sym, subst, Bool, true, false, List, [], _∷_, arith, length, getD, take, getD-take, length-append, length-take, length-replicate, eqb, lt-ltb}
+use Rattle.watch.proofs.Names.{Outcome, accepted, refused, upto-below, hasJob, codeOf, Row, Job, Sheet, State, code, stateIn, slotIn, given, nextCodes, slot, slot-shows, decimal, digits, decimal-is-short, codesText, slotLine, endLine, slotNumber, refusedBy, refusedSlot, refusedFile, fileName, written, part-is-text, noCodes, lineOf, playAnswer, playedSlot, lineSize, lineBuffer, File}
 use Rattle.records.proofs.Inside.Codes.{byTests, code-is}
 use Rattle.watch.specs.declared.ends.File.the-variants as files
 

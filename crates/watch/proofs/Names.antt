@@ -10,9 +10,9 @@ pub use Rattle.basis.specs.declared.refusal.Refusal.{Refusal}
 pub use Rattle.basis.specs.declared.refusal.Refusal.the-variants.{Accepted, Refused}
 pub use Rattle.machine.proofs.Inside.Answers.{slot-shows}
 pub use Rattle.machine.proofs.StatesAfter.{fresh-of-zeros, slot-in-state}
-pub use Rattle.machine.specs.Answers.{FreshAnswer, SlotAnswer, slotAnswer, slotBy}
-unfoldable pub use Rattle.machine.specs.Answers.{fresh, given, nextCodes, nextState, slot}
-unfoldable pub use Rattle.machine.specs.Checks.{checkReleases, checkRoom, checkSlot, checkState}
+pub use Rattle.machine.specs.Answers.{FreshAnswer, RunAnswer, SlotAnswer, entriesOf, runAnswer, slotAnswer, slotBy}
+unfoldable pub use Rattle.machine.specs.Answers.{course, fresh, given, nextCodes, nextState, onward, run, slot, slotAt}
+unfoldable pub use Rattle.machine.specs.Checks.{checkReleases, checkRoom, checkRun, checkSlot, checkState}
 pub use Rattle.machine.specs.Lists.{stateLong}
 unfoldable pub use Rattle.machine.specs.Lists.{freshOn, putRecord, putState, putTo, recordIn, slotIn, stateIn, zeroAt, zeroFrom}
 pub use Rattle.machine.specs.Slot.{code}
@@ -35,9 +35,9 @@ unfoldable pub use Rattle.sheet.specs.Lists.{rowIn, sheetIn}
 pub use Rattle.sheet.specs.declared.row.Row.{Row}
 pub use Rattle.sheet.specs.declared.row.Sheet.{Sheet}
 unfoldable pub use Rattle.tables.specs.Tables.{fixedSheet}
-pub use Rattle.watch.specs.Lines.{refusedWord, scenarioWord, sheetWord, slotWord, slotsWord}
+pub use Rattle.watch.specs.Lines.{scenarioWord, sheetWord, slotsWord}
 unfoldable pub use Rattle.watch.specs.Lines.{codesText, endLine, fileName, refusedBy, refusedFile, refusedSlot, slotLine, slotNumber}
 pub use Rattle.watch.specs.Longest.{lineBuffer, lineSize}
 pub use Rattle.watch.specs.Texts.{PlayAnswer, goingOn, noCodes, playAnswer}
-unfoldable pub use Rattle.watch.specs.Texts.{lineOf, playedSlot, playedText, runText}
+unfoldable pub use Rattle.watch.specs.Texts.{answerText, lastLine, lineOf, linesOf, playedSlot, playedText, runText}
 pub use Rattle.watch.specs.declared.ends.File.{File}

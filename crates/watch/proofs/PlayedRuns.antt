@@ -1,6 +1,6 @@
 -- Slots that are played one by one in a list print the text of the run. Assumes nothing.
 use Rattle.basis.specs.Prelude.{ℕ, zero, suc, _≡_, refl, ap, _∙_, List, _++_, take, drop, replicate}
-use Rattle.watch.proofs.Names.{mostRows, Sheet, State, stateIn, slotIn, stateLong, freshOn, FreshAnswer, fresh, slot, slot-in-state, fresh-of-zeros, endLine, lineBuffer, noCodes, goingOn, playedSlot, runText, playedText}
+use Rattle.watch.proofs.Names.{mostRows, Sheet, State, stateIn, slotIn, stateLong, freshOn, FreshAnswer, fresh, slot-in-state, fresh-of-zeros, endLine, lineBuffer, noCodes, goingOn, playedSlot, runText, playedText}
 use Rattle.watch.proofs.LineLengths.{slot-is-printed}
 
 -- The text of a run is the line of its first slot, as it is played in the list, and then the text of the rest from the list after it.

@@ -4,7 +4,7 @@ use Rattle.basis.specs.Limits.{mostRows}
 use Rattle.basis.specs.Refusals.{Outcome, accepted, refused}
 use Rattle.sheet.specs.declared.row.Sheet.{Sheet}
 use Rattle.machine.specs.States.{State}
-use Rattle.machine.specs.Answers.{slot}
+use Rattle.machine.specs.Answers.{RunAnswer, slot, entriesOf}
 use Rattle.machine.specs.Lists.{slotIn}
 use Rattle.page.specs.Pages.{Page, written}
 use Rattle.watch.specs.Lines.{slotLine, endLine, refusedSlot}
@@ -54,3 +54,17 @@ playedText h list releases k zero = endLine k
 playedText h list releases k (suc slots) =
     let p = playedSlot h list (take (h .count) releases) k lineBuffer in
     take (p .long) (p .text) ++ goingOn (p .outcome) (playedText h (p .state) (drop (h .count) releases) (suc k) slots)
+
+-- The lines of the first slots of a run, by its codes, n to a slot.
+unfoldable pub linesOf : ℕ → List ℕ → ℕ → List ℕ
+linesOf n codes zero = []
+linesOf n codes (suc done) = linesOf n codes done ++ slotLine done (entriesOf n done codes)
+
+-- The last line of a run: how many slots were done, or the one that was refused.
+unfoldable pub lastLine : Outcome → ℕ → List ℕ
+lastLine accepted done = endLine done
+lastLine (refused number row) done = refusedSlot done number row
+
+-- The text of what a run of n rows has answered.
+unfoldable pub answerText : ℕ → RunAnswer State → List ℕ
+answerText n a = linesOf n (a .codes) (a .done) ++ lastLine (a .outcome) (a .done)

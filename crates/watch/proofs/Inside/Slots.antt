@@ -1,6 +1,6 @@
 -- One slot that is played, from what the machine answers and what its line's functions say. Assumes nothing.
-use Rattle.basis.specs.Prelude.{ℕ, _≤_, _≡_, refl, sym, ap, _∙_, List, length, take, length-take-le, length-replicate, arith}
-use Rattle.watch.proofs.Names.{mostRows, Outcome, accepted, refused, outcome, Refusal, Accepted, Refused, length-upto, Sheet, State, code, stateIn, slotIn, checkSlot, slotAnswer, SlotAnswer, given, nextState, nextCodes, slotBy, slot, slot-shows, Page, said, said-is-written, written-in-room, slotLine, refusedSlot, lineOf, noCodes, PlayAnswer, playAnswer, playedSlot}
+use Rattle.basis.specs.Prelude.{ℕ, _≤_, _≡_, refl, sym, ap, _∙_, List, length, take, length-take-le, arith}
+use Rattle.watch.proofs.Names.{Outcome, accepted, refused, outcome, Refusal, Accepted, Refused, length-upto, Sheet, State, code, stateIn, slotIn, checkSlot, slotAnswer, SlotAnswer, given, nextState, nextCodes, slotBy, slot, slot-shows, Page, said, said-is-written, written-in-room, slotLine, refusedSlot, lineOf, noCodes, playAnswer, playedSlot}
 
 -- the code buffer after a slot is as long as before it
 pub codes-long : (h : Sheet) (t : State) (rel cs : List ℕ) → length (slot h t rel cs .codes) ≡ length cs
