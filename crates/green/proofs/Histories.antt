@@ -1,8 +1,9 @@
 -- The accepted slots of any calls are a chain: of one slot, of a run, and of calls one after another. Assumes nothing.
-use Rattle.basis.specs.Prelude.{ℕ, zero, suc, _+_, _*_, _-_, _/_, _≤_, _<_, _≡_, refl, sym, _∙_, List, [], _∷_, _++_, arith, mul-le-mul-right, add-one, length, take, drop, length-drop, take-append-drop, getD-take, length-take-le, take-append-le, drop-append-le, drop-at}
+use Rattle.basis.specs.Prelude.{ℕ, zero, suc, _+_, _*_, _-_, _/_, _≤_, _<_, _≡_, refl, List, [], _∷_, _++_, arith, add-one, length, take, drop, length-drop, take-append-drop, getD-take}
 use Rattle.green.proofs.Names.{Outcome, accepted, refused, upto-below, Sheet, State, code, checkSlot, checkRun, SlotAnswer, RunAnswer, slotAnswer, runAnswer, given, nextState, nextCodes, slotBy, slot, entriesOf, slotAt, onward, course, run, legal-state-is, Call, one-slot, a-run, slotDone, runDone, slotsOf, stateAfter, history, stateAfterAll}
 use Rattle.machine.proofs.Inside.Answers.{Accepted-slot, slot-shows}
 use Rattle.machine.proofs.Inside.Courses.{followed}
+use Rattle.machine.proofs.Inside.Entries.{entries-here, entries-there}
 use Rattle.green.proofs.Inside.Chains.{Slotted, Chain, none, more, chain-append}
 
 -- an accepted slot, on any buffer that begins with its codes
@@ -60,20 +61,12 @@ module _ (h : Sheet) (t : State) (rel : List ℕ) (j : ℕ) (u : State) (cs : Li
     reaches : j * n ≤ length cs
     reaches = let s = shown h u own rest e in omega (arith, s .long, s .roomy, s .in-order .some-rows, length-drop (j * n) cs)
 
-    front : length (take (j * n) cs) ≡ j * n
-    front = length-take-le (j * n) cs reaches
-
     -- the codes of this slot, and of those before it
     here : entriesOf n j after ≡ take n (nextCodes h u own rest)
-    here = rw (drop-at (take (j * n) cs) (nextCodes h u own rest) (j * n) front)
+    here = entries-here n j cs reaches (nextCodes h u own rest)
 
     there : (i : ℕ) → i < j → entriesOf n i after ≡ entriesOf n i cs
-    there i l =
-        let room : i * n + n ≤ j * n = omega (arith, mul-le-mul-right {m = i + 1} {n = j} n (omega arith)) in
-        let a : i * n ≤ length (take (j * n) cs) = omega (arith, front) in
-        let b : n ≤ length (drop (i * n) (take (j * n) cs)) = omega (arith, front, length-drop (i * n) (take (j * n) cs)) in
-        let near : (x : List ℕ) → entriesOf n i (take (j * n) cs ++ x) ≡ take n (drop (i * n) (take (j * n) cs)) = λ x. rw (drop-append-le, take-append-le) in
-        near _ ∙ rw take-append-drop at (sym (near (drop (j * n) cs)))
+    there = entries-there n j cs reaches (nextCodes h u own rest)
 
     one-more : Chain h t (runDone n rel after (j + 1)) (nextState h u own)
     unfolding runDone

@@ -11,3 +11,4 @@ pub mod MarginAnswers
 pub mod RecordLists
 pub mod RunsInPlace
 pub mod Zeros
+pub mod Entries

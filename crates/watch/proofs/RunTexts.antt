@@ -1,5 +1,5 @@
 -- The text of a run tells what the run answers: the codes of each slot done, how many they are, and the refusal. Assumes nothing.
-use Rattle.basis.specs.Prelude.{ℕ, zero, suc, _+_, _*_, _/_, _%_, _≤_, _<_, _≡_, refl, sym, ap, _∙_, List, _++_, append-nil, append-assoc, arith, add-zero, zero-add, add-one, mul-le-mul-right, length, take, drop, length-append, length-drop, length-take-le, length-replicate, take-append-drop, getD-take, ext-getD, take-append-le, drop-append-le, drop-at, eqb, le-leb, div-add-mod'}
+use Rattle.basis.specs.Prelude.{ℕ, zero, suc, _+_, _*_, _/_, _%_, _≤_, _<_, _≡_, refl, sym, ap, _∙_, List, _++_, append-nil, append-assoc, arith, add-zero, zero-add, add-one, length, take, drop, length-append, length-drop, length-take-le, length-replicate, getD-take, ext-getD, eqb, le-leb, div-add-mod'}
 use lib.Seq.{drop-drop}
 use Rattle.watch.proofs.Names.{mostRows, Outcome, accepted, refused, upto, upto-below, length-upto, Sheet, State, code, checkSlot, checkRoom, checkState, checkRun, SlotAnswer, RunAnswer, slotAnswer, runAnswer, given, nextCodes, slot, entriesOf, slotAt, onward, course, run, noCodes, slotLine, refusedSlot, lineOf, goingOn, runText, linesOf, lastLine, answerText}
 use Rattle.machine.proofs.Inside.Courses.{followed, idle}
@@ -7,6 +7,7 @@ use Rattle.basis.proofs.Inside.FirstRefusal.{both-accepted}
 use Rattle.basis.proofs.Refusals.{room-holds}
 use Rattle.basis.specs.Refusals.{needed}
 use Rattle.machine.proofs.Inside.Answers.{run-in-order-shows}
+use Rattle.machine.proofs.Inside.Entries.{entries-here, entries-there}
 use Rattle.machine.proofs.SlotsDone.{refused-leaves}
 use Rattle.watch.proofs.Inside.Slots.{codes-long}
 
@@ -36,22 +37,7 @@ module _ (h : Sheet) (t : State) (rs cs ds : List ℕ) (long : length rs ≡ h .
   same-line k accepted e = rw (sym same-check, e) (ap (slotLine k) (filled-alike (h .count) (code (given h t rs)) cs ds a b))
   same-line k (refused number row) e = refl
 
--- ---- the entries of slots, in a list whose front is kept
-
-module _ (n j : ℕ) (cs : List ℕ) (fits : j * n ≤ length cs) (x : List ℕ) where
-  front-long : length (take (j * n) cs) ≡ j * n
-  front-long = length-take-le (j * n) cs fits
-
-  entries-here : entriesOf n j (take (j * n) cs ++ x) ≡ take n x
-  entries-here = rw (drop-at (take (j * n) cs) x (j * n) front-long)
-
-  entries-there : (i : ℕ) → i < j → entriesOf n i (take (j * n) cs ++ x) ≡ entriesOf n i cs
-  entries-there i l =
-      let room : i * n + n ≤ j * n = omega (arith, mul-le-mul-right {m = i + 1} {n = j} n (omega arith)) in
-      let a : i * n ≤ length (take (j * n) cs) = omega (arith, front-long) in
-      let b : n ≤ length (drop (i * n) (take (j * n) cs)) = omega (arith, front-long, length-drop (i * n) (take (j * n) cs)) in
-      let near : (y : List ℕ) → entriesOf n i (take (j * n) cs ++ y) ≡ take n (drop (i * n) (take (j * n) cs)) = λ y. rw (drop-append-le, take-append-le) in
-      near x ∙ sym (near (drop (j * n) cs)) ∙ ap (entriesOf n i) (take-append-drop (j * n) cs)
+-- ---- the lines of slots whose codes are the same
 
 lines-alike : (n : ℕ) (cs ds : List ℕ) (d : ℕ) → ((i : ℕ) → i < d → entriesOf n i cs ≡ entriesOf n i ds) → linesOf n cs d ≡ linesOf n ds d
 unfolding linesOf
