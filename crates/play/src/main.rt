@@ -6,6 +6,7 @@ mod window;
 ghost use Prim.Native.Nat.{_≤_};
 ghost use lib.ListN.{length};
 ghost use Rattle.basis.specs.Limits.{mostRows};
+ghost use Rattle.scenario.specs.Longest.{slotReach};
 use crate::pass::play_through;
 use crate::pass::read_through;
 use crate::turn::End;
@@ -100,7 +101,7 @@ fn read_sheet(list: &mut [u64]) -> usize
 
 // Plays a file that was read to its end at this place.
 fn play_again(fd: i32, name: &[u8], sheet: &[u64], rows: usize, buffer: &mut [u8], place: u64)
-    requires { ⌜ rows ≤ mostRows ⌝ }
+    requires { ⌜ (rows ≤ mostRows) × (slotReach ≤ length (now buffer)) ⌝ }
 {
     if libc::lseek(fd, 0, SEEK_SET) != 0 {
         say(name, b": the scenario cannot be read twice\n");

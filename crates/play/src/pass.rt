@@ -2,6 +2,7 @@
 ghost use Prim.Native.Nat.{_≤_};
 ghost use lib.ListN.{length};
 ghost use Rattle.basis.specs.Limits.{mostRows};
+ghost use Rattle.scenario.specs.Longest.{slotReach};
 ghost use Rattle.play.specs.Windows.{InBuffer};
 use crate::turn::End;
 use crate::turn::Turn;
@@ -31,7 +32,9 @@ fn passed(turn: Turn, slots: u64) -> Pass {
 }
 
 // Reads the whole file.
-pub(crate) fn read_through(fd: i32, name: &[u8], sheet: &[u64], buffer: &mut [u8]) -> Pass {
+pub(crate) fn read_through(fd: i32, name: &[u8], sheet: &[u64], buffer: &mut [u8]) -> Pass
+    requires { ⌜ slotReach ≤ length (now buffer) ⌝ }
+{
     let mut turn = first_turn(fd, name, sheet, buffer);
     let mut slots: u64 = 0;
     while slots < u64::MAX && turn.more {
@@ -71,7 +74,7 @@ fn play_turn(
     turn: Turn,
     slot: u64,
 ) -> Turn
-    requires { ⌜ (rows ≤ mostRows) × InBuffer (turn .window) (now buffer) ⌝ }
+    requires { ⌜ (rows ≤ mostRows) × InBuffer (turn .window) (now buffer) × (slotReach ≤ length (now buffer)) ⌝ }
     ensures { λ r. ⌜ InBuffer (r .window) (now (buffer .exit)) ⌝ }
 {
     let window = turn.window;
@@ -91,7 +94,7 @@ pub(crate) fn play_through(
     state: &mut [u64],
     buffer: &mut [u8],
 ) -> Pass
-    requires { ⌜ rows ≤ mostRows ⌝ }
+    requires { ⌜ (rows ≤ mostRows) × (slotReach ≤ length (now buffer)) ⌝ }
 {
     let mut turn = first_turn(fd, name, sheet, buffer);
     let mut slots: u64 = 0;

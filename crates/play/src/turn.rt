@@ -1,5 +1,8 @@
 // Slot after slot of a scenario's file.
 ghost use mathlib.Core.Path.{_≡_};
+ghost use Prim.Native.Nat.{_≤_};
+ghost use lib.ListN.{length};
+ghost use Rattle.scenario.specs.Longest.{slotReach};
 ghost use Rattle.play.specs.Windows.{InBuffer};
 use crate::window::Window;
 use crate::window::ahead;
@@ -54,7 +57,7 @@ pub(crate) fn next_turn(
     buffer: &mut [u8],
     window: Window,
 ) -> Turn
-    requires { ⌜ InBuffer window (now buffer) ⌝ }
+    requires { ⌜ InBuffer window (now buffer) × (slotReach ≤ length (now buffer)) ⌝ }
     ensures { λ r. ⌜ InBuffer (r .window) (now (buffer .exit)) ⌝ }
 {
     let w = ahead(fd, name, buffer, window);
@@ -88,6 +91,7 @@ pub(crate) fn next_turn(
 
 // The first slot, after the mark.
 pub(crate) fn first_turn(fd: i32, name: &[u8], sheet: &[u64], buffer: &mut [u8]) -> Turn
+    requires { ⌜ slotReach ≤ length (now buffer) ⌝ }
     ensures { λ r. ⌜ InBuffer (r .window) (now (buffer .exit)) ⌝ }
 {
     let w = fill(fd, name, buffer, unread());
