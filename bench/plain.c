@@ -6,17 +6,6 @@ static uint64_t smaller(uint64_t a, uint64_t b) { return a < b ? a : b; }
 
 /* -- the reader -- */
 
-typedef struct {
-  const uint8_t *bytes;
-  size_t count, at;
-  refusal_t refusal;
-} reader_t;
-
-static bool refuse(reader_t *reader, unsigned number, size_t place) {
-  reader->refusal = (refusal_t){number, place};
-  return false;
-}
-
 static bool read_number(reader_t *reader, uint64_t most, unsigned zero, unsigned over, uint64_t *value) {
   size_t start = reader->at;
   *value = 0;

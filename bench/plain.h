@@ -40,6 +40,18 @@ typedef struct {
   size_t place;
 } refusal_t;
 
+/* Bytes that are read from left to right, and what they are refused by. */
+typedef struct {
+  const uint8_t *bytes;
+  size_t count, at;
+  refusal_t refusal;
+} reader_t;
+
+static inline bool refuse(reader_t *reader, unsigned number, size_t place) {
+  reader->refusal = (refusal_t){number, place};
+  return false;
+}
+
 /* The bound of row k by the bounds above, or 0 for none. */
 typedef uint64_t search_t(const sheet_t *sheet, const uint64_t *bounds, size_t k);
 

@@ -7,17 +7,6 @@ void *memcpy(void *to, const void *from, size_t count);
 
 static const uint8_t MARK[4] = {0x47, 0x53, 0x43, 0x01};
 
-typedef struct {
-  const uint8_t *bytes;
-  size_t count, at;
-  refusal_t refusal;
-} reader_t;
-
-static bool refuse(reader_t *reader, unsigned number, size_t place) {
-  reader->refusal = (refusal_t){number, place};
-  return false;
-}
-
 static bool read_number(reader_t *reader, uint64_t *value) {
   size_t first = reader->at;
   uint64_t sum = 0;
