@@ -1,7 +1,7 @@
 -- The names from elsewhere that the proofs here share, passed on under one name.
 pub use Rattle.basis.proofs.Inside.FirstRefusal.{first-at, first-found, first-more}
 pub use Rattle.basis.proofs.Inside.Lists.{getD-all}
-pub use Rattle.basis.proofs.Inside.Steps.{after-ok, got, map-step-no, map-step-ok, marked-ok, never-ok, not-stopped, ok-same, passed}
+pub use Rattle.basis.proofs.Inside.Steps.{after-ok, got, map-step-no, map-step-ok, marked-ok, never-ok, not-stopped, ok-same, passed, refuse-same}
 pub use Rattle.basis.proofs.Inside.Sums.{sum-grows}
 pub use Rattle.basis.proofs.Inside.Tests.{tests}
 pub use Rattle.basis.proofs.Inside.Words.{lt-or-le}
@@ -28,7 +28,7 @@ unfoldable pub use Rattle.scenario.specs.Answers.{checkList, checkWhole,
 pub use Rattle.scenario.specs.Cases.{files, twoRows}
 pub use Rattle.scenario.specs.Form.{Held, budgetAt, markBytes, noReleases, noSlots, slotBefore}
 unfoldable pub use Rattle.scenario.specs.Form.{releases, row, scenario, slot, slots}
-pub use Rattle.scenario.specs.Inside.Parts.{Fills, fillBy, slotsOf}
+pub use Rattle.scenario.specs.Inside.Parts.{Fills, Landed, fillBy, slotsOf}
 unfoldable pub use Rattle.scenario.specs.Inside.Parts.{entryBytes, oneReleased, putWritten}
 pub use Rattle.scenario.specs.Longest.{slotReach}
 unfoldable pub use Rattle.scenario.specs.Longest.{longestRelease, longestScenario, longestSlot}

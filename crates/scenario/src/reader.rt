@@ -1,13 +1,13 @@
 // The reader of a whole scenario: first all of it is checked, and only then the list is filled.
 ghost use mathlib.Core.Path.{_≡_};
-ghost use Prim.Native.Nat.{_+_, _≤_};
-ghost use lib.ListN.{length, take};
-ghost use lib.Seq.{sets};
+ghost use mathlib.Core.List.{_++_};
+ghost use Prim.Native.Nat.{_≤_};
+ghost use lib.ListN.{length, drop};
 ghost use Rattle.basis.specs.Limits.{mostRows};
 ghost use Rattle.basis.specs.Readers.{mapStep};
 ghost use Rattle.numbers.specs.Numbers.{step};
 ghost use Rattle.sheet.specs.Lists.{sheetIn};
-ghost use Rattle.scenario.specs.Form.{slots};
+ghost use Rattle.scenario.specs.Form.{noReleases, slots};
 ghost use Rattle.scenario.specs.Answers.{readTold, filledBy, readScenario};
 ghost use Rattle.scenario.specs.Inside.Parts.{slotsOf, Fills, fillBy};
 use crate::slot::slot_at;
@@ -31,31 +31,34 @@ fn count_slots(sheet: &[u64], n: u64, bytes: &[u8]) -> Number
 {
     let mut next: usize = 4;
     let mut count: u64 = 0;
+    let mut entries: [u64; MOST_ROWS] = [0; MOST_ROWS];
     while next < bytes.len() {
-        let read = slot_at(sheet, n, bytes, next);
-        let refusal = read.refusal;
-        if let Refusal::Refused(number, place) = refusal {
-            return Number::Refused(number, place);
+        match slot_at(sheet, n, bytes, next, &mut entries) {
+            Number::Refused(k, p) => {
+                return Number::Refused(k, p);
+            }
+            Number::Is(_, a) => {
+                next = a;
+                count = count + 1;
+            }
         }
-        next = read.next;
-        count = count + 1;
     }
     Number::Is(count, next)
 }
 
-// Writes the entries of a slot into a list, from a place on.
-fn put_slot(entries: [u64; MOST_ROWS], n: usize, releases: &mut [u64], base: usize)
-    requires { ⌜ (n ≤ mostRows) × (base + n ≤ length (now releases)) ⌝ }
-    ensures { λ _. ⌜ now (releases .exit) ≡ sets (now (releases .entry)) base (take n entries) ⌝ }
+// Makes so many entries at the front of a list zero.
+fn clear(releases: &mut [u64], count: usize)
+    requires { ⌜ count ≤ length (now releases) ⌝ }
+    ensures { λ _. ⌜ now (releases .exit) ≡ noReleases count ++ drop count (now (releases .entry)) ⌝ }
 {
     let mut i: usize = 0;
-    while i < n {
-        releases[base + i] = entries[i];
+    while i < count {
+        releases[i] = 0;
         i += 1;
     }
 }
 
-// Fills a list with the slots after the mark, where it has room for all of them and none is refused.
+// Fills a list with the slots after the mark, where none is refused and as many zeros stand at its front as they have entries.
 fn fill(sheet: &[u64], n: u64, bytes: &[u8], releases: &mut [u64])
     requires { ⌜ (n ≡ sheetIn (now sheet) .count) × (sheetIn (now sheet) .count ≤ mostRows) × Fills (slots (sheetIn (now sheet)) (length (now bytes)) (now bytes) 4) (now releases) ⌝ }
     ensures { λ _. ⌜ now (releases .exit) ≡ fillBy (slots (sheetIn (now (sheet .entry))) (length (now (bytes .entry))) (now (bytes .entry)) 4) (now (releases .entry)) ⌝ }
@@ -64,11 +67,16 @@ fn fill(sheet: &[u64], n: u64, bytes: &[u8], releases: &mut [u64])
     let mut next: usize = 4;
     let mut base: usize = 0;
     while next < bytes.len() {
-        let read = slot_at(sheet, n, bytes, next);
-        let entries = read.entries;
-        put_slot(entries, wide, releases, base);
-        next = read.next;
-        base = base + wide;
+        match slot_at(sheet, n, bytes, next, &mut releases[base..]) {
+            // No slot is refused here.
+            Number::Refused(_, _) => {
+                return;
+            }
+            Number::Is(_, a) => {
+                next = a;
+                base = base + wide;
+            }
+        }
     }
 }
 
@@ -89,6 +97,7 @@ fn read_marked(sheet: &[u64], n: u64, bytes: &[u8], releases: &mut [u64]) -> Sce
                     slots: 0,
                 };
             }
+            clear(releases, slots as usize * n as usize);
             fill(sheet, n, bytes, releases);
             ScenarioRead {
                 refusal: Refusal::Accepted,

@@ -1,12 +1,14 @@
 // Reading one slot of a scenario.
 ghost use mathlib.Core.Path.{_≡_};
 ghost use Prim.Native.Nat.{_≤_, _<_};
+ghost use lib.ListN.{length};
 ghost use Rattle.basis.specs.Limits.{mostRows};
 ghost use Rattle.basis.specs.Readers.{refuse};
 ghost use Rattle.numbers.specs.Numbers.{step};
 ghost use Rattle.sheet.specs.Lists.{sheetIn};
 ghost use Rattle.scenario.specs.Form.{budgetAt, noReleases, row, releases, slot};
 ghost use Rattle.scenario.specs.Answers.{slotTold, slotHanded, readSlot};
+ghost use Rattle.scenario.specs.Inside.Parts.{Landed};
 use basis::MOST_GROUPS;
 use basis::MOST_ROWS;
 use basis::Refusal;
@@ -60,25 +62,31 @@ fn read_row(bytes: &[u8], at: usize, count: u64, least: u64) -> Number
     }
 }
 
-// So many releases of a slot, on a sheet of n rows.
-fn read_releases(sheet: &[u64], n: u64, bytes: &[u8], at: usize, count: u64) -> SlotRead
-    requires { ⌜ (n ≡ sheetIn (now sheet) .count) × (sheetIn (now sheet) .count ≤ mostRows) ⌝ }
-    ensures { λ r. ⌜ slotTold r ≡ slotHanded (releases (sheetIn (now (sheet .entry))) count 0 (noReleases mostRows) (now (bytes .entry)) at) ⌝ }
+// So many releases of a slot into lent entries, on a sheet of n rows; the answer is the place after them, with 0 for a value.
+fn read_releases(
+    sheet: &[u64],
+    n: u64,
+    bytes: &[u8],
+    at: usize,
+    count: u64,
+    entries: &mut [u64],
+) -> Number
+    requires { ⌜ (n ≡ sheetIn (now sheet) .count) × (sheetIn (now sheet) .count ≤ mostRows) × (sheetIn (now sheet) .count ≤ length (now entries)) ⌝ }
+    ensures { λ r. ⌜ Landed (releases (sheetIn (now (sheet .entry))) count 0 (now (entries .entry)) (now (bytes .entry)) at) (step r) (now (entries .exit)) ⌝ }
 {
-    let mut entries: [u64; MOST_ROWS] = [0; MOST_ROWS];
     let mut next = at;
     let mut least: u64 = 0;
     let mut left = count;
     while 0 < left {
         match read_row(bytes, next, n, least) {
             Number::Refused(k, p) => {
-                return refused(k, p);
+                return Number::Refused(k, p);
             }
             Number::Is(r, a) => {
                 let most = budget_in(sheet, r as usize);
                 match numbers::read_up_to(bytes, a, most, 12, 12) {
                     Number::Refused(k, p) => {
-                        return refused(k, p);
+                        return Number::Refused(k, p);
                     }
                     Number::Is(amount, b) => {
                         entries[r as usize] = amount;
@@ -90,21 +98,33 @@ fn read_releases(sheet: &[u64], n: u64, bytes: &[u8], at: usize, count: u64) -> 
             }
         }
     }
-    SlotRead {
-        refusal: Refusal::Accepted,
-        next,
-        entries,
+    Number::Is(0, next)
+}
+
+// The slot at a place into lent entries, on a sheet of n rows; the answer is the place after it, with 0 for a value.
+pub(crate) fn slot_at(sheet: &[u64], n: u64, bytes: &[u8], at: usize, entries: &mut [u64]) -> Number
+    requires { ⌜ (n ≡ sheetIn (now sheet) .count) × (sheetIn (now sheet) .count ≤ mostRows) × (sheetIn (now sheet) .count ≤ length (now entries)) ⌝ }
+    ensures { λ r. ⌜ Landed (slot (sheetIn (now (sheet .entry))) (now (entries .entry)) (now (bytes .entry)) at) (step r) (now (entries .exit)) ⌝ }
+{
+    match numbers::read_number(bytes, at) {
+        Number::Refused(k, p) => Number::Refused(k, p),
+        Number::Is(count, first) => read_releases(sheet, n, bytes, first, count, entries),
     }
 }
 
 // The slot at a place, on a sheet of n rows.
-pub(crate) fn slot_at(sheet: &[u64], n: u64, bytes: &[u8], at: usize) -> SlotRead
+fn slot_read(sheet: &[u64], n: u64, bytes: &[u8], at: usize) -> SlotRead
     requires { ⌜ (n ≡ sheetIn (now sheet) .count) × (sheetIn (now sheet) .count ≤ mostRows) ⌝ }
     ensures { λ r. ⌜ slotTold r ≡ slotHanded (slot (sheetIn (now (sheet .entry))) (noReleases mostRows) (now (bytes .entry)) at) ⌝ }
 {
-    match numbers::read_number(bytes, at) {
+    let mut entries: [u64; MOST_ROWS] = [0; MOST_ROWS];
+    match slot_at(sheet, n, bytes, at, &mut entries) {
         Number::Refused(k, p) => refused(k, p),
-        Number::Is(count, first) => read_releases(sheet, n, bytes, first, count),
+        Number::Is(_, next) => SlotRead {
+            refusal: Refusal::Accepted,
+            next,
+            entries,
+        },
     }
 }
 
@@ -115,7 +135,7 @@ pub fn read_slot(sheet: &[u64], bytes: &[u8], at: usize) -> SlotRead
     let fine = sheet::is_legal(sheet);
     if fine {
         let n = sheet::count(sheet);
-        return slot_at(sheet, n, bytes, at);
+        return slot_read(sheet, n, bytes, at);
     }
     refused(10, 0)
 }

@@ -1,8 +1,7 @@
 -- The loop that counts the slots of a scenario. Assumes nothing.
-use Rattle.basis.specs.Prelude.{ℕ, zero, suc, _+_, _-_, _≤_, _<_, _≡_, refl, sym, ap, _∙_, List, arith, length, take}
-use Rattle.scenario.proofs.Names.{mostRows, Step, after, ok, refuse, mapStep, outcome, slotHanded, slotTold, Held, noReleases, slotBefore, slot, slots, slotsOf, SlotRead, Sheet}
-use Rattle.scenario.proofs.Inside.OneSlot.{slot-goes, slot-no, slot-yes, slots-one, slots-no, slots-end}
-use Rattle.basis.specs.declared.refusal.Refusal.the-variants as refusal-variants
+use Rattle.basis.specs.Prelude.{ℕ, zero, suc, _+_, _-_, _≤_, _<_, _≡_, refl, sym, ap, _∙_, List, arith, length}
+use Rattle.scenario.proofs.Names.{Step, after, ok, refuse, mapStep, step, Number, Is, Refused, Held, noReleases, slotBefore, slot, slots, Landed, slotsOf, Sheet}
+use Rattle.scenario.proofs.Inside.OneSlot.{slot-goes, slot-no, slot-yes, landed-no, landed-ok, slots-one, slots-no, slots-end}
 
 -- slots that were counted, and those still to be
 abbrev added : ℕ → Step ℕ → Step ℕ
@@ -35,33 +34,38 @@ module _ (h : Sheet) (s : List ℕ) (next count : ℕ) (w : Counting h s next co
       let z : count + 0 ≡ count = omega arith in
       sym (w .so-far ∙ ap (λ (x : Step Held). added count (mapStep slotsOf x)) (slots-end h (w .fuel) s next b) ∙ ap (λ (k : ℕ). ok k next) z)
 
-  module _ (few : h .count ≤ mostRows) (b : next < length s) (y : SlotRead) (e : slotTold y ≡ slotHanded (slot h (noReleases mostRows) s next)) where
-    pub count-no : (k p : ℕ) → y .refusal ≡ refusal-variants.Refused k p → refuse k p ≡ mapStep slotsOf (slots h (length s) s 4)
+  module _ (b : next < length s) (l l′ : List ℕ) (y : Number) (e : Landed (slot h l s next) (step y) l′) where
+    pub count-no : (k p : ℕ) → y ≡ Refused k p → refuse k p ≡ mapStep slotsOf (slots h (length s) s 4)
     unfolding mapStep
     count-no k p g = go (w .fuel) (w .enough) (w .so-far)
       where
+        none : slot h (noReleases (h .count)) s next ≡ refuse k p
+        none = slot-no h l (noReleases (h .count)) s next k p (landed-no (slot h l s next) l′ y e k p g)
+
         go : (f : ℕ) → length s ≤ next + f → mapStep slotsOf (slots h (length s) s 4) ≡ added count (mapStep slotsOf (slots h f s next)) → refuse k p ≡ mapStep slotsOf (slots h (length s) s 4)
         go zero m q = absurd (omega arith)
-        go (suc f) m q = sym (q ∙ ap (λ (x : Step Held). added count (mapStep slotsOf x)) (slots-no h f s next k p b (slot-no h s next few y e k p (ap outcome g))))
+        go (suc f) m q = sym (q ∙ ap (λ (x : Step Held). added count (mapStep slotsOf x)) (slots-no h f s next k p b none))
 
-    pub count-goes : y .refusal ≡ refusal-variants.Accepted → next < y .next
-    count-goes g = slot-goes h (noReleases (h .count)) s next _ (y .next) (slot-yes h s next few y e (ap outcome g)) .0
+    module _ (v a : ℕ) (g : y ≡ Is v a) where
+      one : (x : List ℕ) × (slot h (noReleases (h .count)) s next ≡ ok x a)
+      one = slot-yes h l (noReleases (h .count)) s next l′ a (landed-ok (slot h l s next) l′ y e v a g)
 
-    pub count-more : y .refusal ≡ refusal-variants.Accepted → Counting h s (y .next) (count + 1)
-    count-more g = go (w .fuel) (w .enough) (w .so-far)
-      where
-        go : (f : ℕ) → length s ≤ next + f → mapStep slotsOf (slots h (length s) s 4) ≡ added count (mapStep slotsOf (slots h f s next)) → Counting h s (y .next) (count + 1)
-        go zero m q = absurd (omega arith)
-        go (suc f) m q =
-            let x : List ℕ = take (h .count) (y .entries) in
-            record {
-              fuel = f;
-              enough = omega (arith, count-goes g);
-              few = omega (arith, count-goes g, w .few);
-              so-far =
-                  q ∙ ap (λ (z : Step Held). added count (mapStep slotsOf z)) (slots-one h f s next x (y .next) b (slot-yes h s next few y e (ap outcome g)))
-                  ∙ added-one count x (slots h f s (y .next));
-            }
+      count-goes : next < a
+      count-goes = slot-goes h (noReleases (h .count)) s next (one .0) a (one .1) .0
 
-    pub count-less : y .refusal ≡ refusal-variants.Accepted → length s - y .next < length s - next
-    count-less g = omega (arith, count-goes g)
+      pub count-more : Counting h s a (count + 1)
+      count-more = go (w .fuel) (w .enough) (w .so-far)
+        where
+          go : (f : ℕ) → length s ≤ next + f → mapStep slotsOf (slots h (length s) s 4) ≡ added count (mapStep slotsOf (slots h f s next)) → Counting h s a (count + 1)
+          go zero m q = absurd (omega arith)
+          go (suc f) m q = record {
+            fuel = f;
+            enough = omega (arith, count-goes);
+            few = omega (arith, count-goes, w .few);
+            so-far =
+                q ∙ ap (λ (z : Step Held). added count (mapStep slotsOf z)) (slots-one h f s next (one .0) a b (one .1))
+                ∙ added-one count (one .0) (slots h f s a);
+          }
+
+      pub count-less : length s - a < length s - next
+      count-less = omega (arith, count-goes)

@@ -1,6 +1,7 @@
--- One slot of a scenario: it goes on, keeps the length of its entries and leaves rows past n alone; and the slots after it. Assumes nothing.
-use Rattle.basis.specs.Prelude.{ℕ, zero, suc, _+_, _/_, _≤_, _<_, _≡_, refl, sym, ap, ap₂, _∙_, Bool, true, take-set-lt, false, List, ⊎-elim, _∷_, arith, not-suc-le-zero, length, set, length-set, take, ltb, lt-ltb, ltb-true, le-ltb, ltb-false}
-use Rattle.scenario.proofs.Names.{after-ok, not-stopped, ok-same, passed, lt-or-le, mostGroups, mostRows, Step, after, give, ok, refuse, begins, mapStep, accepted, refused, pick, bounded, taken, spelt-more, spelt-one, number, upTo, spelt, SlotAnswer, slotHanded, slotTold, readSlot, Held, budgetAt, markBytes, noReleases, noSlots, slotBefore, releases, row, scenario, slot, slots, SlotRead, legal, Sheet}
+-- One slot of a scenario: it goes on, keeps the length of its entries, leaves rows past n alone and is refused alike into all entries; and the slots after it. Assumes nothing.
+use lib.Seq.{set-append-left}
+use Rattle.basis.specs.Prelude.{ℕ, zero, suc, _+_, _/_, _≤_, _<_, _≡_, refl, sym, ap, ap₂, _∙_, Bool, true, take-set-lt, false, List, ⊎-elim, _∷_, _++_, subst, arith, not-suc-le-zero, length, set, length-set, take, ltb, lt-ltb, ltb-true, le-ltb, ltb-false}
+use Rattle.scenario.proofs.Names.{after-ok, map-step-no, map-step-ok, never-ok, not-stopped, ok-same, passed, refuse-same, lt-or-le, mostGroups, mostRows, Step, after, give, ok, refuse, begins, mapStep, pick, bounded, taken, spelt-more, spelt-one, number, step, upTo, spelt, Number, Is, Refused, slotHanded, readSlot, Held, budgetAt, markBytes, noReleases, noSlots, slotBefore, releases, row, scenario, slot, slots, Landed, legal, Sheet}
 
 -- a number takes no more bytes than groups
 pub spelt-few : (g v : ℕ) → length (spelt g v) ≤ g
@@ -79,35 +80,73 @@ pub read-slot-is : (h : Sheet) (s : List ℕ) (at : ℕ) → legal h ≡ true �
 unfolding readSlot
 read-slot-is h s at fine = ap (λ (b : Bool). slotHanded (pick b (slot h (noReleases mostRows) s at) (refuse 10 0))) fine
 
--- what one call of `slot_at` says of the slot
-pub slot-no : (h : Sheet) (s : List ℕ) (at : ℕ) → h .count ≤ mostRows → (y : SlotRead) → slotTold y ≡ slotHanded (slot h (noReleases mostRows) s at) → (k p : ℕ) → slotTold y .outcome ≡ refused k p
-    → slot h (noReleases (h .count)) s at ≡ refuse k p
-unfolding mapStep
-slot-no h s at few y e k p g = sym (slot-front h s at few) ∙ ap (mapStep (take (h .count))) (go (slot h (noReleases mostRows) s at) (sym (ap (λ (z : SlotAnswer). z .outcome) e) ∙ g))
-  where
-    go : (x : Step (List ℕ)) → slotHanded x .outcome ≡ refused k p → x ≡ refuse k p
-    go (ok l n) q = let z : _≡_ {A = ℕ} 0 1 = cc in absurd (omega arith)
-    go (refuse j i) q =
-        let ek : j ≡ k = cc in
-        let ep : i ≡ p = cc in
-        ap₂ (λ (x : ℕ) (y : ℕ). refuse x y) ek ep
+-- what is past the entries of the rows stays as it is
+releases-onto : (h : Sheet) (k least : ℕ) (l rest s : List ℕ) (at : ℕ) → h .count ≤ length l → mapStep (λ (x : List ℕ). x ++ rest) (releases h k least l s at) ≡ releases h k least (l ++ rest) s at
+unfolding releases mapStep
+releases-onto h zero least l rest s at long = refl
+releases-onto h (suc k) least l rest s at long =
+    told-pick (λ (x : List ℕ). x ++ rest) (row (h .count) least s at) _ _ λ r a e₁.
+    told-pick (λ (x : List ℕ). x ++ rest) (upTo (budgetAt h r) 12 12 s a) _ _ λ c b e₂.
+    let here : r < length l = omega (arith, row-is (h .count) least s at r a e₁ .few) in
+    releases-onto h k (r + 1) (set l r c) rest s b (omega (arith, length-set l r c))
+    ∙ ap (λ (x : List ℕ). releases h k (r + 1) x s b) (sym (set-append-left l rest r c here))
 
-pub slot-yes : (h : Sheet) (s : List ℕ) (at : ℕ) → h .count ≤ mostRows → (y : SlotRead) → slotTold y ≡ slotHanded (slot h (noReleases mostRows) s at) → slotTold y .outcome ≡ accepted
-    → slot h (noReleases (h .count)) s at ≡ ok (take (h .count) (y .entries)) (y .next)
+pub slot-onto : (h : Sheet) (l rest s : List ℕ) (at : ℕ) → h .count ≤ length l → mapStep (λ (x : List ℕ). x ++ rest) (slot h l s at) ≡ slot h (l ++ rest) s at
+unfolding slot
+slot-onto h l rest s at long = told-pick (λ (x : List ℕ). x ++ rest) (number s at) _ _ λ k a e. releases-onto h k 0 l rest s a long
+
+-- whether a slot is refused, and where the next one begins, is the same into all entries
+abbrev noValue : List ℕ → ℕ
+noValue l = 0
+
+alike-after : (x : Step ℕ) (f g : ℕ → ℕ → Step (List ℕ)) → ((r m : ℕ) → mapStep noValue (f r m) ≡ mapStep noValue (g r m)) → mapStep noValue (after x f) ≡ mapStep noValue (after x g)
 unfolding mapStep
-slot-yes h s at few y e g =
-    sym (slot-front h s at few)
-    ∙ ap (mapStep (take (h .count))) (go (slot h (noReleases mostRows) s at) (sym e) g)
-  where
-    go : (x : Step (List ℕ)) → slotHanded x ≡ slotTold y → slotTold y .outcome ≡ accepted → x ≡ ok (y .entries) (y .next)
-    go (ok l n) q a =
-        let el : l ≡ y .entries = ap (λ (z : SlotAnswer). z .entries) q in
-        let en : n ≡ y .next = ap (λ (z : SlotAnswer). z .next) q in
-        ap₂ (λ (x : List ℕ) (m : ℕ). ok x m) el en
-    go (refuse j i) q a =
-        let b : accepted ≡ refused j i = sym a ∙ sym (ap (λ (z : SlotAnswer). z .outcome) q) in
-        let z : _≡_ {A = ℕ} 0 1 = cc in
-        absurd (omega arith)
+alike-after (ok r m) f g h = h r m
+alike-after (refuse k p) f g h = refl
+
+releases-alike : (h : Sheet) (k least : ℕ) (l l′ s : List ℕ) (at : ℕ) → mapStep noValue (releases h k least l s at) ≡ mapStep noValue (releases h k least l′ s at)
+unfolding releases mapStep
+releases-alike h zero least l l′ s at = refl
+releases-alike h (suc k) least l l′ s at =
+    alike-after (row (h .count) least s at) _ _ λ r a.
+    alike-after (upTo (budgetAt h r) 12 12 s a) _ _ λ c b.
+    releases-alike h k (r + 1) (set l r c) (set l′ r c) s b
+
+slot-alike : (h : Sheet) (l l′ s : List ℕ) (at : ℕ) → mapStep noValue (slot h l s at) ≡ mapStep noValue (slot h l′ s at)
+unfolding slot
+slot-alike h l l′ s at = alike-after (number s at) _ _ λ k a. releases-alike h k 0 l l′ s a
+
+pub slot-no : (h : Sheet) (l l′ s : List ℕ) (at k p : ℕ) → slot h l s at ≡ refuse k p → slot h l′ s at ≡ refuse k p
+unfolding mapStep
+slot-no h l l′ s at k p e = map-step-no noValue (slot h l′ s at) (slot-alike h l′ l s at ∙ ap (mapStep noValue) e)
+
+pub slot-yes : (h : Sheet) (l l′ s : List ℕ) (at : ℕ) (x : List ℕ) (m : ℕ) → slot h l s at ≡ ok x m → (x′ : List ℕ) × (slot h l′ s at ≡ ok x′ m)
+unfolding mapStep
+slot-yes h l l′ s at x m e =
+    let (x′, q, _) = map-step-ok noValue (slot h l′ s at) (slot-alike h l′ l s at ∙ ap (mapStep noValue) e) in
+    (x′, q)
+
+-- what an answer and the lent entries say of what was read, and what was read of them
+module _ (x : Step (List ℕ)) (l : List ℕ) where
+  pub landed-no : (y : Number) → Landed x (step y) l → (k p : ℕ) → y ≡ Refused k p → x ≡ refuse k p
+  landed-no y e k p g = go x e
+    where
+      go : (z : Step (List ℕ)) → Landed z (step y) l → z ≡ refuse k p
+      go (ok v n) q = absurd (never-ok (ap step g) (q .0))
+      go (refuse i j) q = let (a, b) = refuse-same (sym q ∙ ap step g) in ap₂ (λ (x : ℕ) (y : ℕ). refuse x y) a b
+
+  pub landed-ok : (y : Number) → Landed x (step y) l → (v m : ℕ) → y ≡ Is v m → x ≡ ok l m
+  landed-ok y e v m g = go x e
+    where
+      go : (z : Step (List ℕ)) → Landed z (step y) l → z ≡ ok l m
+      go (ok w n) q = let (_, b) = ok-same (sym (q .0) ∙ ap step g) in ap₂ (λ (x : List ℕ) (n : ℕ). ok x n) (sym (q .1)) b
+      go (refuse i j) q = absurd (never-ok q (ap step g))
+
+  pub land-no : (k p : ℕ) → x ≡ refuse k p → Landed x (refuse k p) l
+  land-no k p e = subst (λ (z : Step (List ℕ)). Landed z (refuse k p) l) (sym e) refl
+
+  pub land-ok : (m : ℕ) → x ≡ ok l m → Landed x (ok 0 m) l
+  land-ok m e = subst (λ (z : Step (List ℕ)). Landed z (ok 0 m) l) (sym e) (refl, refl)
 
 -- a slot more, and the end
 pub slots-one : (h : Sheet) (f : ℕ) (s : List ℕ) (at : ℕ) (l : List ℕ) (m : ℕ) → at < length s → slot h (noReleases (h .count)) s at ≡ ok l m

@@ -1,5 +1,6 @@
 -- The ways out of the reader of a scenario. Assumes nothing.
-use Rattle.basis.specs.Prelude.{ℕ, zero, suc, _*_, _/_, _≤_, _<_, _≡_, sym, ap, ap₂, subst, _∙_, div-lt-iff-lt-mul, le-div-iff-mul-le, Bool, true, false, List, ⊎-elim, arith, length, length-append, length-replicate, le-ltb, le-leb, lt-leb}
+use borrow.Author.Needs.{fits-under}
+use Rattle.basis.specs.Prelude.{ℕ, zero, suc, _+_, _*_, _/_, _^_, _≤_, _<_, _≡_, sym, ap, ap₂, subst, _∙_, div-lt-iff-lt-mul, le-div-iff-mul-le, Bool, true, false, List, ⊎-elim, _++_, arith, length, sets, sets-eq, take, take-at, drop, drop-at, zero-add, length-append, length-replicate, le-ltb, le-leb, lt-leb, w64, Fits}
 use Rattle.scenario.proofs.Names.{got, map-step-no, map-step-ok, ok-same, lt-or-le, Step, ok, refuse, begins, mapStep, accepted, refused, pick, step, Number, Is, Refused, Answer, answer, filledBy, nothingBy, readScenario, Held, markBytes, noReleases, noSlots, scenario, slots, Fills, fillBy, slotsOf, legal-is, legal, Sheet}
 use Rattle.scenario.proofs.Inside.OneSlot.{slot-goes, slots-apart, scenario-is}
 
@@ -34,17 +35,35 @@ module _ (h : Sheet) (s l : List ℕ) (pos : 1 ≤ h .count) (x : Number) (ex : 
         let over : length l < length (y .entries) = omega (arith, div-lt-iff-lt-mul {k = h .count} {x = length l} {y = k} pos .0 (omega (arith, as-rows)), slots-long h (length s) s 4 y m q, ap (λ (z : ℕ). z * h .count) ek) in
         sym (ap (λ (z : Step Held). filledBy z l) q ∙ simp (lt-leb (length (y .entries)) (length l) over))
 
-    pub fill-room : k ≤ length l / n → Fills (slots h (length s) s 4) l
-    fill-room c =
-        let (y, q, ek) = map-step-ok slotsOf (slots h (length s) s 4) (got step ex g) in
-        subst (λ (z : Step Held). Fills z l) (sym q)
-        (omega (arith, le-div-iff-mul-le {k = h .count} {x = k} {y = length l} pos .0 (omega (arith, as-rows)), slots-long h (length s) s 4 y m q, ap (λ (z : ℕ). z * h .count) ek))
+    -- where there is room: as many entries are made zero as there are to be filled
+    module _ (c : k ≤ length l / n) where
+      pub clear-room : k * n ≤ length l
+      clear-room = omega (arith, le-div-iff-mul-le {k = h .count} {x = k} {y = length l} pos .0 (omega (arith, as-rows)), ap (λ (z : ℕ). k * z) en)
 
-    pub read-whole : k ≤ length l / n → (l′ : List ℕ) → l′ ≡ fillBy (slots h (length s) s 4) l → answer accepted k l′ ≡ filledBy (slots h (length s) s 4) l
-    read-whole c l′ f =
-        let (y, q, ek) = map-step-ok slotsOf (slots h (length s) s 4) (got step ex g) in
-        let room : length (y .entries) ≤ length l = subst (λ (z : Step Held). Fills z l) q (fill-room c) in
-        sym (ap (λ (z : Step Held). filledBy z l) q ∙ simp (le-leb (length (y .entries)) (length l) room) (ap₂ (λ (j : ℕ) (z : List ℕ). answer accepted j z) ek (sym (f ∙ ap (λ (z : Step Held). fillBy z l) q))))
+      pub clear-fits : length l * 8 < 2 ^ 63 → Fits w64 (k * n)
+      clear-fits b = fits-under w64 (k * n) (2 ^ 63) (omega (arith, clear-room)) tt
+
+      as-many : (y : Held) → slots h (length s) s 4 ≡ ok y m → y .slots ≡ k → length (y .entries) ≡ k * n
+      as-many y q ek = slots-long h (length s) s 4 y m q ∙ ap₂ (λ (i : ℕ) (j : ℕ). i * j) ek (sym en)
+
+      pub fill-room : (l₁ : List ℕ) → l₁ ≡ noReleases (k * n) ++ drop (k * n) l → Fills (slots h (length s) s 4) l₁
+      fill-room l₁ e₁ =
+          let (y, q, ek) = map-step-ok slotsOf (slots h (length s) s 4) (got step ex g) in
+          let t = as-many y q ek in
+          subst (λ (z : Step Held). Fills z l₁) (sym q)
+          (ap₂ (λ (i : ℕ) (z : List ℕ). take i z) t e₁ ∙ take-at (noReleases (k * n)) (drop (k * n) l) (k * n) (length-replicate (k * n) 0) ∙ ap noReleases (sym t))
+
+      pub read-whole : (l₁ l′ : List ℕ) → l′ ≡ fillBy (slots h (length s) s 4) l₁ → l₁ ≡ noReleases (k * n) ++ drop (k * n) l → answer accepted k l′ ≡ filledBy (slots h (length s) s 4) l
+      read-whole l₁ l′ f e₁ =
+          let (y, q, ek) = map-step-ok slotsOf (slots h (length s) s 4) (got step ex g) in
+          let t = as-many y q ek in
+          let room : length (y .entries) ≤ length l = omega (arith, clear-room) in
+          let past : drop (length (y .entries)) l₁ ≡ drop (0 + length (y .entries)) l =
+          ap₂ (λ (i : ℕ) (z : List ℕ). drop i z) t e₁ ∙ drop-at (noReleases (k * n)) (drop (k * n) l) (k * n) (length-replicate (k * n) 0)
+          ∙ ap (λ (i : ℕ). drop i l) (sym (zero-add (length (y .entries)) ∙ t)) in
+          let put : l′ ≡ sets l 0 (y .entries) =
+          f ∙ ap (λ (z : Step Held). fillBy z l₁) q ∙ ap (λ (z : List ℕ). y .entries ++ z) past ∙ sym (sets-eq (y .entries) l 0 (omega arith)) in
+          sym (ap (λ (z : Step Held). filledBy z l) q ∙ simp (le-leb (length (y .entries)) (length l) room) (ap₂ (λ (j : ℕ) (z : List ℕ). answer accepted j z) ek (sym put)))
 
 -- the ways out of `read_scenario`
 module _ (h : Sheet) (s l : List ℕ) (t : Bool) (et : t ≡ legal h) where
