@@ -1,6 +1,6 @@
 // The writer of a scenario: first the list is checked and its bytes are counted, and only then they are written.
 ghost use mathlib.Core.Path.{_≡_};
-ghost use Prim.Native.Nat.{_+_, _*_, _/_, _%_, _≤_};
+ghost use Prim.Native.Nat.{_+_, _*_, _/_, _%_, _≤_, _<_};
 ghost use lib.Dec.{leb};
 ghost use lib.ListN.{length, take, drop};
 ghost use lib.Seq.{sets};
@@ -20,12 +20,16 @@ pub struct ScenarioWritten {
     pub length: usize,
 }
 
-// The row of an entry.
-fn place_of(i: usize, n: usize) -> usize
-    requires { ⌜ 1 ≤ n ⌝ }
-    ensures { λ r. ⌜ (r ≡ i % n) × (r + 1 ≤ n) ⌝ }
+// The row after a row, of n: after the last comes the first again.
+fn row_after(row: usize, n: usize) -> usize
+    requires { ⌜ row < n ⌝ }
+    ensures { λ r. ⌜ (r ≡ (row + 1) % n) × (r < n) ⌝ }
 {
-    i % n
+    let next = row + 1;
+    if next < n {
+        return next;
+    }
+    0
 }
 
 // Whether an entry is over a budget.
@@ -43,14 +47,15 @@ fn check_entries(sheet: &[u64], n: usize, releases: &[u64]) -> Refusal
     requires { ⌜ (n ≡ sheetIn (now sheet) .count) × (1 ≤ sheetIn (now sheet) .count) × (sheetIn (now sheet) .count ≤ mostRows) ⌝ }
     ensures { λ r. ⌜ outcome r ≡ firstOf (length (now (releases .entry))) (overAt (sheetIn (now (sheet .entry))) (now (releases .entry))) ⌝ }
 {
+    let mut place: usize = 0;
     let mut i: usize = 0;
     while i < releases.len() {
-        let place = place_of(i, n);
         let budget = budget_in(sheet, place);
         let refusal = check_entry(budget, releases[i], place);
         if let Refusal::Refused(number, at) = refusal {
             return Refusal::Refused(number, at);
         }
+        place = row_after(place, n);
         i += 1;
     }
     Refusal::Accepted

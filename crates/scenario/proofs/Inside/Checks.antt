@@ -1,5 +1,5 @@
 -- The checks of a list before it is written, and what a list that passes them shows. Assumes nothing.
-use Rattle.basis.specs.Prelude.{ℕ, _+_, _%_, _≤_, _<_, _≡_, refl, sym, ap, ap₂, _∙_, Bool, true, false, List, length, arith, eqb, getD, mod-lt, eq-eqb, ne-eqb, eqb-true}
+use Rattle.basis.specs.Prelude.{ℕ, _+_, _%_, _≤_, _<_, _≡_, refl, sym, ap, ap₂, _∙_, Bool, true, false, List, length, arith, eqb, getD, eq-eqb, ne-eqb, eqb-true, mod-eq-of-lt, mul-mod-left, _*_, mod-add-mod}
 use Rattle.scenario.proofs.Names.{first-found, first-more, Outcome, accepted, outcome, refused, firstOf, pick, Refusal, checkList, checkWhole, overAt, overBudget, budgetAt, legal, Sheet}
 use Rattle.basis.specs.declared.refusal.Refusal.the-variants as refusal-variants
 
@@ -20,8 +20,18 @@ module _ (h : Sheet) (l : List ℕ) (n i k : ℕ) (en : n ≡ h .count) (so-far 
 pub entries-fine : (h : Sheet) (l : List ℕ) (i : ℕ) → firstOf i (overAt h l) ≡ accepted → i ≤ length l → length l ≤ i → accepted ≡ firstOf (length l) (overAt h l)
 entries-fine h l i e a b = let q : i ≡ length l = omega arith in sym (rw q at e)
 
-pub place-few : (n i : ℕ) → 1 ≤ n → i % n + 1 ≤ n
-place-few n i pos = omega (arith, mod-lt i pos)
+-- the row of an entry, and that of the next
+pub row-next : (n row : ℕ) → row + 1 < n → row + 1 ≡ (row + 1) % n
+row-next n row h = sym (mod-eq-of-lt h)
+
+pub row-first : (n row : ℕ) → row < n → n ≤ row + 1 → 0 ≡ (row + 1) % n
+row-first n row h k = let e : row + 1 ≡ 1 * n = omega arith in sym (ap (λ (i : ℕ). i % n) e ∙ mul-mod-left 1 n)
+
+pub row-none : (n count : ℕ) → n ≡ count → 1 ≤ count → 0 ≡ 0 % n
+row-none n count e h = let pos : 0 < n = omega arith in sym (mod-eq-of-lt pos)
+
+pub row-of-next : (n i row next : ℕ) → row ≡ i % n → next ≡ (row + 1) % n → next ≡ (i + 1) % n
+row-of-next n i row next e f = f ∙ ap (λ (k : ℕ). (k + 1) % n) e ∙ mod-add-mod i n 1
 
 -- the ways out of the checks
 module _ (h : Sheet) (l : List ℕ) where
