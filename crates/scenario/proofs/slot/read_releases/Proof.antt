@@ -16,5 +16,5 @@ read-releases-spec =
     this.Tie.close (this.Tie.spec Inv-loop μ-loop (λ c. (begun _ _ _ _ _, search needs, search needs, search needs, search needs))
     (λ c κs. search needs) (λ c. search needs) (λ c. search needs) (λ c. search no-row) (λ c. search needs) (λ c κs. search row-few)
     (λ c κs. search needs) (λ c. search needs) (λ c. search needs) (λ c. search no-amount) (λ c. search needs) (λ c. search row-scaled)
-    (λ c. search row-there) (λ c. search row-next) (λ c. search needs) (λ c. search needs)
+    (λ c. search row-there) (λ c. search (needs, row-next)) (λ c. search needs) (λ c. search needs)
     (λ c. (search one-more, search needs, search needs, search needs, search needs)) (λ c. search needs) (λ c. search all-read))
