@@ -1,14 +1,13 @@
 #!/usr/bin/env python3
 """costs.py LOG: holds what the wrong programs of each crate cost, by the seconds that `rt ci` has printed into LOG.
 
-An edit of must-fail/ costs a check of its whole crate, so a crate's cost is its edits times the seconds of one check: the middle one of the seconds printed for its proof and for each
-of its edits. It may be LIMIT seconds on a machine on which the crate SMALL takes BASE seconds, as it did where the limit was set. Where that crate takes longer, on a slower machine or a busy one, the limit grows in the
+An edit of must-fail/ costs a check of its whole crate, so a crate's cost is its edits times the seconds of one check: the least of the seconds printed for its proof and for each
+of its edits, since a busy machine makes a check longer and none makes it shorter. It may be LIMIT seconds on a machine on which the crate SMALL takes BASE seconds, as it did where the limit was set. Where that crate takes longer, on a slower machine or a busy one, the limit grows in the
 same measure; where it takes less, the limit stays.
 """
 import glob
 import os
 import re
-import statistics
 import sys
 
 LIMIT = 90
@@ -41,7 +40,7 @@ def faults(names, kept, log):
         out += [f"the log has no seconds of the edit {name}/{label}" for label in sorted(set(kept.get(name, [])) - tried)]
     if SMALL not in proofs:
         return out
-    check = {name: statistics.median([proofs[name], *edits.get(name, {}).values()]) for name in names if name in proofs}
+    check = {name: min([proofs[name], *edits.get(name, {}).values()]) for name in names if name in proofs}
     limit = LIMIT * max(1, check[SMALL] / BASE)
     for name in names:
         cost = len(edits.get(name, {})) * check.get(name, 0)

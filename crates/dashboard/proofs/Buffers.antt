@@ -1,6 +1,6 @@
 -- What a program hands on of the buffers that it lends: the part that was written is in the buffer, and is the whole text. Assumes nothing.
 use Rattle.basis.specs.Prelude.{ℕ, _≤_, _≡_, List, arith, length, take, length-replicate}
-use Rattle.dashboard.proofs.Names.{verdictText, referenceText, written, longestText, textSize, textBuffer}
+use Rattle.dashboard.proofs.Names.{verdictText, referenceText, written, textSize, textBuffer}
 use Rattle.dashboard.proofs.TextLengths.{verdict-is-short, longest-fits, reference-is-short}
 use Rattle.page.proofs.Inside.Written.{part-is-text}
 pub use Rattle.page.proofs.Inside.Written.{written-in-room, written-part}

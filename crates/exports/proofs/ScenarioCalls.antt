@@ -1,13 +1,13 @@
 -- A refused call for a scenario changes nothing that is lent, and what one call writes the other reads. Assumes nothing.
-use Rattle.basis.specs.Prelude.{ℕ, _*_, _/_, _≤_, _≡_, refl, ap, _∙_, Bool, true, false, List, length, take, sets, leb, arith}
-use Rattle.exports.proofs.Names.{Outcome, accepted, refused, Step, ok, refuse, Sheet, legal, sheetIn, told, scenarioTold, readScenario, writeScenario, scenarioRead, scenarioWritten, pick}
+use Rattle.basis.specs.Prelude.{ℕ, _*_, _/_, _≤_, _≡_, refl, Bool, true, false, List, length, take, sets, leb, arith}
+use Rattle.exports.proofs.Names.{Outcome, accepted, refused, Step, ok, refuse, legal, sheetIn, told, scenarioTold, readScenario, writeScenario, scenarioRead, scenarioWritten, pick}
 use Rattle.scenario.specs.Form.{Held, scenario}
 use Rattle.scenario.specs.Written.{fileOf}
 use Rattle.scenario.specs.Listed.{ReadRefusal, sheet-not-legal, no-mark, cut-off, bad-number, no-such-row, out-of-order, bad-count, no-room, WriteRefusal, unfit-sheet, uneven-list, over-budget, short-buffer}
 use Rattle.scenario.proofs.Refusals.{read-refusal-is-listed, write-refusal-is-listed}
 use Rattle.scenario.proofs.BothWays.{list-comes-back, file-comes-back}
 use Rattle.basis.specs.Readers.{Bytes}
-use Rattle.scenario.specs.Answers.{Answer, nothingBy, putAll, filledBy, writtenBy, checkList}
+use Rattle.scenario.specs.Answers.{nothingBy, putAll, filledBy, writtenBy, checkList}
 
 -- what is put where there is room is told, or nothing is changed
 put-kept : (k : ℕ) (xs l : List ℕ) (found : ℕ) → (scenarioTold (putAll k xs l) found .0 .0 ≡ 0 → ⊥) → scenarioTold (putAll k xs l) found .1 ≡ (found, l)

@@ -1,6 +1,6 @@
 -- What the calls for a scenario answer, from the answers of what they call. Assumes nothing.
 use Rattle.basis.specs.Prelude.{ℕ, _≡_, sym, List}
-use Rattle.exports.proofs.Names.{outcome, Refusal, Accepted, Refused, sheetIn, readTold, writtenTold, readScenario, writeScenario, scenarioRead, scenarioWritten}
+use Rattle.exports.proofs.Names.{Accepted, Refused, sheetIn, readTold, writtenTold, readScenario, writeScenario, scenarioRead, scenarioWritten}
 use Rattle.scenario.specs.declared.reader.ScenarioRead.{ScenarioRead}
 use Rattle.scenario.specs.declared.writer.ScenarioWritten.{ScenarioWritten}
 
