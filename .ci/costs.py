@@ -16,7 +16,7 @@ import sys
 LIMIT = 90
 SMALL = "basis"
 BASE = 3.3
-SURELY = 3
+SURELY = 2
 
 
 def crates(text):

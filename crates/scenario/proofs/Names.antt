@@ -23,7 +23,7 @@ pub use Rattle.numbers.specs.Numbers.{number, spell, step, upTo}
 unfoldable pub use Rattle.numbers.specs.Numbers.{groups, spelt, upToBy, width}
 pub use Rattle.numbers.specs.declared.number.Number.{Number}
 pub use Rattle.numbers.specs.declared.number.Number.the-variants.{Is, Refused}
-pub use Rattle.scenario.specs.Answers.{Answer, SlotAnswer, answer, filledBy, nothingBy, readTold, slotAnswer, slotHanded, slotTold, writtenBy, writtenTold}
+pub use Rattle.scenario.specs.Answers.{Answer, FoundSlot, answer, filledBy, nothingBy, readTold, foundSlot, slotHanded, foundTold, writtenBy, writtenTold}
 unfoldable pub use Rattle.scenario.specs.Answers.{checkList, checkWhole, overAt, overBudget, readScenario, readSlot, writeScenario}
 pub use Rattle.scenario.specs.Cases.{files, twoRows}
 pub use Rattle.scenario.specs.Form.{Held, budgetAt, markBytes, noReleases, noSlots, slotBefore}

@@ -1,19 +1,19 @@
 -- Two answers that the promise of a scenario's function allows are equal. Assumes nothing.
 use Rattle.basis.specs.Prelude.{ℕ, _≡_, List}
-use Rattle.scenario.proofs.Names.{sheetIn, slotTold, readTold, writtenTold, readSlot, readScenario, writeScenario, SlotRead}
+use Rattle.scenario.proofs.Names.{sheetIn, foundTold, readTold, writtenTold, readSlot, readScenario, writeScenario, SlotRead}
 use Rattle.basis.proofs.Refusals.{outcome-one-to-one}
 use Rattle.basis.proofs.Same.{same, same-by}
 use Rattle.scenario.specs.declared.reader.ScenarioRead.{ScenarioRead}
 use Rattle.scenario.specs.declared.writer.ScenarioWritten.{ScenarioWritten}
 
 -- an answer of the code stands for one answer of the definition
-pub slot-one-to-one : (a b : SlotRead) → slotTold a ≡ slotTold b → a ≡ b
+pub slot-one-to-one : (a b : SlotRead) → foundTold a ≡ foundTold b → a ≡ b
 slot-one-to-one a b e =
     let r = outcome-one-to-one (a .refusal) (b .refusal) (λ i. e i .outcome) in λ i. record { refusal = r i; next = e i .next; entries = e i .entries }
 
 -- `read_slot`
-pub read-slot-same : (sheet s : List ℕ) (at : ℕ) (a b : SlotRead) → slotTold a ≡ readSlot (sheetIn sheet) s at → slotTold b ≡ readSlot (sheetIn sheet) s at → a ≡ b
-read-slot-same sheet s at = same-by slotTold slot-one-to-one (readSlot (sheetIn sheet) s at)
+pub read-slot-same : (sheet s : List ℕ) (at : ℕ) (a b : SlotRead) → foundTold a ≡ readSlot (sheetIn sheet) s at → foundTold b ≡ readSlot (sheetIn sheet) s at → a ≡ b
+read-slot-same sheet s at = same-by foundTold slot-one-to-one (readSlot (sheetIn sheet) s at)
 
 -- `read_scenario`: the answer, and the list after it
 pub read-scenario-same : (sheet s l : List ℕ) (a b : ScenarioRead) (m n : List ℕ)

@@ -1,6 +1,6 @@
 -- The slots of a scenario are what the reader of one slot answers, one after another up to the end of the bytes. Assumes nothing.
 use Rattle.basis.specs.Prelude.{ℕ, zero, suc, _<_, _≡_, refl, sym, ap, _∙_, true, List, ⊎-elim, arith, length, take, lt-ltb, le-ltb}
-use Rattle.scenario.proofs.Names.{lt-or-le, mostRows, Step, after, ok, refuse, begins, mapStep, Outcome, accepted, refused, pick, SlotAnswer, slotHanded, readSlot, Held, markBytes, noReleases, slotBefore, scenario, slot, slots, slotBySlot, slotThen, legal-is, legal, Sheet}
+use Rattle.scenario.proofs.Names.{lt-or-le, mostRows, Step, after, ok, refuse, begins, mapStep, Outcome, accepted, refused, pick, FoundSlot, slotHanded, readSlot, Held, markBytes, noReleases, slotBefore, scenario, slot, slots, slotBySlot, slotThen, legal-is, legal, Sheet}
 use Rattle.scenario.proofs.Inside.OneSlot.{slot-goes, slot-front, read-slot-is, scenario-is}
 
 -- an accepted slot takes a byte or more
@@ -19,7 +19,7 @@ module _ (h : Sheet) (fine : legal h ≡ true) where
   slot-first f s at b =
       simp (lt-ltb at (length s) b)
       (ap (λ (x : Step (List ℕ)). after x others) (sym (slot-front h s at (legal-is h fine .most-rows))) ∙ go (slot h (noReleases mostRows) s at)
-      ∙ ap (λ (a : SlotAnswer). slotThen (h .count) (a .outcome) (a .entries) (slots h f s (a .next))) (sym (read-slot-is h s at fine)))
+      ∙ ap (λ (a : FoundSlot). slotThen (h .count) (a .outcome) (a .entries) (slots h f s (a .next))) (sym (read-slot-is h s at fine)))
     where
       others : List ℕ → ℕ → Step Held
       others l m = after (slots h f s m) (λ x n. ok (slotBefore l x) n)

@@ -1,12 +1,12 @@
 -- No answer by a wrong rule of a scenario meets the promise of a function of this crate. Assumes nothing.
 use Rattle.basis.specs.Prelude.{ℕ, refl, [], _++_, getD}
-use Rattle.scenario.proofs.Names.{mostRows, begins, firstOf, allOf, groups, spelt, upToBy, Answer, SlotAnswer, slotHanded, slotTold, checkList, checkWhole, overAt, overBudget, readScenario, readSlot, writeScenario, twoRows, markBytes, noReleases, releases, row, scenario, slot, slots, releasesBytes, releasesIn, scenarioBytes, slotBytes, slotsBytes, legal, legalAt, legalRow}
+use Rattle.scenario.proofs.Names.{mostRows, begins, firstOf, allOf, groups, spelt, upToBy, Answer, FoundSlot, slotHanded, foundTold, checkList, checkWhole, overAt, overBudget, readScenario, readSlot, writeScenario, twoRows, markBytes, noReleases, releases, row, scenario, slot, slots, releasesBytes, releasesIn, scenarioBytes, slotBytes, slotsBytes, legal, legalAt, legalRow}
 use Rattle.basis.specs.Faults.{NoAnswer}
 use Rattle.basis.proofs.Faults.{numberOf, told-apart}
 use Rattle.scenario.specs.Wrong.{readAnswer, writtenAnswer, releasesBy, repeatedRow, fromZero, zeroCount, inOrder, orderFirst, slotsBy, readBy, fifteenFirst, pastCleared, slotShort, slotsShort, oneShort, rowTwice, zeroSlot, noSuchRow, emptySlot, bothRows, overRow, threeNines, twelveNines}
 
 -- what is read off an answer: the number of its refusal, and an entry or a byte of what was lent
-slotNumber : SlotAnswer → ℕ
+slotNumber : FoundSlot → ℕ
 slotNumber a = numberOf (a .outcome)
 
 answerNumber : Answer → ℕ
@@ -18,19 +18,19 @@ lentAt i a = getD (a .lent) i 0
 -- ---- `read_slot`
 
 -- a repeated row accepted: row 1 twice is 20
-pub repeated-row-is-shut-out : NoAnswer slotTold (slotHanded (repeatedRow twoRows (noReleases mostRows) rowTwice 0)) (readSlot twoRows rowTwice 0)
+pub repeated-row-is-shut-out : NoAnswer foundTold (slotHanded (repeatedRow twoRows (noReleases mostRows) rowTwice 0)) (readSlot twoRows rowTwice 0)
 unfolding slotNumber repeatedRow releasesBy readSlot slot releases row upToBy groups legal legalAt legalRow allOf
-repeated-row-is-shut-out = told-apart slotTold _ _ slotNumber refl
+repeated-row-is-shut-out = told-apart foundTold _ _ slotNumber refl
 
 -- a count of zero accepted: it is 12
-pub zero-count-is-shut-out : NoAnswer slotTold (slotHanded (zeroCount twoRows (noReleases mostRows) zeroSlot 0)) (readSlot twoRows zeroSlot 0)
+pub zero-count-is-shut-out : NoAnswer foundTold (slotHanded (zeroCount twoRows (noReleases mostRows) zeroSlot 0)) (readSlot twoRows zeroSlot 0)
 unfolding slotNumber zeroCount fromZero releasesBy readSlot slot releases row upToBy groups legal legalAt legalRow allOf
-zero-count-is-shut-out = told-apart slotTold _ _ slotNumber refl
+zero-count-is-shut-out = told-apart foundTold _ _ slotNumber refl
 
 -- 20 before 14: row 2 is met first, and the order after it
-pub order-first-is-shut-out : NoAnswer slotTold (slotHanded (orderFirst twoRows (noReleases mostRows) noSuchRow 0)) (readSlot twoRows noSuchRow 0)
+pub order-first-is-shut-out : NoAnswer foundTold (slotHanded (orderFirst twoRows (noReleases mostRows) noSuchRow 0)) (readSlot twoRows noSuchRow 0)
 unfolding slotNumber orderFirst inOrder readSlot slot releases row upToBy groups legal legalAt legalRow allOf
-order-first-is-shut-out = told-apart slotTold _ _ slotNumber refl
+order-first-is-shut-out = told-apart foundTold _ _ slotNumber refl
 
 -- ---- `read_scenario`
 

@@ -13,25 +13,25 @@ use Rattle.scenario.specs.declared.reader.ScenarioRead.{ScenarioRead}
 use Rattle.scenario.specs.declared.writer.ScenarioWritten.{ScenarioWritten}
 
 -- What reading one slot answers: its outcome, the place after the slot, and an entry for each row.
-pub record SlotAnswer : Type 0 where
+pub record FoundSlot : Type 0 where
   pub outcome : Outcome
   pub next : ℕ
   pub entries : List ℕ
 
-abbrev pub slotAnswer : Outcome → ℕ → List ℕ → SlotAnswer
-slotAnswer o next entries = record { outcome = o; next = next; entries = entries }
+abbrev pub foundSlot : Outcome → ℕ → List ℕ → FoundSlot
+foundSlot o next entries = record { outcome = o; next = next; entries = entries }
 
 -- What the code's answer stands for.
-abbrev pub slotTold : SlotRead → SlotAnswer
-slotTold r = slotAnswer (outcome (r .refusal)) (r .next) (r .entries)
+abbrev pub foundTold : SlotRead → FoundSlot
+foundTold r = foundSlot (outcome (r .refusal)) (r .next) (r .entries)
 
 -- What is handed over: the slot, or the one refusal and zeros beside it.
-abbrev pub slotHanded : Step (List ℕ) → SlotAnswer
-slotHanded (ok l n) = slotAnswer accepted n l
-slotHanded (refuse number place) = slotAnswer (refused number place) 0 (noReleases mostRows)
+abbrev pub slotHanded : Step (List ℕ) → FoundSlot
+slotHanded (ok l n) = foundSlot accepted n l
+slotHanded (refuse number place) = foundSlot (refused number place) 0 (noReleases mostRows)
 
 -- The slot at a place: 10, then left to right. Entries past the rows are zero.
-unfoldable pub readSlot : Sheet → List ℕ → ℕ → SlotAnswer
+unfoldable pub readSlot : Sheet → List ℕ → ℕ → FoundSlot
 readSlot h s at = slotHanded (pick (legal h) (slot h (noReleases mostRows) s at) (refuse 10 0))
 
 -- What reading and writing a scenario answer: the outcome, how many slots or bytes, and the list or the buffer that was lent, as it is left.

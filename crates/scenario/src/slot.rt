@@ -7,7 +7,7 @@ ghost use Rattle.basis.specs.Readers.{refuse};
 ghost use Rattle.numbers.specs.Numbers.{step};
 ghost use Rattle.sheet.specs.Lists.{sheetIn};
 ghost use Rattle.scenario.specs.Form.{budgetAt, noReleases, row, releases, slot};
-ghost use Rattle.scenario.specs.Answers.{slotTold, slotHanded, readSlot};
+ghost use Rattle.scenario.specs.Answers.{foundTold, slotHanded, readSlot};
 ghost use Rattle.scenario.specs.Inside.Parts.{Landed};
 use basis::MOST_GROUPS;
 use basis::MOST_ROWS;
@@ -26,7 +26,7 @@ pub struct SlotRead {
 
 // A refusal, with zeros beside it.
 fn refused(number: u64, place: usize) -> SlotRead
-    ensures { λ r. ⌜ slotTold r ≡ slotHanded (refuse number place) ⌝ }
+    ensures { λ r. ⌜ foundTold r ≡ slotHanded (refuse number place) ⌝ }
 {
     let entries: [u64; MOST_ROWS] = [0; MOST_ROWS];
     SlotRead {
@@ -115,7 +115,7 @@ pub(crate) fn slot_at(sheet: &[u64], n: u64, bytes: &[u8], at: usize, entries: &
 // The slot at a place, on a sheet of n rows.
 fn slot_read(sheet: &[u64], n: u64, bytes: &[u8], at: usize) -> SlotRead
     requires { ⌜ (n ≡ sheetIn (now sheet) .count) × (sheetIn (now sheet) .count ≤ mostRows) ⌝ }
-    ensures { λ r. ⌜ slotTold r ≡ slotHanded (slot (sheetIn (now (sheet .entry))) (noReleases mostRows) (now (bytes .entry)) at) ⌝ }
+    ensures { λ r. ⌜ foundTold r ≡ slotHanded (slot (sheetIn (now (sheet .entry))) (noReleases mostRows) (now (bytes .entry)) at) ⌝ }
 {
     let mut entries: [u64; MOST_ROWS] = [0; MOST_ROWS];
     match slot_at(sheet, n, bytes, at, &mut entries) {
@@ -130,7 +130,7 @@ fn slot_read(sheet: &[u64], n: u64, bytes: &[u8], at: usize) -> SlotRead
 
 // The slot at a place: an entry for each row, and zeros past the rows.
 pub fn read_slot(sheet: &[u64], bytes: &[u8], at: usize) -> SlotRead
-    ensures { λ r. ⌜ slotTold r ≡ readSlot (sheetIn (now (sheet .entry))) (now (bytes .entry)) at ⌝ }
+    ensures { λ r. ⌜ foundTold r ≡ readSlot (sheetIn (now (sheet .entry))) (now (bytes .entry)) at ⌝ }
 {
     let fine = sheet::is_legal(sheet);
     if fine {

@@ -1,14 +1,14 @@
 // Right programs, each by one call of what is promised and its answer put together again. Nothing calls them: wrong ones are tried in their place, and turned away.
 ghost use mathlib.Core.Path.{_≡_};
 ghost use Rattle.sheet.specs.Lists.{sheetIn};
-ghost use Rattle.scenario.specs.Answers.{slotTold, readTold, writtenTold, readSlot, readScenario, writeScenario};
+ghost use Rattle.scenario.specs.Answers.{foundTold, readTold, writtenTold, readSlot, readScenario, writeScenario};
 use scenario::ScenarioRead;
 use scenario::ScenarioWritten;
 use scenario::SlotRead;
 
 // One slot.
 fn slot_of(sheet: &[u64], bytes: &[u8], at: usize) -> SlotRead
-    ensures { λ r. ⌜ slotTold r ≡ readSlot (sheetIn (now (sheet .entry))) (now (bytes .entry)) at ⌝ }
+    ensures { λ r. ⌜ foundTold r ≡ readSlot (sheetIn (now (sheet .entry))) (now (bytes .entry)) at ⌝ }
 {
     let told = scenario::read_slot(sheet, bytes, at);
     let refusal = told.refusal;

@@ -11,7 +11,7 @@ use Rattle.numbers.proofs.Inside.Bounds.{bounded, taken}
 use Rattle.sheet.specs.Legal.{legal}
 use Rattle.sheet.specs.declared.row.Sheet.{Sheet}
 use Rattle.scenario.specs.Form.{budgetAt, noReleases, row, releases, slot}
-use Rattle.scenario.specs.Answers.{SlotAnswer, slotTold, slotHanded, readSlot}
+use Rattle.scenario.specs.Answers.{FoundSlot, foundTold, slotHanded, readSlot}
 use Rattle.scenario.specs.declared.slot.SlotRead.{SlotRead}
 
 releases-end : (h : Sheet) (k least : ℕ) (l s : List ℕ) (at : ℕ) (x : List ℕ) (n : ℕ) → at ≤ length s → releases h k least l s at ≡ ok x n → n ≤ length s
@@ -27,26 +27,26 @@ unfolding slot
 slot-end h l s at x n e =
     after-ok (number s at) _ e λ k a e₁ e₂. releases-end h k 0 l s a x n (taken mostGroups at 0 s at k a (omega arith) e₁ .in-bytes) e₂
 
-module _ (h : Sheet) (s : List ℕ) (at : ℕ) (r : SlotRead) (e : slotTold r ≡ readSlot h s at) (f : r .refusal ≡ Accepted) where
+module _ (h : Sheet) (s : List ℕ) (at : ℕ) (r : SlotRead) (e : foundTold r ≡ readSlot h s at) (f : r .refusal ≡ Accepted) where
   -- the place after it
   pub ends-inside : r .next ≤ length s
   unfolding readSlot
   ends-inside = go (legal h) e
     where
-      told : (x : Step (List ℕ)) → slotTold r ≡ slotHanded x → x ≡ slot h (noReleases mostRows) s at → r .next ≤ length s
-      told (ok l n) g q = let en : r .next ≡ n = ap (λ (z : SlotAnswer). z .next) g in omega (arith, slot-end h (noReleases mostRows) s at l n (sym q))
+      told : (x : Step (List ℕ)) → foundTold r ≡ slotHanded x → x ≡ slot h (noReleases mostRows) s at → r .next ≤ length s
+      told (ok l n) g q = let en : r .next ≡ n = ap (λ (z : FoundSlot). z .next) g in omega (arith, slot-end h (noReleases mostRows) s at l n (sym q))
       told (refuse j i) g q =
-          let b : accepted ≡ refused j i = sym (ap outcome f) ∙ ap (λ (z : SlotAnswer). z .outcome) g in
+          let b : accepted ≡ refused j i = sym (ap outcome f) ∙ ap (λ (z : FoundSlot). z .outcome) g in
           let z : _≡_ {A = ℕ} 0 1 = cc in
           absurd (omega arith)
 
-      go : (t : Bool) → slotTold r ≡ slotHanded (pick t (slot h (noReleases mostRows) s at) (refuse 10 0)) → r .next ≤ length s
+      go : (t : Bool) → foundTold r ≡ slotHanded (pick t (slot h (noReleases mostRows) s at) (refuse 10 0)) → r .next ≤ length s
       go true g = told (slot h (noReleases mostRows) s at) g refl
       go false g =
-          let b : accepted ≡ refused 10 0 = sym (ap outcome f) ∙ ap (λ (z : SlotAnswer). z .outcome) g in
+          let b : accepted ≡ refused 10 0 = sym (ap outcome f) ∙ ap (λ (z : FoundSlot). z .outcome) g in
           let z : _≡_ {A = ℕ} 0 1 = cc in
           absurd (omega arith)
 
 -- so it ends in the window
-pub ends-in-window : (h : Sheet) (buffer : List ℕ) (at end : ℕ) (r : SlotRead) → slotTold r ≡ readSlot h (take end buffer) at → r .refusal ≡ Accepted → end ≤ length buffer → r .next ≤ end
+pub ends-in-window : (h : Sheet) (buffer : List ℕ) (at end : ℕ) (r : SlotRead) → foundTold r ≡ readSlot h (take end buffer) at → r .refusal ≡ Accepted → end ≤ length buffer → r .next ≤ end
 ends-in-window h buffer at end r e f l = omega (arith, ends-inside h (take end buffer) at r e f, length-take-le end buffer l)

@@ -1,7 +1,7 @@
 -- The loop over the releases of a slot: what is still to be read, into what is there. Assumes nothing.
 use borrow.Author.Needs.{scaled-fits}
 use Rattle.basis.specs.Prelude.{ℕ, zero, suc, _+_, _*_, _-_, _≤_, _<_, _≡_, refl, sym, ap, subst, _∙_, Bool, true, false, List, arith, not-suc-le-zero, length, set, lt-ltb, le-ltb, w64, Fits}
-use Rattle.scenario.proofs.Names.{got, mostRows, Step, after, ok, refuse, accepted, pick, one-less, number, step, upTo, Number, Is, Refused, slotAnswer, slotHanded, slotTold, readSlot, budgetAt, noReleases, releases, row, slot, Landed, SlotRead, row-in-sheet, legal-is, legal, numberAt, rowIn, sheetIn, Row, Sheet}
+use Rattle.scenario.proofs.Names.{got, mostRows, Step, after, ok, refuse, accepted, pick, one-less, number, step, upTo, Number, Is, Refused, foundSlot, slotHanded, foundTold, readSlot, budgetAt, noReleases, releases, row, slot, Landed, SlotRead, row-in-sheet, legal-is, legal, numberAt, rowIn, sheetIn, Row, Sheet}
 use Rattle.scenario.proofs.Inside.OneSlot.{row-is, landed-no, landed-ok, land-no, land-ok}
 
 -- the budget of a row is a number of the sheet's list
@@ -100,10 +100,10 @@ module _ (h : Sheet) (l s : List ℕ) (at : ℕ) (x : Number) (e : step x ≡ nu
 
 -- the ways out of `slot_read`
 module _ (h : Sheet) (s : List ℕ) (at : ℕ) (y : Number) (l : List ℕ) (e : Landed (slot h (noReleases mostRows) s at) (step y) l) where
-  pub handed-no : (k p : ℕ) → y ≡ Refused k p → (z : SlotRead) → slotTold z ≡ slotHanded (refuse k p) → slotTold z ≡ slotHanded (slot h (noReleases mostRows) s at)
+  pub handed-no : (k p : ℕ) → y ≡ Refused k p → (z : SlotRead) → foundTold z ≡ slotHanded (refuse k p) → foundTold z ≡ slotHanded (slot h (noReleases mostRows) s at)
   handed-no k p g z f = f ∙ ap slotHanded (sym (landed-no (slot h (noReleases mostRows) s at) l y e k p g))
 
-  pub handed-ok : (v m : ℕ) → y ≡ Is v m → slotAnswer accepted m l ≡ slotHanded (slot h (noReleases mostRows) s at)
+  pub handed-ok : (v m : ℕ) → y ≡ Is v m → foundSlot accepted m l ≡ slotHanded (slot h (noReleases mostRows) s at)
   handed-ok v m g = ap slotHanded (sym (landed-ok (slot h (noReleases mostRows) s at) l y e v m g))
 
 -- the ways out of `read_slot`
@@ -111,10 +111,10 @@ pub rows-few : (h : Sheet) (t : Bool) → t ≡ legal h → t ≡ true → h .co
 rows-few h t e f = legal-is h (sym e ∙ f) .most-rows
 
 module _ (h : Sheet) (s : List ℕ) (at : ℕ) (t : Bool) (e : t ≡ legal h) (y : SlotRead) where
-  pub slot-legal : t ≡ true → slotTold y ≡ slotHanded (slot h (noReleases mostRows) s at) → slotTold y ≡ readSlot h s at
+  pub slot-legal : t ≡ true → foundTold y ≡ slotHanded (slot h (noReleases mostRows) s at) → foundTold y ≡ readSlot h s at
   unfolding readSlot
   slot-legal f g = g ∙ ap (λ (b : Bool). slotHanded (pick b (slot h (noReleases mostRows) s at) (refuse 10 0))) (sym f ∙ e)
 
-  pub slot-illegal : t ≡ false → slotTold y ≡ slotHanded (refuse 10 0) → slotTold y ≡ readSlot h s at
+  pub slot-illegal : t ≡ false → foundTold y ≡ slotHanded (refuse 10 0) → foundTold y ≡ readSlot h s at
   unfolding readSlot
   slot-illegal f g = g ∙ ap (λ (b : Bool). slotHanded (pick b (slot h (noReleases mostRows) s at) (refuse 10 0))) (sym f ∙ e)
