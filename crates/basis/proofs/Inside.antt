@@ -2,6 +2,7 @@ pub mod FirstRefusal
 pub mod Lists
 pub mod Pairs
 pub mod Steps
+pub mod Stores
 pub mod Sums
 pub mod Tests
 pub mod Upto

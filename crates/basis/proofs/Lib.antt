@@ -1,5 +1,6 @@
 pub mod Marks
 pub mod Refusals
+pub mod Lent
 pub mod Tame
 pub mod Faults
 pub mod Wrong

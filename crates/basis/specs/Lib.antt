@@ -2,6 +2,7 @@ pub mod Prelude
 pub mod Limits
 pub mod Words
 pub mod Refusals
+pub mod Lent
 pub mod Upto
 pub mod Readers
 pub mod Workload

@@ -1,7 +1,8 @@
-// What every crate shares: the limits of a sheet, refusals, and the mark that a file begins with.
+// What every crate shares: the limits of a sheet, refusals, the mark that a file begins with, and what is written into a lent buffer.
 mod limits;
 mod mark;
 mod refusal;
+mod stored;
 
 pub use limits::LONGEST_LABEL;
 pub use limits::MOST_GROUPS;
@@ -10,3 +11,5 @@ pub use limits::MOST_ROWS;
 pub use limits::MOST_SEPARATION;
 pub use mark::begins_with;
 pub use refusal::Refusal;
+pub use stored::Written;
+pub use stored::put_bytes;

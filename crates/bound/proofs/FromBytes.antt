@@ -5,7 +5,7 @@ use Rattle.basis.specs.declared.refusal.Refusal.{Refusal}
 use Rattle.basis.specs.declared.refusal.Refusal.the-variants.{Accepted, Refused}
 use Rattle.basis.proofs.Inside.FirstRefusal.{both-accepted}
 use Rattle.reader.specs.Answers.{reading, labelIn}
-use Rattle.reader.specs.Inside.Steps.{partIn}
+use Rattle.reader.specs.Lists.{partIn}
 use Rattle.reader.proofs.LentLists.{list-kept, labels-kept, list-has-room, labels-have-room, list-as-long, count-read, front-hands-over, sheet-is-legal, outcome-is-the-readers, parts-written, labels-as-long}
 use Rattle.reader.proofs.Inside.ZeroLists.{lists}
 use Rattle.bound.proofs.Answers.{legal-answer, judgement-same}

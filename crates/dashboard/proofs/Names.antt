@@ -36,7 +36,7 @@ pub use Rattle.reader.specs.Answers.{reading, rowsRead}
 unfoldable pub use Rattle.reader.specs.Answers.{labelIn}
 pub use Rattle.reader.specs.Form.{sheet}
 unfoldable pub use Rattle.reader.specs.Form.{bodyBy, entriesBy, entryBy, headBy, labelBy, labelHead, plain, sheetBy}
-unfoldable pub use Rattle.reader.specs.Inside.Steps.{partIn}
+unfoldable pub use Rattle.reader.specs.Lists.{partIn}
 pub use Rattle.reader.specs.Lists.{labelsLong}
 unfoldable pub use Rattle.reader.specs.Longest.{longestRow, longestSheet}
 pub use Rattle.sheet.proofs.Legality.{legal-is}

@@ -2,6 +2,7 @@
 pub use Rattle.basis.proofs.Faults.{apart, values-apart}
 pub use Rattle.basis.proofs.Refusals.{handed-done, handed-found, handed-outcome, or-nothing, room-holds}
 pub use Rattle.basis.specs.Faults.{NoneMeets}
+pub use Rattle.basis.specs.Lent.{writtenTold}
 pub use Rattle.basis.specs.Limits.{mostRows}
 pub use Rattle.basis.specs.Readers.{Step, ok, refuse}
 unfoldable pub use Rattle.basis.specs.Readers.{begins}
@@ -45,7 +46,7 @@ unfoldable pub use Rattle.records.specs.Checks.{checkRow}
 pub use Rattle.records.specs.Records.{noRecord}
 unfoldable pub use Rattle.records.specs.Records.{isZeroJob, legalJob}
 unfoldable pub use Rattle.records.specs.Steps.{aged, codeOf, ended, fits, freeBelow, missed, older, released, worked}
-pub use Rattle.scenario.specs.Answers.{readTold, writtenTold}
+pub use Rattle.scenario.specs.Answers.{readTold}
 unfoldable pub use Rattle.scenario.specs.Answers.{readScenario, writeScenario}
 pub use Rattle.sheet.proofs.Inside.Cells.{cell-past}
 pub use Rattle.sheet.proofs.Inside.FilledLists.{fill-done, zeros, zeros-long}

@@ -7,7 +7,8 @@ use Rattle.scenario.specs.Listed.{ReadRefusal, sheet-not-legal, no-mark, cut-of
 use Rattle.scenario.proofs.Refusals.{read-refusal-is-listed, write-refusal-is-listed}
 use Rattle.scenario.proofs.BothWays.{list-comes-back, file-comes-back}
 use Rattle.basis.specs.Readers.{Bytes}
-use Rattle.scenario.specs.Answers.{nothingBy, putAll, filledBy, writtenBy, checkList}
+use Rattle.basis.specs.Lent.{nothingBy, putAll, writtenBy}
+use Rattle.scenario.specs.Answers.{filledBy, checkList}
 
 -- what is put where there is room is told, or nothing is changed
 put-kept : (k : ℕ) (xs l : List ℕ) (found : ℕ) → (scenarioTold (putAll k xs l) found .0 .0 ≡ 0 → ⊥) → scenarioTold (putAll k xs l) found .1 ≡ (found, l)

@@ -3,7 +3,8 @@ use Rattle.basis.specs.Prelude.{ℕ, List}
 use Rattle.basis.specs.Words.{pick}
 use Rattle.basis.specs.Refusals.{isAccepted}
 use Rattle.sheet.specs.Lists.{sheetIn}
-use Rattle.scenario.specs.Answers.{Answer, readScenario, writeScenario}
+use Rattle.basis.specs.Lent.{Answer}
+use Rattle.scenario.specs.Answers.{readScenario, writeScenario}
 use Rattle.exports.specs.Answers.{told}
 
 -- What reading or writing tells: how many slots or bytes, and what was lent; beside a refusal both are as they were.

@@ -20,9 +20,9 @@ pub use Rattle.reader.specs.Cases.{firstPump, secondPump, twoPumps}
 pub use Rattle.reader.specs.Form.{Entry, Head, Held, body, entries, entry, entryLabel, entryRow, head, isPlain, label, markBytes, sheet}
 unfoldable pub use Rattle.reader.specs.Form.{bodyBy, entriesBy, entryBy, headBy, labelBy, labelHead, plain, sheetBy}
 pub use Rattle.reader.specs.Inside.Steps.{EntryAt, LabelAt, Took, entryStep, headOf, headStep, labelStep, nothing, passedStep, rowStep}
-unfoldable pub use Rattle.reader.specs.Inside.Steps.{handedOver, labelAfter, labelFrom, numbers, partIn, partsIn, putPart, putRow, rowAfter, rowFrom, rowsIn}
+unfoldable pub use Rattle.reader.specs.Inside.Steps.{handedOver, labelAfter, labelFrom, numbers, partsIn, putPart, putRow, rowAfter, rowFrom, rowsIn}
 pub use Rattle.reader.specs.Lists.{labelCell, labelsLong}
-unfoldable pub use Rattle.reader.specs.Lists.{intoLists, readInto}
+unfoldable pub use Rattle.reader.specs.Lists.{intoLists, partIn, readInto}
 pub use Rattle.reader.specs.declared.labels.Parts.{Parts}
 pub use Rattle.reader.specs.declared.row.Part.{Part}
 pub use Rattle.reader.specs.declared.row.Passed.{Passed}

@@ -7,7 +7,7 @@ use basis::MOST_ROWS;
 use numbers::Number;
 
 // The sheet's mark.
-const MARK: [u8; 4] = *b"GSH\x01";
+pub const MARK: [u8; 4] = *b"GSH\x01";
 
 // What reading it gives: processors, rows and the place after them, or a refusal's number and place.
 pub enum HeadRead {

@@ -6,6 +6,7 @@ mod row;
 mod rows;
 mod whole;
 
+pub use head::MARK;
 pub use into::LABELS_LONG;
 pub use into::read_into;
 pub use labels::Parts;

@@ -1,15 +1,10 @@
 -- Both ways, over the promises: a list that is written and read is the list again, a file that is read and written is its very bytes, and so each list has one file and each accepted file one list. Assumes nothing.
 use Rattle.basis.specs.Prelude.{ℕ, zero, suc, _+_, _*_, _/_, _≤_, _%_, _<_, _≡_, refl, sym, ap, ap₂, _∙_, Bool, true, mul-div-cancel, mul-mod-left, List, false, arith, length, getD, take, take-at, drop, sets-eq, ltb, div-add-mod', leb, sets, le-ltb, ltb-false, eq-eqb, le-leb, leb-true}
-use Rattle.scenario.proofs.Names.{first-at, Bytes, Step, ok, refuse, Outcome, accepted, refused, firstOf, pick, Answer, answer, filledBy, nothingBy, writtenBy, checkList, checkWhole, overAt, overBudget, readScenario, writeScenario, Held, budgetAt, scenario, fileOf, scenarioBytes, legal-is, legal, Sheet}
+use Rattle.scenario.proofs.Names.{put-where-room, written-whole, wrote, first-at, Bytes, Step, ok, refuse, Outcome, accepted, refused, firstOf, pick, Answer, answer, filledBy, nothingBy, writtenBy, checkList, checkWhole, overAt, overBudget, readScenario, writeScenario, Held, budgetAt, scenario, fileOf, scenarioBytes, legal-is, legal, Sheet}
+use Rattle.basis.proofs.Inside.Stores.{sets-front}
 use Rattle.scenario.proofs.Inside.Checks.{checked-legal, checked-even, checked-entries}
 use Rattle.scenario.proofs.ReadIsWritten.{read-is-written}
 use Rattle.scenario.proofs.WrittenIsRead.{Fits, written-is-read}
-
--- what was stored at the front, where there is room
-front : (xs l : List ℕ) → length xs ≤ length l → take (length xs) (sets l 0 xs) ≡ xs
-front xs l r =
-    let z : 0 + length xs ≤ length l = omega arith in
-    ap (take (length xs)) (sets-eq xs l 0 z) ∙ take-at xs (drop (0 + length xs) l) (length xs) refl
 
 -- ---- the checks and the facts
 
@@ -42,44 +37,19 @@ fits-checked h k l fine f =
 
 -- ---- list, bytes, list
 
--- what the writer that accepts has done
-record Wrote (h : Sheet) (l out : List ℕ) : Type 0 where
-  checked : checkList h l ≡ accepted
-  room : length (fileOf h l) ≤ length out
-  told : writeScenario h l out ≡ (answer accepted (length (fileOf h l)) (sets out 0 (fileOf h l)))
-
-wrote : (h : Sheet) (l out : List ℕ) → writeScenario h l out .outcome ≡ accepted → Wrote h l out
-unfolding writeScenario
-wrote h l out e = go (checkList h l) refl e
-  where
-    put : (t : Bool) → leb (length (fileOf h l)) (length out) ≡ t → checkList h l ≡ accepted
-        → pick {A = Answer} t (answer accepted (length (fileOf h l)) (sets out 0 (fileOf h l))) (nothingBy (refused 15 0) out) .outcome ≡ accepted → Wrote h l out
-    put true q c f = record {
-      checked = c;
-      room = leb-true _ _ q;
-      told = ap (λ (o : Outcome). writtenBy o (fileOf h l) out) c ∙ ap (λ (t : Bool). pick {A = Answer} t (answer accepted (length (fileOf h l)) (sets out 0 (fileOf h l))) (nothingBy (refused 15 0) out)) q;
-    }
-    put false q c f = let z : _≡_ {A = ℕ} 0 1 = cc in absurd (omega arith)
-
-    go : (o : Outcome) → checkList h l ≡ o → writtenBy o (fileOf h l) out .outcome ≡ accepted → Wrote h l out
-    go accepted q f = put (leb (length (fileOf h l)) (length out)) refl q f
-    go (refused a b) q f = let z : _≡_ {A = ℕ} 0 1 = cc in absurd (omega arith)
-
 -- the bytes that were written, read into any list that is long enough, give the list and its slots
 pub list-comes-back : (h : Sheet) (l out l′ : List ℕ) → writeScenario h l out .outcome ≡ accepted → length l ≤ length l′
-    → readScenario h (take (writeScenario h l out .count) (writeScenario h l out .lent)) l′ ≡ (answer accepted (length l / h .count) (sets l′ 0 l))
-unfolding readScenario
+    → readScenario h (take (writeScenario h l out .count) (writeScenario h l out .lent)) l′ ≡ answer accepted (length l / h .count) (sets l′ 0 l)
+unfolding readScenario writeScenario
 list-comes-back h l out l′ e r =
-    let w = wrote h l out e in
+    let w = wrote (checkList h l) (fileOf h l) out e in
     let fine : legal h ≡ true = checked-legal h l (w .checked) in
-    let bytes : take (writeScenario h l out .count) (writeScenario h l out .lent) ≡ fileOf h l =
-    ap (λ (a : Answer). take (a .count) (a .lent)) (w .told) ∙ front (fileOf h l) out (w .room) in
     let read : scenario h (fileOf h l) 0 ≡ ok (record { slots = length l / h .count; entries = l }) (length (fileOf h l)) =
     written-is-read h (legal-is h fine) (length l / h .count) l (checked-fits h l (w .checked)) in
-    ap (λ (s : List ℕ). pick (legal h) (filledBy (scenario h s 0) l′) (nothingBy (refused 10 0) l′)) bytes
+    ap (λ (s : List ℕ). pick (legal h) (filledBy (scenario h s 0) l′) (nothingBy (refused 10 0) l′)) (w .bytes)
     ∙ ap (λ (t : Bool). pick t (filledBy (scenario h (fileOf h l) 0) l′) (nothingBy (refused 10 0) l′)) fine
     ∙ ap (λ (x : Step Held). filledBy x l′) read
-    ∙ ap (λ (t : Bool). pick {A = Answer} t (answer accepted (length l / h .count) (sets l′ 0 l)) (nothingBy (refused 15 0) l′)) (le-leb (length l) (length l′) r)
+    ∙ put-where-room (length l / h .count) l l′ r
 
 -- ---- bytes, list, bytes
 
@@ -90,7 +60,7 @@ record HasRead (h : Sheet) (s l : List ℕ) : Type 0 where
   end : ℕ
   is : scenario h s 0 ≡ ok held end
   room : length (held .entries) ≤ length l
-  told : readScenario h s l ≡ (answer accepted (held .slots) (sets l 0 (held .entries)))
+  told : readScenario h s l ≡ answer accepted (held .slots) (sets l 0 (held .entries))
 
 has-read : (h : Sheet) (s l : List ℕ) → readScenario h s l .outcome ≡ accepted → HasRead h s l
 unfolding readScenario
@@ -121,19 +91,19 @@ has-read h s l e = legally (legal h) refl e
 
 -- the slots that were read, written into any buffer that is long enough, give the very bytes
 pub file-comes-back : (h : Sheet) (s l out : List ℕ) → Bytes s → readScenario h s l .outcome ≡ accepted → length s ≤ length out
-    → writeScenario h (take (readScenario h s l .count * h .count) (readScenario h s l .lent)) out ≡ (answer accepted (length s) (sets out 0 s))
+    → writeScenario h (take (readScenario h s l .count * h .count) (readScenario h s l .lent)) out ≡ answer accepted (length s) (sets out 0 s)
 unfolding writeScenario
 file-comes-back h s l out bytes e r =
     let w = has-read h s l e in
     let x : Held = w .held in
     let (same, fits) = read-is-written s bytes h x (w .end) (w .is) in
     let back : take (readScenario h s l .count * h .count) (readScenario h s l .lent) ≡ x .entries =
-    ap (λ (a : Answer). take (a .count * h .count) (a .lent)) (w .told) ∙ ap (λ (k : ℕ). take k (sets l 0 (x .entries))) (sym (fits .whole)) ∙ front (x .entries) l (w .room) in
+    ap (λ (a : Answer). take (a .count * h .count) (a .lent)) (w .told) ∙ ap (λ (k : ℕ). take k (sets l 0 (x .entries))) (sym (fits .whole)) ∙ sets-front l (x .entries) (w .room) in
     let k : length (x .entries) / h .count ≡ x .slots = ap (λ (m : ℕ). m / h .count) (fits .whole) ∙ mul-div-cancel (x .slots) (legal-is h (w .legally) .some-rows) in
     let ws : fileOf h (x .entries) ≡ s = ap (λ (j : ℕ). scenarioBytes (h .count) j (x .entries)) k ∙ sym same in
     ap (λ (y : List ℕ). writtenBy (checkList h y) (fileOf h y) out) back
-    ∙ ap₂ (λ (o : Outcome) (y : List ℕ). writtenBy o y out) (fits-checked h (x .slots) (x .entries) (w .legally) fits) ws
-    ∙ ap (λ (t : Bool). pick {A = Answer} t (answer accepted (length s) (sets out 0 s)) (nothingBy (refused 15 0) out)) (le-leb (length s) (length out) r)
+    ∙ ap (λ (y : List ℕ). writtenBy (checkList h (x .entries)) y out) ws
+    ∙ written-whole (checkList h (x .entries)) s out (fits-checked h (x .slots) (x .entries) (w .legally) fits) r
 
 -- two accepted files with equal lists are equal
 pub one-file-each : (h : Sheet) (s t : List ℕ) → Bytes s → Bytes t → (x : Held) (n m : ℕ) → scenario h s 0 ≡ ok x n → scenario h t 0 ≡ ok x m → s ≡ t

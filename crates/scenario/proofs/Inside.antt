@@ -7,5 +7,4 @@ pub mod Moves
 pub mod OneSlot
 pub mod Reads
 pub mod Slotwise
-pub mod Stored
 pub mod Stores

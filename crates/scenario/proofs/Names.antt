@@ -2,9 +2,12 @@
 pub use Rattle.basis.proofs.Inside.FirstRefusal.{first-at, first-found, first-more}
 pub use Rattle.basis.proofs.Inside.Lists.{getD-all}
 pub use Rattle.basis.proofs.Inside.Steps.{after-ok, got, map-step-no, map-step-ok, marked-ok, never-ok, not-stopped, ok-same, passed, refuse-same}
+pub use Rattle.basis.proofs.Inside.Stores.{sets-after}
 pub use Rattle.basis.proofs.Inside.Sums.{sum-grows}
 pub use Rattle.basis.proofs.Inside.Tests.{tests}
 pub use Rattle.basis.proofs.Inside.Words.{lt-or-le}
+pub use Rattle.basis.proofs.Lent.{put-refused, put-where-room, written-same, written-whole, wrote}
+pub use Rattle.basis.specs.Lent.{Answer, answer, nothingBy, writtenBy, writtenTold}
 pub use Rattle.basis.specs.Limits.{mostGroups, mostRows, mostSeparation}
 pub use Rattle.basis.specs.Readers.{Bytes, Reader, Step, after, give, marked, ok, refuse, refuse-at}
 unfoldable pub use Rattle.basis.specs.Readers.{begins, mapStep}
@@ -23,7 +26,7 @@ pub use Rattle.numbers.specs.Numbers.{number, spell, step, upTo}
 unfoldable pub use Rattle.numbers.specs.Numbers.{groups, spelt, upToBy, width}
 pub use Rattle.numbers.specs.declared.number.Number.{Number}
 pub use Rattle.numbers.specs.declared.number.Number.the-variants.{Is, Refused}
-pub use Rattle.scenario.specs.Answers.{Answer, FoundSlot, answer, filledBy, nothingBy, readTold, foundSlot, slotHanded, foundTold, writtenBy, writtenTold}
+pub use Rattle.scenario.specs.Answers.{FoundSlot, filledBy, readTold, foundSlot, slotHanded, foundTold}
 unfoldable pub use Rattle.scenario.specs.Answers.{checkList, checkWhole, overAt, overBudget, readScenario, readSlot, writeScenario}
 pub use Rattle.scenario.specs.Cases.{files, twoRows}
 pub use Rattle.scenario.specs.Form.{Held, budgetAt, markBytes, noReleases, noSlots, slotBefore}

@@ -1,7 +1,6 @@
 -- Every refusal of the reader is one of the table's: of the bytes at its place in them, 10 and 15 at 0; and every one of the writer. Assumes nothing.
 use Rattle.basis.specs.Prelude.{ℕ, zero, suc, _+_, _%_, _<_, _≡_, refl, sym, ap₂, _∙_, _⊎_, inl, inr, ⊎-elim, Bool, true, false, List, length, arith, ltb, leb, eqb, getD, sets, mod-lt, zero-lt-suc}
-use Rattle.scenario.proofs.Names.{mostGroups, pick, Step, ok, refuse, after, refuse-at, give, begins, markBytes, Outcome, accepted, refused, never-ok, lt-or-le, number, upTo, upToBy, groups, taken, Sheet, legal, Held, noReleases, noSlots, slotBefore, row, releases, slot, slots, scenario, legal-is, fileOf, firstOf, budgetAt, overBudget, overAt, checkWhole, checkList, readScenario, writeScenario, nothingBy, filledBy, writtenBy, answer}
-use Rattle.scenario.specs.Answers.{putAll}
+use Rattle.scenario.proofs.Names.{put-refused, mostGroups, pick, Step, ok, refuse, after, refuse-at, give, begins, markBytes, Outcome, accepted, refused, never-ok, lt-or-le, number, upTo, upToBy, groups, taken, Sheet, legal, Held, noReleases, noSlots, slotBefore, row, releases, slot, slots, scenario, legal-is, fileOf, firstOf, budgetAt, overBudget, overAt, checkWhole, checkList, readScenario, writeScenario, nothingBy, filledBy, writtenBy, answer}
 use Rattle.basis.specs.Refusals.{orElse}
 use Rattle.basis.proofs.Inside.Steps.{refuse-same, after-no}
 use Rattle.numbers.proofs.Inside.Groups.{ends, low, last, more, over, one-less}
@@ -78,21 +77,13 @@ module _ (s : List ℕ) where
         go true q = slots-no (length s) 4 k p q
         go false q = let (x, y) = refuse-same {A = Held} q in no-mark (sym x) (sym y)
 
--- what is put where there is room
-put-no : (m : ℕ) (xs l : List ℕ) (k p : ℕ) → putAll m xs l .outcome ≡ refused k p → (k ≡ 15) × (p ≡ 0)
-put-no m xs l k p e = go (leb (length xs) (length l)) e
-  where
-    go : (t : Bool) → pick t (answer accepted m (sets l 0 xs)) (nothingBy (refused 15 0) l) .outcome ≡ refused k p → (k ≡ 15) × (p ≡ 0)
-    go true q = let z : _≡_ {A = ℕ} 0 1 = cc in absurd (omega arith)
-    go false q = (cc, cc)
-
 -- every refusal of the reader
 pub read-refusal-is-listed : (h : Sheet) (s l : List ℕ) (k p : ℕ) → readScenario h s l .outcome ≡ refused k p → ReadRefusal s k p
 unfolding readScenario
 read-refusal-is-listed h s l k p e = legally (legal h) e
   where
     read : (x : Step Held) → scenario h s 0 ≡ x → filledBy x l .outcome ≡ refused k p → ReadRefusal s k p
-    read (ok x n) q f = let (a, b) = put-no (x .slots) (x .entries) l k p f in no-room a b
+    read (ok x n) q f = let (a, b) = put-refused (x .slots) (x .entries) l k p f in no-room a b
     read (refuse j i) q f =
         let a : j ≡ k = cc in
         let b : i ≡ p = cc in
@@ -151,5 +142,5 @@ unfolding writeScenario
 write-refusal-is-listed h l out k p e = go (checkList h l) refl e
   where
     go : (o : Outcome) → checkList h l ≡ o → writtenBy o (fileOf h l) out .outcome ≡ refused k p → WriteRefusal (h .count) k p
-    go accepted q f = let (a, b) = put-no (length (fileOf h l)) (fileOf h l) out k p f in short-buffer a b
+    go accepted q f = let (a, b) = put-refused (length (fileOf h l)) (fileOf h l) out k p f in short-buffer a b
     go (refused a b) q f = check-no h l k p (q ∙ f)

@@ -1,10 +1,10 @@
 -- Two answers that the promise of a scenario's function allows are equal. Assumes nothing.
 use Rattle.basis.specs.Prelude.{ℕ, _≡_, List}
-use Rattle.scenario.proofs.Names.{sheetIn, foundTold, readTold, writtenTold, readSlot, readScenario, writeScenario, SlotRead}
+use Rattle.scenario.proofs.Names.{sheetIn, foundTold, readTold, writtenTold, readSlot, readScenario, writeScenario, SlotRead, written-same}
 use Rattle.basis.proofs.Refusals.{outcome-one-to-one}
 use Rattle.basis.proofs.Same.{same, same-by}
 use Rattle.scenario.specs.declared.reader.ScenarioRead.{ScenarioRead}
-use Rattle.scenario.specs.declared.writer.ScenarioWritten.{ScenarioWritten}
+use Rattle.basis.specs.declared.stored.Written.{Written}
 
 -- an answer of the code stands for one answer of the definition
 pub slot-one-to-one : (a b : SlotRead) → foundTold a ≡ foundTold b → a ≡ b
@@ -24,9 +24,6 @@ read-scenario-same sheet s l a b m n e f =
     (λ i. record { refusal = r i; slots = g i .count }, λ i. g i .lent)
 
 -- `write_scenario`: the answer, and the buffer after it
-pub write-scenario-same : (sheet l out : List ℕ) (a b : ScenarioWritten) (m n : List ℕ)
+pub write-scenario-same : (sheet l out : List ℕ) (a b : Written) (m n : List ℕ)
     → writtenTold a m ≡ writeScenario (sheetIn sheet) l out → writtenTold b n ≡ writeScenario (sheetIn sheet) l out → (a ≡ b) × (m ≡ n)
-write-scenario-same sheet l out a b m n e f =
-    let g = same (writeScenario (sheetIn sheet) l out) (writtenTold a m) (writtenTold b n) e f in
-    let r = outcome-one-to-one (a .refusal) (b .refusal) (λ i. g i .outcome) in
-    (λ i. record { refusal = r i; length = g i .count }, λ i. g i .lent)
+write-scenario-same sheet l out = written-same (writeScenario (sheetIn sheet) l out)

@@ -1,16 +1,16 @@
 -- What the reader of a slot, the reader and the writer of a scenario answer, and what they leave in the list and in the buffer.
-use Rattle.basis.specs.Prelude.{ℕ, _%_, List, length, getD, sets, ltb, leb, eqb}
+use Rattle.basis.specs.Prelude.{ℕ, _%_, List, length, getD, ltb, eqb}
 use Rattle.basis.specs.Limits.{mostRows}
 use Rattle.basis.specs.Words.{pick}
 use Rattle.basis.specs.Refusals.{Outcome, accepted, refused, outcome, firstOf}
 use Rattle.basis.specs.Readers.{Step, ok, refuse}
+use Rattle.basis.specs.Lent.{Answer, answer, nothingBy, putAll, writtenBy}
 use Rattle.sheet.specs.Legal.{legal}
 use Rattle.sheet.specs.declared.row.Sheet.{Sheet}
 use Rattle.scenario.specs.Form.{Held, budgetAt, noReleases, slot, scenario}
 use Rattle.scenario.specs.Written.{fileOf}
 use Rattle.scenario.specs.declared.slot.SlotRead.{SlotRead}
 use Rattle.scenario.specs.declared.reader.ScenarioRead.{ScenarioRead}
-use Rattle.scenario.specs.declared.writer.ScenarioWritten.{ScenarioWritten}
 
 -- What reading one slot answers: its outcome, the place after the slot, and an entry for each row.
 pub record FoundSlot : Type 0 where
@@ -34,29 +34,9 @@ slotHanded (refuse number place) = foundSlot (refused number place) 0 (noRelease
 unfoldable pub readSlot : Sheet → List ℕ → ℕ → FoundSlot
 readSlot h s at = slotHanded (pick (legal h) (slot h (noReleases mostRows) s at) (refuse 10 0))
 
--- What reading and writing a scenario answer: the outcome, how many slots or bytes, and the list or the buffer that was lent, as it is left.
-pub record Answer : Type 0 where
-  pub outcome : Outcome
-  pub count : ℕ
-  pub lent : List ℕ
-
-abbrev pub answer : Outcome → ℕ → List ℕ → Answer
-answer o count lent = record { outcome = o; count = count; lent = lent }
-
--- What the code's answers stand for, with what is lent.
+-- What the code's answer stands for, with its list.
 abbrev pub readTold : ScenarioRead → List ℕ → Answer
 readTold r l = answer (outcome (r .refusal)) (r .slots) l
-
-abbrev pub writtenTold : ScenarioWritten → List ℕ → Answer
-writtenTold r out = answer (outcome (r .refusal)) (r .length) out
-
--- Refused: nothing is counted, and nothing is written.
-abbrev pub nothingBy : Outcome → List ℕ → Answer
-nothingBy o l = answer o 0 l
-
--- So many, and these are written at the front where there is room; 15 where there is not. What is past them stays.
-abbrev pub putAll : ℕ → List ℕ → List ℕ → Answer
-putAll k xs l = pick (leb (length xs) (length l)) (answer accepted k (sets l 0 xs)) (nothingBy (refused 15 0) l)
 
 -- What was read into a list.
 abbrev pub filledBy : Step Held → List ℕ → Answer
@@ -82,11 +62,6 @@ checkWhole h l = pick (eqb (length l % h .count) 0) (firstOf (length l) (overAt 
 -- 10, 11, 12.
 unfoldable pub checkList : Sheet → List ℕ → Outcome
 checkList h l = pick (legal h) (checkWhole h l) (refused 10 0)
-
--- What was written into a buffer, after the checks.
-abbrev pub writtenBy : Outcome → List ℕ → List ℕ → Answer
-writtenBy accepted w out = putAll (length w) w out
-writtenBy (refused number place) w out = nothingBy (refused number place) out
 
 -- The writer's answer: 10, 11, 12, then 15.
 unfoldable pub writeScenario : Sheet → List ℕ → List ℕ → Answer

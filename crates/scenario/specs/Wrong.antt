@@ -7,15 +7,16 @@ use Rattle.numbers.specs.Numbers.{number, upTo, spell}
 use Rattle.sheet.specs.declared.row.Sheet.{Sheet}
 use Rattle.scenario.specs.Form.{Held, noSlots, slotBefore, markBytes, budgetAt, noReleases, row, releases, untilEnd}
 use Rattle.scenario.specs.Written.{releasesIn, releasesBytes}
-use Rattle.scenario.specs.Answers.{Answer, answer, readTold, writtenTold, nothingBy, filledBy, checkList, writtenBy}
+use Rattle.basis.specs.Lent.{Answer, answer, writtenTold, nothingBy, writtenBy}
+use Rattle.scenario.specs.Answers.{readTold, filledBy, checkList}
 use Rattle.scenario.specs.declared.reader.ScenarioRead.{ScenarioRead}
-use Rattle.scenario.specs.declared.writer.ScenarioWritten.{ScenarioWritten}
+use Rattle.basis.specs.declared.stored.Written.{Written}
 
 -- The code's answer with the list or the buffer after it.
 abbrev pub readAnswer : ScenarioRead × List ℕ → Answer
 readAnswer (r, l) = readTold r l
 
-abbrev pub writtenAnswer : ScenarioWritten × List ℕ → Answer
+abbrev pub writtenAnswer : Written × List ℕ → Answer
 writtenAnswer (r, out) = writtenTold r out
 
 -- k releases by another rule of a count, and of the least row after one.

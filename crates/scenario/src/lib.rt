@@ -9,5 +9,4 @@ pub use reader::read_scenario;
 pub use slot::SLOT_REACH;
 pub use slot::SlotRead;
 pub use slot::read_slot;
-pub use writer::ScenarioWritten;
 pub use writer::write_scenario;

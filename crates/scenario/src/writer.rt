@@ -5,20 +5,16 @@ ghost use lib.Dec.{leb};
 ghost use lib.ListN.{length, take, drop};
 ghost use lib.Seq.{sets};
 ghost use Rattle.basis.specs.Limits.{mostRows};
+ghost use Rattle.basis.specs.Lent.{writtenTold};
 ghost use Rattle.basis.specs.Refusals.{outcome, firstOf};
 ghost use Rattle.sheet.specs.Lists.{sheetIn};
 ghost use Rattle.scenario.specs.Written.{releasesIn, releasesBytes, slotBytes, slotsBytes, scenarioBytes};
-ghost use Rattle.scenario.specs.Answers.{writtenTold, overBudget, overAt, checkWhole, checkList, writeScenario};
+ghost use Rattle.scenario.specs.Answers.{overBudget, overAt, checkWhole, checkList, writeScenario};
 ghost use Rattle.scenario.specs.Inside.Parts.{oneReleased, entryBytes, putWritten};
 use crate::reader::MARK;
 use crate::slot::budget_in;
 use basis::Refusal;
-
-// What the writer answers: accepted with the number of bytes, or refused with none.
-pub struct ScenarioWritten {
-    pub refusal: Refusal,
-    pub length: usize,
-}
+use basis::Written;
 
 // The row after a row, of n: after the last comes the first again.
 fn row_after(row: usize, n: usize) -> usize
@@ -221,18 +217,6 @@ fn write_slot_at(releases: &[u64], n: usize, j: usize, bytes: &mut [u8], next: u
     write_slot(&releases[at..end], bytes, next)
 }
 
-// Writes a mark.
-fn put_mark(bytes: &mut [u8], mark: &[u8])
-    requires { ⌜ length (now mark) ≤ length (now bytes) ⌝ }
-    ensures { λ _. ⌜ now (bytes .exit) ≡ sets (now (bytes .entry)) 0 (now (mark .entry)) ⌝ }
-{
-    let mut i: usize = 0;
-    while i < mark.len() {
-        bytes[i] = mark[i];
-        i += 1;
-    }
-}
-
 // Writes so many slots after the mark, and answers the place after them.
 fn write_slots(releases: &[u64], n: usize, slots: usize, bytes: &mut [u8]) -> usize
     requires { ⌜ (n ≤ mostRows) × (slots * n ≡ length (now releases)) × (length (scenarioBytes n slots (now releases)) ≤ length (now bytes)) ⌝ }
@@ -252,35 +236,35 @@ fn write_all(releases: &[u64], n: usize, slots: usize, bytes: &mut [u8]) -> usiz
     requires { ⌜ (n ≤ mostRows) × (slots * n ≡ length (now releases)) × (length (scenarioBytes n slots (now releases)) ≤ length (now bytes)) ⌝ }
     ensures { λ r. ⌜ (r ≡ length (scenarioBytes n slots (now (releases .entry)))) × (now (bytes .exit) ≡ sets (now (bytes .entry)) 0 (scenarioBytes n slots (now (releases .entry)))) ⌝ }
 {
-    put_mark(bytes, &MARK);
+    basis::put_bytes(bytes, 0, &MARK);
     write_slots(releases, n, slots, bytes)
 }
 
 // The same where there is room, and 15 where there is not.
-fn write_checked(releases: &[u64], n: usize, bytes: &mut [u8]) -> ScenarioWritten
+fn write_checked(releases: &[u64], n: usize, bytes: &mut [u8]) -> Written
     requires { ⌜ (1 ≤ n) × (n ≤ mostRows) × (length (now releases) / n * n ≡ length (now releases)) ⌝ }
     ensures { λ r. ⌜ writtenTold r (now (bytes .exit)) ≡ putWritten n (now (releases .entry)) (now (bytes .entry)) ⌝ }
 {
     let slots = releases.len() / n;
     if fits(releases, n, slots, bytes.len()) {
         let length = write_all(releases, n, slots, bytes);
-        return ScenarioWritten {
+        return Written {
             refusal: Refusal::Accepted,
             length,
         };
     }
-    ScenarioWritten {
+    Written {
         refusal: Refusal::Refused(15, 0),
         length: 0,
     }
 }
 
 // Writes the scenario of a release list; the number of bytes, or the one refusal.
-pub fn write_scenario(sheet: &[u64], releases: &[u64], bytes: &mut [u8]) -> ScenarioWritten
+pub fn write_scenario(sheet: &[u64], releases: &[u64], bytes: &mut [u8]) -> Written
     ensures { λ r. ⌜ writtenTold r (now (bytes .exit)) ≡ writeScenario (sheetIn (now (sheet .entry))) (now (releases .entry)) (now (bytes .entry)) ⌝ }
 {
     match check_list(sheet, releases) {
-        Refusal::Refused(number, place) => ScenarioWritten {
+        Refusal::Refused(number, place) => Written {
             refusal: Refusal::Refused(number, place),
             length: 0,
         },

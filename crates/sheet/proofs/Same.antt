@@ -1,7 +1,7 @@
 -- Two answers that a promise allows are equal. Assumes nothing.
 use Rattle.basis.specs.Prelude.{ℕ, _≡_, Bool, List}
 use Rattle.basis.proofs.Same.{same}
-use Rattle.sheet.proofs.Names.{legal, Sheet, numberAt, filled, sheetIn, sheetCell, clearedCell}
+use Rattle.sheet.proofs.Names.{legal, Row, Sheet, rowAt, numberAt, filled, sheetIn, sheetCell, clearedCell}
 
 pub number-at-same : (l : List ℕ) (i r r′ : ℕ) → r ≡ numberAt l i → r′ ≡ numberAt l i → r ≡ r′
 number-at-same l i = same (numberAt l i)
@@ -11,6 +11,9 @@ processors-same l = same (sheetIn l .processors)
 
 pub count-same : (l : List ℕ) (r r′ : ℕ) → r ≡ sheetIn l .count → r′ ≡ sheetIn l .count → r ≡ r′
 count-same l = same (sheetIn l .count)
+
+pub row-at-same : (l : List ℕ) (k : ℕ) (r r′ : Row) → r ≡ rowAt (sheetIn l) k → r′ ≡ rowAt (sheetIn l) k → r ≡ r′
+row-at-same l k = same (rowAt (sheetIn l) k)
 
 pub sheet-in-same : (l : List ℕ) (r r′ : Sheet) → r ≡ sheetIn l → r′ ≡ sheetIn l → r ≡ r′
 sheet-in-same l = same (sheetIn l)

@@ -1,9 +1,9 @@
 -- No answer by a wrong rule of a sheet or its list meets the promise of a function of this crate. Assumes nothing.
 use Rattle.basis.specs.Prelude.{ℕ, refl, List}
-use Rattle.sheet.proofs.Names.{allOf, upto, rowAt, legalRow, legalAt, legal, numberAt, filled, rowIn, sheetIn, rowCell, listCell, sheetCell, clearedCell, Sheet}
+use Rattle.sheet.proofs.Names.{allOf, upto, rowAt, legalRow, legalAt, legal, numberAt, filled, rowIn, sheetIn, rowCell, listCell, sheetCell, clearedCell, Row, Sheet}
 use Rattle.basis.specs.Faults.{NoneMeets}
 use Rattle.basis.proofs.Faults.{values-apart, bit}
-use Rattle.sheet.specs.Wrong.{listA, listE, largest, blankBudget, nines, firstPast, nextPlace, rowsForProcessors, processorsForRows, firstThreads, sameRows, rowForEach, anySheet, nowhereLegal, judgedBy, belowLargest, withBlank, rowPastLast, asItWas, twoNumbers, budgetForDeadline, allCleared, onesFrom}
+use Rattle.sheet.specs.Wrong.{listA, listE, largest, blankBudget, nines, firstPast, nextPlace, rowsForProcessors, processorsForRows, firstThreads, sameRows, rowForEach, firstForEach, exchanged, anySheet, nowhereLegal, judgedBy, belowLargest, withBlank, rowPastLast, asItWas, twoNumbers, budgetForDeadline, allCleared, onesFrom}
 
 -- past its end sheet A's list would go on with 4
 pub first-past-is-shut-out : NoneMeets (firstPast listA 10) (numberAt listA 10)
@@ -52,6 +52,16 @@ any-sheet-is-shut-out = values-apart _ _ bit refl
 pub nowhere-legal-is-shut-out : NoneMeets (nowhereLegal (sheetIn listA)) (legal (sheetIn listA))
 unfolding nowhereLegal legal legalAt legalRow allOf sheetIn rowIn upto
 nowhere-legal-is-shut-out = values-apart _ _ bit refl
+
+-- the first row for every other: sheet A's second has three threads
+pub first-for-each-is-shut-out : NoneMeets (firstForEach listA 1) (rowAt (sheetIn listA) 1)
+unfolding firstForEach sheetIn rowIn upto
+first-for-each-is-shut-out = values-apart _ _ (λ (r : Row). r .threads) refl
+
+-- deadline and budget exchanged: sheet A's first budget would be 5
+pub exchanged-is-shut-out : NoneMeets (exchanged listA 0) (rowAt (sheetIn listA) 0)
+unfolding exchanged sheetIn rowIn upto
+exchanged-is-shut-out = values-apart _ _ (λ (r : Row). r .budget) refl
 
 -- the largest separation refused
 pub below-largest-is-shut-out : NoneMeets (judgedBy belowLargest (sheetIn largest)) (legal (sheetIn largest))

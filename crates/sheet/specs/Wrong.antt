@@ -57,6 +57,16 @@ sameRows l = record { processors = numberAt l 0; count = numberAt l 1; rows = up
 unfoldable pub rowForEach : List ℕ → Sheet
 rowForEach l = record { processors = numberAt l 0; count = numberAt l 0; rows = upto mostRows (rowIn l) (noRows mostRows) }
 
+-- The first row is taken for every other.
+unfoldable pub firstForEach : List ℕ → ℕ → Row
+firstForEach l k = rowAt (sheetIn l) 0
+
+-- A row with its deadline and its budget exchanged.
+unfoldable pub exchanged : List ℕ → ℕ → Row
+exchanged l k =
+    let row = rowAt (sheetIn l) k in
+    record { threads = row .threads; separation = row .separation; deadline = row .budget; budget = row .deadline }
+
 -- Every sheet is in the ranges.
 unfoldable pub anySheet : Sheet → Bool
 anySheet h = true

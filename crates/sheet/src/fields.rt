@@ -6,7 +6,10 @@ ghost use Rattle.basis.specs.Limits.{mostRows};
 ghost use Rattle.sheet.specs.Legal.{rowAt};
 ghost use Rattle.sheet.specs.Lists.{sheetIn, sheetLong};
 use crate::reading::number_at;
+use crate::reading::row_in;
+use crate::row::NO_ROW;
 use crate::row::Row;
+use basis::MOST_ROWS;
 
 // The processors of the sheet that a list hands over.
 pub fn processors(list: &[u64]) -> u64
@@ -20,6 +23,16 @@ pub fn count(list: &[u64]) -> u64
     ensures { λ r. ⌜ r ≡ sheetIn (now (list .entry)) .count ⌝ }
 {
     number_at(list, 1)
+}
+
+// Its row k; all zero where no sheet has such a row.
+pub fn row_at(list: &[u64], k: usize) -> Row
+    ensures { λ r. ⌜ r ≡ rowAt (sheetIn (now (list .entry))) k ⌝ }
+{
+    if k < MOST_ROWS {
+        return row_in(list, k);
+    }
+    NO_ROW
 }
 
 // Its row k, where the list has room for it, read without a look at its end.

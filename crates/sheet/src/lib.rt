@@ -7,6 +7,7 @@ mod writing;
 
 pub use fields::count;
 pub use fields::processors;
+pub use fields::row_at;
 pub use legal::is_legal;
 pub use reading::number_at;
 pub use reading::sheet_in;

@@ -19,7 +19,7 @@ pub fn number_at(list: &[u64], at: usize) -> u64
 }
 
 // Row k of a list, where there is room for one.
-fn row_in(list: &[u64], k: usize) -> Row
+pub(crate) fn row_in(list: &[u64], k: usize) -> Row
     requires { ⌜ k < mostRows ⌝ }
     ensures { λ r. ⌜ r ≡ rowIn (now (list .entry)) k ⌝ }
 {

@@ -1,9 +1,10 @@
 // Right programs, each by one call of what is promised and its answer put together again. Nothing calls them: wrong ones are tried in their place, and turned away.
 ghost use mathlib.Core.Path.{_≡_};
+ghost use Rattle.basis.specs.Lent.{writtenTold};
 ghost use Rattle.sheet.specs.Lists.{sheetIn};
-ghost use Rattle.scenario.specs.Answers.{foundTold, readTold, writtenTold, readSlot, readScenario, writeScenario};
+ghost use Rattle.scenario.specs.Answers.{foundTold, readTold, readSlot, readScenario, writeScenario};
+use basis::Written;
 use scenario::ScenarioRead;
-use scenario::ScenarioWritten;
 use scenario::SlotRead;
 
 // One slot.
@@ -32,11 +33,11 @@ fn list_of(sheet: &[u64], bytes: &[u8], releases: &mut [u64]) -> ScenarioRead
 }
 
 // The file of a list.
-fn file_of(sheet: &[u64], releases: &[u64], bytes: &mut [u8]) -> ScenarioWritten
+fn file_of(sheet: &[u64], releases: &[u64], bytes: &mut [u8]) -> Written
     ensures { λ r. ⌜ writtenTold r (now (bytes .exit)) ≡ writeScenario (sheetIn (now (sheet .entry))) (now (releases .entry)) (now (bytes .entry)) ⌝ }
 {
     let told = scenario::write_scenario(sheet, releases, bytes);
     let refusal = told.refusal;
     let length = told.length;
-    ScenarioWritten { refusal, length }
+    Written { refusal, length }
 }

@@ -2,8 +2,7 @@
 use Rattle.basis.specs.Prelude.{ℕ, _≤_, _<_, _≡_, List, length}
 use Rattle.sheet.specs.Lists.{sheetLong}
 use Rattle.reader.specs.Answers.{reading, labelIn}
-use Rattle.reader.specs.Lists.{labelsLong}
-use Rattle.reader.specs.Inside.Steps.{partIn}
+use Rattle.reader.specs.Lists.{labelsLong, partIn}
 
 -- A list says of the first n rows where the bytes, read as a sheet, have their labels.
 abbrev pub LabelsLie : List ℕ → List ℕ → ℕ → Type 0

@@ -2,8 +2,7 @@
 use Rattle.basis.specs.Prelude.{ℕ, _+_, _*_, _≤_, _<_, _≡_, sym, ap, _∙_, List, arith, length, lt-ltb, le-ltb, le-leb, w64, Fits}
 use Rattle.exports.proofs.Names.{mostRows, Outcome, accepted, outcome, orElse, roomFor, Refusal, Accepted, Refused, handed-outcome, or-nothing, numberAt, filled, sheetIn, sheetCell, sheetLong, clearedCell, cell-past, zeros, zeros-long, reading, labelIn, accepted-is-legal, lists, rows-few, fieldsIn, readIn, labelAnswer}
 use Rattle.sheet.proofs.Inside.ClearedLists.{cleared-is-filled}
-use Rattle.reader.specs.Lists.{labelsLong, intoLists, readInto}
-use Rattle.reader.specs.Inside.Steps.{partIn}
+use Rattle.reader.specs.Lists.{labelsLong, partIn, intoLists, readInto}
 use Rattle.reader.proofs.LentLists.{outcome-is-the-readers, list-kept, reader-accepts, list-has-room, list-written, count-read, parts-written}
 
 -- `giachimu_read`, with a list of labels that has room for every row

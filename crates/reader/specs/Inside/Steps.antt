@@ -108,10 +108,6 @@ putRow l k row =
 unfoldable pub putPart : List ℕ → ℕ → Part → List ℕ
 putPart l k p = set (set l (k * 2) (p .start)) (k * 2 + 1) (p .long)
 
--- Part k of a list.
-unfoldable pub partIn : List ℕ → ℕ → Part
-partIn l k = record { start = numberAt l (k * 2); long = numberAt l (k * 2 + 1) }
-
 -- The first i rows of n stand in a list, after what stands before them,
 unfoldable pub rowsIn : ℕ → ℕ → List ℕ → ℕ → ℕ → List ℕ → List ℕ
 rowsIn m n s at i l = upto (sheetLong i) (listCell m n (rowAfter m s at)) l

@@ -1,8 +1,7 @@
 -- The loops of the writer over the slots, after the mark: what they measure and store, and the whole. Assumes nothing.
 use Rattle.basis.specs.Prelude.{ℕ, zero, suc, _+_, _*_, _-_, _/_, _≤_, _<_, _≡_, refl, sym, ap, _∙_, ap₂, Bool, true, false, List, drop-drop, length-sets, _++_, append-nil, arith, append-assoc, mul-le-mul-right, length, getD, add-one, set, add-zero, take, drop, length-take, div-add-mod', length-append, leb-true, sets, take-all, leb, lt-leb, le-leb}
-use Rattle.scenario.proofs.Names.{mostRows, Outcome, accepted, outcome, refused, pick, Refusal, Answer, answer, nothingBy, writtenBy, checkList, writeScenario, markBytes, putWritten, fileOf, scenarioBytes, slotBytes, slotsBytes, legal-is, Sheet}
+use Rattle.scenario.proofs.Names.{sets-after, mostRows, Outcome, accepted, outcome, refused, pick, Refusal, Answer, answer, nothingBy, writtenBy, checkList, writeScenario, markBytes, putWritten, fileOf, scenarioBytes, slotBytes, slotsBytes, legal-is, Sheet}
 use Rattle.scenario.proofs.Inside.Checks.{checked-legal, checked-even}
-use Rattle.scenario.proofs.Inside.Stored.{sets-after, store-one}
 use Rattle.basis.specs.declared.refusal.Refusal.the-variants as refusal-variants
 
 -- ---- the slots
@@ -122,13 +121,6 @@ wrote-whole n slots l out₀ out₁ out₂ e f = f ∙ ap (λ (x : List ℕ). se
 
 pub same-room : (n slots : ℕ) (l out₀ out₁ : List ℕ) → out₁ ≡ sets out₀ 0 markBytes → length (scenarioBytes n slots l) ≤ length out₀ → length (scenarioBytes n slots l) ≤ length out₁
 same-room n slots l out₀ out₁ e r = omega (arith, ap length e, length-sets out₀ 0 markBytes)
-
--- `put_mark`
-pub mark-one : (l₀ l xs : List ℕ) (i : ℕ) → i < length xs → l ≡ sets l₀ 0 (take i xs) → set l i (getD xs i 0) ≡ sets l₀ 0 (take (i + 1) xs)
-mark-one l₀ l xs i b e = let z : i ≡ 0 + i = omega arith in ap (λ (k : ℕ). set l k (getD xs i 0)) z ∙ store-one l₀ l 0 i xs b e
-
-pub mark-all : (l₀ l xs : List ℕ) (i : ℕ) → length xs ≤ i → l ≡ sets l₀ 0 (take i xs) → l ≡ sets l₀ 0 xs
-mark-all l₀ l xs i b e = e ∙ ap (sets l₀ 0) (take-all i xs b)
 
 -- ---- the whole
 

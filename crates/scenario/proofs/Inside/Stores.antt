@@ -1,8 +1,7 @@
 -- The loop of the writer that stores the entries of a slot, and the room that it has. Assumes nothing.
 use Rattle.basis.specs.Prelude.{ℕ, _+_, _≤_, _<_, _≡_, refl, sym, ap, ap₂, _∙_, List, Bool, [], _++_, length-sets, arith, length, getD, take, drop, take-append-drop, add-zero, length-append, take-all, eqb, sets, eq-eqb, ne-eqb}
-use Rattle.scenario.proofs.Names.{pick, spell, width, entryBytes, releasesBytes, releasesIn, slotBytes}
+use Rattle.scenario.proofs.Names.{sets-after, pick, spell, width, entryBytes, releasesBytes, releasesIn, slotBytes}
 use Rattle.scenario.proofs.Inside.Lengths.{releases-both, bytes-more, entry-some}
-use Rattle.scenario.proofs.Inside.Stored.{sets-after}
 
 -- ---- an entry
 

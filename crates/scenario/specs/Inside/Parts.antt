@@ -5,7 +5,7 @@ use Rattle.basis.specs.Readers.{Step, ok, refuse}
 use Rattle.numbers.specs.Numbers.{spell}
 use Rattle.scenario.specs.Form.{Held, noReleases}
 use Rattle.scenario.specs.Written.{scenarioBytes}
-use Rattle.scenario.specs.Answers.{Answer, putAll}
+use Rattle.basis.specs.Lent.{Answer, putAll}
 
 -- The number of slots.
 abbrev pub slotsOf : Held → ℕ

@@ -1,6 +1,6 @@
 -- Numbers, rows and sheets of a list, as the code reads them. Assumes nothing.
-use Rattle.basis.specs.Prelude.{ℕ, _+_, _*_, _≤_, _<_, _≡_, sym, List, length, set, List·getD-eq-default, arith, le-refl}
-use Rattle.sheet.proofs.Names.{mostRows, upto, upto-set, upto-below, noRow, rowAt, noRows, Row, numberAt, rowIn, sheetIn}
+use Rattle.basis.specs.Prelude.{ℕ, _+_, _*_, _≤_, _<_, _≡_, sym, _∙_, List, length, set, List·getD-eq-default, arith, le-refl}
+use Rattle.sheet.proofs.Names.{mostRows, upto, upto-set, upto-below, length-upto, noRow, rowAt, noRows, Row, numberAt, rowIn, sheetIn}
 
 -- past the end of a list there are zeros
 pub number-past : (l : List ℕ) (i : ℕ) → length l ≤ i → 0 ≡ numberAt l i
@@ -25,6 +25,14 @@ module _ (l : List ℕ) (rows : List Row) (i : ℕ) (so-far : rows ≡ upto i (r
 pub row-in-sheet : (l : List ℕ) (k : ℕ) → k < mostRows → rowAt (sheetIn l) k ≡ rowIn l k
 unfolding sheetIn
 row-in-sheet l k h = upto-below mostRows (rowIn l) (noRows mostRows) noRow k h (le-refl mostRows)
+
+-- `row_at`
+pub row-there : (l : List ℕ) (k : ℕ) → k < mostRows → (row : Row) → row ≡ rowIn l k → row ≡ rowAt (sheetIn l) k
+row-there l k h row e = e ∙ sym (row-in-sheet l k h)
+
+pub row-nowhere : (l : List ℕ) (k : ℕ) → mostRows ≤ k → noRow ≡ rowAt (sheetIn l) k
+unfolding sheetIn
+row-nowhere l k h = sym (List·getD-eq-default (sheetIn l .rows) noRow {n = k} (omega (arith, length-upto mostRows (rowIn l) (noRows mostRows))))
 
 -- `row_inside`
 pub numbers-handed : (l : List ℕ) (k : ℕ) → k < mostRows → _≡_ {A = Row}

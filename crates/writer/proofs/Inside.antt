@@ -1,0 +1,3 @@
+pub mod Checks
+pub mod Lengths
+pub mod Stored

@@ -1,0 +1,34 @@
+-- The names from elsewhere that the proofs here share, passed on under one name.
+pub use Rattle.basis.proofs.Inside.FirstRefusal.{both-accepted, first-at, first-found, first-more}
+pub use Rattle.basis.proofs.Inside.Stores.{sets-after}
+pub use Rattle.basis.proofs.Inside.Sums.{sum-grows, sum-one-more}
+pub use Rattle.basis.proofs.Inside.Words.{all-at, all-fails, all-one-more, all-true, at-least, at-most, both-left, both-right, both-true, lt-or-le, within-true}
+pub use Rattle.basis.proofs.Lent.{put-accepted, put-refused, put-where-room, written-same, written-whole, wrote}
+pub use Rattle.basis.proofs.Refusals.{needed-holds}
+pub use Rattle.basis.specs.Lent.{Answer, answer, nothingBy, putAll, writtenBy, writtenTold}
+pub use Rattle.basis.specs.Limits.{longestLabel, mostGroups, mostProcessors, mostRows, mostSeparation}
+pub use Rattle.basis.specs.Refusals.{Outcome, accepted, needed, orElse, outcome, refused}
+unfoldable pub use Rattle.basis.specs.Refusals.{firstOf}
+pub use Rattle.basis.specs.Words.{both, pick, within}
+unfoldable pub use Rattle.basis.specs.Words.{allOf, sum}
+pub use Rattle.basis.specs.declared.refusal.Refusal.{Refusal}
+pub use Rattle.basis.specs.declared.refusal.Refusal.the-variants.{Accepted, Refused}
+pub use Rattle.numbers.specs.Numbers.{spell}
+unfoldable pub use Rattle.numbers.specs.Numbers.{spelt, width}
+pub use Rattle.reader.specs.Form.{Entry, Held, isPlain, markBytes}
+unfoldable pub use Rattle.reader.specs.Lists.{partIn}
+pub use Rattle.reader.specs.declared.row.Part.{Part}
+pub use Rattle.sheet.proofs.Legality.{legal-is}
+pub use Rattle.sheet.specs.Legal.{Legal, LegalRow, rowAt}
+unfoldable pub use Rattle.sheet.specs.Legal.{legal}
+pub use Rattle.sheet.specs.Lists.{numberAt}
+unfoldable pub use Rattle.sheet.specs.Lists.{sheetIn}
+pub use Rattle.sheet.specs.declared.row.Row.{Row}
+pub use Rattle.sheet.specs.declared.row.Sheet.{Sheet}
+pub use Rattle.writer.specs.Answers.{entryOf, heldBy, partOf, plainAt}
+unfoldable pub use Rattle.writer.specs.Answers.{checkSheet, firstRows, isLabel, labelAt, labelLies, writeSheet}
+pub use Rattle.writer.specs.Form.{labelBytes}
+unfoldable pub use Rattle.writer.specs.Form.{entriesBytes, entryBytes, headBytes, rowBytes, sheetBytes}
+pub use Rattle.writer.specs.Inside.Bounds.{mostEntry, mostHead, mostLabel, mostRow, mostSheet}
+pub use Rattle.writer.specs.Length.{longAt}
+unfoldable pub use Rattle.writer.specs.Length.{entryLong, headLong, rowLong, sheetLength}

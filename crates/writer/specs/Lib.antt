@@ -1,0 +1,4 @@
+pub mod Form
+pub mod Answers
+pub mod Length
+pub mod Inside
