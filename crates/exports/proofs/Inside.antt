@@ -4,4 +4,4 @@ pub mod Calls
 pub mod Fields
 pub mod NumberAnswers
 pub mod Texts
-pub mod ScenarioAnswers
+pub mod LentAnswers

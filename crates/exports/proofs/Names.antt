@@ -19,12 +19,12 @@ pub use Rattle.bound.specs.Lists.{resultsLong}
 unfoldable pub use Rattle.bound.specs.Lists.{boundsOn, resultCell, resultsOn}
 pub use Rattle.dashboard.proofs.Buffers.{verdict-is-printed, written-part}
 unfoldable pub use Rattle.dashboard.specs.Texts.{verdictText}
-pub use Rattle.exports.specs.Answers.{flag, labelOutcome, slotTold, told}
+pub use Rattle.exports.specs.Answers.{flag, labelOutcome, lentTold, slotTold, told}
 unfoldable pub use Rattle.exports.specs.Answers.{boundsIn, fieldsIn, freshIn, labelAnswer, marginGiven, marginIn, readIn, resultsIn, runOn, slotOn, verdictIn}
 pub use Rattle.exports.specs.Further.{boxBy, stateCell}
 unfoldable pub use Rattle.exports.specs.Further.{boxOf, boxOn, fixedIn, numberOn, stepTold, upToOn}
-pub use Rattle.exports.specs.Scenarios.{scenarioTold}
 unfoldable pub use Rattle.exports.specs.Scenarios.{scenarioRead, scenarioWritten}
+unfoldable pub use Rattle.exports.specs.Sheets.{labelsBy, labelsOn, sheetWritten}
 pub use Rattle.green.specs.Demand.{InTime, NoJobIsLate}
 pub use Rattle.machine.specs.Answers.{MarginAnswer, RunAnswer, freshAnswer, margin-is, marginAnswer, no-job, refused-by, runAnswer, slotAnswer, slotBy}
 unfoldable pub use Rattle.machine.specs.Answers.{course, fresh, given, margin, marginAt, nextCodes, nextState, onward, run, slot, slotAt}
@@ -56,3 +56,4 @@ unfoldable pub use Rattle.sheet.specs.Lists.{clearedCell, filled, listCell, row
 pub use Rattle.sheet.specs.declared.row.Sheet.{Sheet}
 pub use Rattle.states.specs.Values.{held, ran}
 unfoldable pub use Rattle.tables.specs.Tables.{fixedSheet}
+unfoldable pub use Rattle.writer.specs.Answers.{writeSheet}

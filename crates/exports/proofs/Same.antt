@@ -2,7 +2,7 @@
 use Rattle.basis.specs.Prelude.{ℕ, _≡_, Bool, List}
 use Rattle.basis.proofs.Same.{same}
 use lib.IntN.{ℤ}
-use Rattle.exports.proofs.Names.{legal, sheetIn, numberOn, upToOn, fixedIn, boxOn, verdictIn, readIn, labelAnswer, boundsIn, freshIn, slotOn, runOn, marginIn, scenarioRead, scenarioWritten}
+use Rattle.exports.proofs.Names.{legal, sheetIn, numberOn, upToOn, fixedIn, boxOn, verdictIn, readIn, labelAnswer, boundsIn, freshIn, slotOn, runOn, marginIn, scenarioRead, scenarioWritten, labelsOn, sheetWritten}
 
 -- `giachimu_read`: the number and the place, and the list.
 pub read-same : (s list : List ℕ) (a b : (ℕ × ℕ) × List ℕ) → a ≡ readIn s list → b ≡ readIn s list → a ≡ b
@@ -11,6 +11,14 @@ read-same s list = same (readIn s list)
 -- `giachimu_label`: the number and the place, where the label starts and how long it is.
 pub label-same : (s : List ℕ) (row : ℕ) (found : ℕ × ℕ) (a b : (ℕ × ℕ) × (ℕ × ℕ)) → a ≡ labelAnswer s row found → b ≡ labelAnswer s row found → a ≡ b
 label-same s row found = same (labelAnswer s row found)
+
+-- `giachimu_labels`: the number and the place, and the list.
+pub labels-same : (s list : List ℕ) (a b : (ℕ × ℕ) × List ℕ) → a ≡ labelsOn s list → b ≡ labelsOn s list → a ≡ b
+labels-same s list = same (labelsOn s list)
+
+-- `giachimu_write`: the number and the place, how many bytes, and the buffer.
+pub write-same : (sheet s labels : List ℕ) (lent : ℕ × List ℕ) (a b : (ℕ × ℕ) × (ℕ × List ℕ)) → a ≡ sheetWritten sheet s labels lent → b ≡ sheetWritten sheet s labels lent → a ≡ b
+write-same sheet s labels lent = same (sheetWritten sheet s labels lent)
 
 -- `giachimu_bounds`: the number and the place, whether the sheet holds, and the list.
 pub bounds-same : (s : List ℕ) (lent : ℕ × List ℕ) (a b : (ℕ × ℕ) × (ℕ × List ℕ)) → a ≡ boundsIn s lent → b ≡ boundsIn s lent → a ≡ b

@@ -1,8 +1,9 @@
 -- What each call for other programs answers: the number and the place of a refusal, or zeros, and every lent list and number afterwards.
 use Rattle.basis.specs.Prelude.{ℕ, Bool, List, length, ltb}
 use lib.IntN.{ℤ}
+use Rattle.basis.specs.Lent as lent
 use Rattle.basis.specs.Words.{pick}
-use Rattle.basis.specs.Refusals.{Outcome, accepted, refused, orElse, needed, roomFor, handed}
+use Rattle.basis.specs.Refusals.{Outcome, accepted, refused, orElse, needed, roomFor, handed, isAccepted}
 use Rattle.reader.specs.Answers.{reading, labelIn}
 use Rattle.sheet.specs.declared.row.Sheet.{Sheet}
 use Rattle.bound.specs.Bound.{Answer, boundsOf}
@@ -21,6 +22,10 @@ told (refused number place) = (number, place)
 -- What a call answers: its outcome is told, and beside a refusal all that was lent is as it was.
 abbrev pub answered : {A : Type 0} → Outcome → A → A → (ℕ × ℕ) × A
 answered o done found = (told o, handed o done found .1)
+
+-- What reading into a lent list or writing into a lent buffer tells: how many slots or bytes, and what was lent; beside a refusal both are as they were.
+abbrev pub lentTold : lent.Answer → ℕ → (ℕ × ℕ) × (ℕ × List ℕ)
+lentTold a found = (told (a .outcome), (pick (isAccepted (a .outcome)) (a .count) found, a .lent))
 
 -- Yes and no as numbers.
 abbrev pub flag : Bool → ℕ

@@ -1,6 +1,7 @@
-// The reader's fields, and the label of a row.
+// A sheet's fields and its labels, as they are read; and its bytes, as they are written.
 ghost use mathlib.Core.Path.{_≡_};
 ghost use Rattle.exports.specs.Answers.{readIn, labelAnswer};
+ghost use Rattle.exports.specs.Sheets.{labelsOn, sheetWritten};
 use crate::telling::tell;
 use basis::Refusal;
 use reader::LABELS_LONG;
@@ -46,6 +47,46 @@ pub extern "C" fn giachimu_label(
             }
             *start = labels[row * 2] as usize;
             *long = labels[row * 2 + 1] as usize;
+            tell(Refusal::Accepted, place)
+        }
+    }
+}
+
+// Where the label of each row starts in the sheet's bytes, and how long it is, in a list.
+#[no_mangle]
+pub extern "C" fn giachimu_labels(bytes: &[u8], labels: &mut [u64], place: &mut usize) -> u64
+    ensures { λ r. ⌜ ((r, now (place .exit)), now (labels .exit)) ≡ labelsOn (now (bytes .entry)) (now (labels .entry)) ⌝ }
+{
+    let mut list = [0u64; SHEET_LONG];
+    let refusal = reader::read_into(bytes, &mut list, labels);
+    match refusal {
+        Refusal::Refused(number, at) => tell(Refusal::Refused(number, at), place),
+        Refusal::Accepted => {
+            let n = sheet::count(&list) as usize;
+            sheet::clear_from(labels, n * 2);
+            tell(Refusal::Accepted, place)
+        }
+    }
+}
+
+// Writes a sheet's bytes from its list and its labels, which are parts of some bytes, and tells how many bytes that is.
+#[no_mangle]
+pub extern "C" fn giachimu_write(
+    sheet: &[u64],
+    bytes: &[u8],
+    labels: &[u64],
+    out: &mut [u8],
+    long: &mut usize,
+    place: &mut usize,
+) -> u64
+    ensures { λ r. ⌜ ((r, now (place .exit)), (now (long .exit), now (out .exit))) ≡ sheetWritten (now (sheet .entry)) (now (bytes .entry)) (now (labels .entry)) (now (long .entry), now (out .entry)) ⌝ }
+{
+    let wrote = writer::write_sheet(sheet, bytes, labels, out);
+    let refusal = wrote.refusal;
+    match refusal {
+        Refusal::Refused(number, at) => tell(Refusal::Refused(number, at), place),
+        Refusal::Accepted => {
+            *long = wrote.length;
             tell(Refusal::Accepted, place)
         }
     }

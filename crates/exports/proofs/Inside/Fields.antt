@@ -1,9 +1,10 @@
--- What `giachimu_read` and `giachimu_label` answer at each way out, where the reader has answered r and written into lists. Assumes nothing.
+-- What `giachimu_read`, `giachimu_labels` and `giachimu_label` answer at each way out, where the reader has answered r and written into lists. Assumes nothing.
 use Rattle.basis.specs.Prelude.{ℕ, _+_, _*_, _≤_, _<_, _≡_, sym, ap, _∙_, List, arith, length, lt-ltb, le-ltb, le-leb, w64, Fits}
-use Rattle.exports.proofs.Names.{mostRows, Outcome, accepted, outcome, orElse, roomFor, Refusal, Accepted, Refused, handed-outcome, or-nothing, numberAt, filled, sheetIn, sheetCell, sheetLong, clearedCell, cell-past, zeros, zeros-long, reading, labelIn, accepted-is-legal, lists, rows-few, fieldsIn, readIn, labelAnswer}
+use Rattle.exports.proofs.Names.{mostRows, Outcome, accepted, outcome, orElse, roomFor, Refusal, Accepted, Refused, handed-outcome, or-nothing, numberAt, filled, sheetIn, sheetCell, sheetLong, clearedCell, cell-past, zeros, zeros-long, reading, labelIn, accepted-is-legal, lists, rows-few, fieldsIn, readIn, labelAnswer, labelsBy, labelsOn}
 use Rattle.sheet.proofs.Inside.ClearedLists.{cleared-is-filled}
-use Rattle.reader.specs.Lists.{labelsLong, partIn, intoLists, readInto}
-use Rattle.reader.proofs.LentLists.{outcome-is-the-readers, list-kept, reader-accepts, list-has-room, list-written, count-read, parts-written}
+use Rattle.reader.specs.Lists.{labelCell, labelsLong, partIn, intoLists, readInto}
+use Rattle.reader.proofs.Inside.ZeroLists.{no-label-past}
+use Rattle.reader.proofs.LentLists.{outcome-is-the-readers, list-kept, labels-kept, labels-written, labels-have-room, reader-accepts, list-has-room, list-written, count-read, parts-written}
 
 -- `giachimu_read`, with a list of labels that has room for every row
 module _ (s list : List ℕ) (r : Refusal) (l b : List ℕ) (e : lists (outcome r) l b ≡ readInto s list (zeros (labelsLong mostRows))) where
@@ -40,6 +41,38 @@ module _ (s list : List ℕ) (r : Refusal) (l b : List ℕ) (e : lists (outcome 
         let whole = cleared-is-filled (sheetCell (reading s .1)) (sheetLong (reading s .1 .count)) list l (list-written s list _ (outcome r) l b e yes)
         (list-has-room s list _ (outcome r) l b e yes) (cell-past (reading s .1) (reading s .1 .count) past) in
         rw (f, sym read-outcome, q, g, rows-are, whole)
+
+-- `giachimu_labels`, with a list for the sheet that has room for every row
+module _ (s labels : List ℕ) (r : Refusal) (l b : List ℕ) (e : lists (outcome r) l b ≡ readInto s (zeros (sheetLong mostRows)) labels) where
+  space : Outcome
+  space = roomFor (labelsLong (reading s .1 .count)) (length labels)
+
+  -- the reader's refusals, then the room for the labels
+  labels-outcome : outcome r ≡ orElse (reading s .0) space
+  unfolding readInto intoLists space
+  labels-outcome =
+      let enough : roomFor (sheetLong (reading s .1 .count)) (length (zeros (sheetLong mostRows))) ≡ accepted =
+      simp (le-leb (sheetLong (reading s .1 .count)) (length (zeros (sheetLong mostRows))) (omega (arith, rows-few s, zeros-long (sheetLong mostRows)))) in
+      (λ i. e i .0) ∙ handed-outcome _ _ (orElse (reading s .0) (orElse (roomFor (sheetLong (reading s .1 .count)) (length (zeros (sheetLong mostRows)))) space)) ∙ rw enough
+
+  pub labels-refused : (k p : ℕ) → r ≡ Refused k p → (t : ℕ × ℕ) → t ≡ (k, p) → (t, b) ≡ labelsOn s labels
+  unfolding labelsOn labelsBy space
+  labels-refused k p q t f = rw (f, sym labels-outcome, q, labels-kept s _ labels (outcome r) l b e k p (ap outcome q))
+
+  module _ (q : r ≡ Accepted) (n : ℕ) (en : n ≡ sheetIn l .count) where
+    labels-count : n ≡ reading s .1 .count
+    labels-count = en ∙ count-read s _ labels (outcome r) l b e (ap outcome q)
+
+    pub labels-fit : Fits w64 (n * 2)
+    labels-fit = record { fits = omega (arith, labels-count, rows-few s) }
+
+    pub labels-are-read : (after : List ℕ) → after ≡ filled (clearedCell (n * 2) b) b → (t : ℕ × ℕ) → t ≡ (0, 0) → (t, after) ≡ labelsOn s labels
+    unfolding labelsOn labelsBy space
+    labels-are-read after g t f =
+        let yes = ap outcome q in
+        let whole = cleared-is-filled (labelCell s) (labelsLong (reading s .1 .count)) labels b (labels-written s _ labels (outcome r) l b e yes)
+        (labels-have-room s _ labels (outcome r) l b e yes) (no-label-past s (reader-accepts s _ labels (outcome r) l b e yes)) in
+        rw (f, sym labels-outcome, q, g, labels-count, whole)
 
 -- `giachimu_label`, with lists that have room for every row
 module _ (s : List ℕ) (r : Refusal) (l b : List ℕ) (e : lists (outcome r) l b ≡ readInto s (zeros (sheetLong mostRows)) (zeros (labelsLong mostRows))) where

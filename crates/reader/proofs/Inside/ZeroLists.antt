@@ -12,6 +12,13 @@ label-cell-past s n h i l =
     pair-zero (λ k. labelIn s k .start) (λ k. labelIn s k .long) n
     (λ k b. ap (λ (p : Part). p .start) (no-label s k (omega arith))) (λ k b. ap (λ (p : Part). p .long) (no-label s k (omega arith))) i l
 
+pub no-label-past : (s : List ℕ) → reading s .0 ≡ accepted → (i : ℕ) → labelsLong (reading s .1 .count) ≤ i → labelCell s i ≡ 0
+no-label-past s e = label-cell-past s (reading s .1 .count) (go (sheet s 0) refl e)
+  where
+    go : (x : Step Held) → sheet s 0 ≡ x → readingOf x .0 ≡ accepted → rowsRead (sheet s 0) ≤ readingOf x .1 .count
+    go (ok h n) q f = rw q (omega arith)
+    go (refuse k p) q f = rw q (omega arith)
+
 -- an outcome with two lists
 abbrev pub Lists : Type 0
 Lists = Outcome × (List ℕ × List ℕ)

@@ -24,8 +24,16 @@ module _ (row : Row) (at a b c d : ℕ) (ea : a ≡ width (row .threads)) (eb : 
   pub row-next : at + a + b + c + d ≡ at + length (rowBytes row)
   unfolding rowBytes width
   row-next =
-      omega (arith, ea, eb, ec, ed, length-append (spell (row .threads)) (spell (row .separation) ++ (spell (row .deadline) ++ spell (row .budget))),
-      length-append (spell (row .separation)) (spell (row .deadline) ++ spell (row .budget)), length-append (spell (row .deadline)) (spell (row .budget)))
+      omega (
+        arith,
+        ea,
+        eb,
+        ec,
+        ed,
+        length-append (spell (row .threads)) (spell (row .separation) ++ (spell (row .deadline) ++ spell (row .budget))),
+        length-append (spell (row .separation)) (spell (row .deadline) ++ spell (row .budget)),
+        length-append (spell (row .deadline)) (spell (row .budget)),
+      )
 
   pub row-stored : (l₀ l₁ l₂ l₃ l₄ : List ℕ) → l₁ ≡ sets l₀ at (spell (row .threads)) → l₂ ≡ sets l₁ (at + a) (spell (row .separation))
       → l₃ ≡ sets l₂ (at + a + b) (spell (row .deadline)) → l₄ ≡ sets l₃ (at + a + b + c) (spell (row .budget)) → l₄ ≡ sets l₀ at (rowBytes row)
@@ -148,22 +156,42 @@ module _ (h : Sheet) (s labels : List ℕ) (e : checkSheet h s labels ≡ accept
       let row : Row = rowAt h k in
       let l : List ℕ = partOf s (partIn labels k) in
       let long : length l ≡ partIn labels k .long = label-long s labels k (checked-at h s labels e k b) in
-      omega (arith, ap (λ (j : ℕ). length (spell j)) long, long, length-append (labelBytes l) (spell (row .threads) ++ (spell (row .separation) ++ (spell (row .deadline) ++ spell (row .budget)))), length-append (spell (length l)) l,
-      length-append (spell (row .threads)) (spell (row .separation) ++ (spell (row .deadline) ++ spell (row .budget))), length-append (spell (row .separation)) (spell (row .deadline) ++ spell (row .budget)), length-append (spell (row .deadline)) (spell (row .budget)))
+      omega (
+        arith,
+        ap (λ (j : ℕ). length (spell j)) long,
+        long,
+        length-append (labelBytes l) (spell (row .threads) ++ (spell (row .separation) ++ (spell (row .deadline) ++ spell (row .budget)))),
+        length-append (spell (length l)) l,
+        length-append (spell (row .threads)) (spell (row .separation) ++ (spell (row .deadline) ++ spell (row .budget))),
+        length-append (spell (row .separation)) (spell (row .deadline) ++ spell (row .budget)),
+        length-append (spell (row .deadline)) (spell (row .budget)),
+      )
 
   rows-long : (n : ℕ) → n ≤ h .count → length (entriesBytes (firstRows n (entryOf h s labels))) ≡ sum n (longAt h labels)
   unfolding sum firstRows entriesBytes
   rows-long zero b = refl
   rows-long (suc n) b =
-      omega (arith, ap length (entries-both (firstRows n (entryOf h s labels)) (entryOf h s labels n ∷ [])), length-append (entriesBytes (firstRows n (entryOf h s labels))) (entryBytes (entryOf h s labels n) ++ []),
-      length-append (entryBytes (entryOf h s labels n)) [], rows-long n (omega arith), row-long n b)
+      omega (
+        arith,
+        ap length (entries-both (firstRows n (entryOf h s labels)) (entryOf h s labels n ∷ [])),
+        length-append (entriesBytes (firstRows n (entryOf h s labels))) (entryBytes (entryOf h s labels n) ++ []),
+        length-append (entryBytes (entryOf h s labels n)) [],
+        rows-long n (omega arith),
+        row-long n b,
+      )
 
   pub sheet-long : length (sheetBytes (heldBy h s labels)) ≡ sheetLength h labels
   unfolding sheetBytes sheetLength headBytes headLong width
   sheet-long =
       let n : length (firstRows (h .count) (entryOf h s labels)) ≡ h .count = rows-count (h .count) (entryOf h s labels) in
-      omega (arith, length-append (headBytes (h .processors) (length (firstRows (h .count) (entryOf h s labels)))) (entriesBytes (firstRows (h .count) (entryOf h s labels))),
-      ap (λ (k : ℕ). length (headBytes (h .processors) k)) n, length-append markBytes (spell (h .processors) ++ spell (h .count)), length-append (spell (h .processors)) (spell (h .count)), rows-long (h .count) (omega arith))
+      omega (
+        arith,
+        length-append (headBytes (h .processors) (length (firstRows (h .count) (entryOf h s labels)))) (entriesBytes (firstRows (h .count) (entryOf h s labels))),
+        ap (λ (k : ℕ). length (headBytes (h .processors) k)) n,
+        length-append markBytes (spell (h .processors) ++ spell (h .count)),
+        length-append (spell (h .processors)) (spell (h .count)),
+        rows-long (h .count) (omega arith),
+      )
 
   module _ (out : List ℕ) (t : Bool) (et : t ≡ leb (sheetLength h labels) (length out)) where
     pub no-room : t ≡ false → nothingBy (refused 15 0) out ≡ writeSheet h s labels out

@@ -1,6 +1,6 @@
 -- `giachimu_read_scenario` meets its promise. Assumes nothing.
 use Rattle.basis.specs.Prelude.{needs}
-use Rattle.exports.proofs.Inside.ScenarioAnswers.{read-refused, read-accepted}
+use Rattle.exports.proofs.Inside.LentAnswers.{read-refused, read-accepted}
 use Rattle.exports.proofs.scenarios.giachimu_read_scenario as this
 
 pub giachimu-read-scenario-spec : {M : Type 1} → this.Statement.statement M

@@ -1,6 +1,6 @@
 -- `giachimu_write_scenario` meets its promise. Assumes nothing.
 use Rattle.basis.specs.Prelude.{needs}
-use Rattle.exports.proofs.Inside.ScenarioAnswers.{write-refused, write-accepted}
+use Rattle.exports.proofs.Inside.LentAnswers.{write-refused, write-accepted}
 use Rattle.exports.proofs.scenarios.giachimu_write_scenario as this
 
 pub giachimu-write-scenario-spec : {M : Type 1} → this.Statement.statement M
