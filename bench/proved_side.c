@@ -33,7 +33,8 @@ static void write_scenario(void) {
 static void write_sheets(void) {
   for (size_t i = 0; i < unwritten_count; i++) {
     length = 0;
-    giachimu_write(unwritten[i].list, GIACHIMU_SHEET_LENGTH, letters, LETTERS, &unwritten[i].labels->start, GIACHIMU_PAIRS_LENGTH, bytes, SHEET_BYTES, &length, &place);
+    const unwritten_t *one = &unwritten[i];
+    giachimu_write(one->list, GIACHIMU_SHEET_LENGTH, letters, LETTERS, &one->labels[0].start, GIACHIMU_PAIRS_LENGTH, bytes, SHEET_BYTES, &length, &place);
   }
 }
 

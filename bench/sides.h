@@ -25,7 +25,7 @@ typedef struct {
   part_t labels[MOST_ROWS];
 } unwritten_t;
 
-/* Sheets to write, and the letters that labels are made of. */
+/* Sheets to write, and the letters that labels are made of: every byte that a label may have. */
 extern const unwritten_t *unwritten;
 extern size_t unwritten_count;
 extern uint8_t letters[LETTERS];

@@ -80,8 +80,8 @@ uint64_t giachimu_label(const uint8_t *bytes, size_t bytes_length, size_t row, s
 /* Where the labels of all rows lie in a sheet's bytes, as a list of labels; places past the last row are made 0. Refusals: 1 to 9, 15. */
 uint64_t giachimu_labels(const uint8_t *bytes, size_t bytes_length, uint64_t *labels, size_t labels_length, size_t *place);
 
-/* Writes a sheet's list, with labels that lie in `bytes`, as a sheet's bytes, and how many these are; `written` past them is left as it was. Refusals: 10, then 6 with the
- * first row whose label is at fault as its place, then 15. */
+/* Writes a sheet's list, with labels that lie in `bytes`, as a sheet's bytes, and how many these are; `written` past them is left as it was. Refusals: 10, then 6 with
+ * the first row whose label is at fault as its place, then 15. */
 uint64_t giachimu_write(const uint64_t *sheet, size_t sheet_length, const uint8_t *bytes, size_t bytes_length, const uint64_t *labels, size_t labels_length,
                         uint8_t *written, size_t written_length, size_t *length, size_t *place);
 
