@@ -23,6 +23,10 @@ sheet_t running;
 uint64_t list[2 + 4 * MOST_ROWS], releases[SLOTS * MOST_ROWS];
 uint8_t scenario[SCENARIO_ROOM];
 size_t scenario_length;
+static unwritten_t pile[BATCH];
+const unwritten_t *unwritten = pile;
+size_t unwritten_count;
+uint8_t letters[LETTERS];
 
 /* The sides, the proved one first; one that is left out is NULL. */
 enum { SIDES = 3 };
@@ -52,7 +56,7 @@ static double first_trial(job_t *job, uint64_t *calls) {
   }
 }
 
-/* One line of a table: the sides by turns, and the best trial of each as a rate, or 0 where a side is left out; the job is so many verdicts or slots. */
+/* One line of a table: the sides by turns, and the best trial of each as a rate, or 0 where a side is left out; the job is so many verdicts, slots or sheets. */
 static void measure(const char *table, const char *name, int job, double units) {
   uint64_t calls[SIDES];
   double best[SIDES], start = now();
@@ -198,6 +202,60 @@ static void scenarios(const char *name, uint64_t rows, uint64_t often, int job) 
   measure("Slots of a scenario", name, job, SLOTS);
 }
 
+/* -- sheets written -- */
+
+/* One sheet more to write, with labels of so many letters at least, taken from the letters anywhere. */
+static void pile_up(sheet_t sheet, uint64_t shortest, uint64_t *seed) {
+  unwritten_t *last = &pile[unwritten_count++];
+  last->sheet = sheet;
+  list_sheet(&sheet, last->list);
+  for (size_t k = 0; k < sheet.count; k++) {
+    uint64_t length = shortest + roll(seed, LONGEST_LABEL - shortest + 1);
+    last->labels[k] = (part_t){roll(seed, LETTERS - length + 1), length};
+  }
+}
+
+/* Every sheet by itself: all sides write it, as the same bytes. */
+static void same_sheets(const char *name) {
+  size_t count = unwritten_count;
+  unwritten_count = 1;
+  for (unwritten = pile; unwritten < pile + count; unwritten++)
+    for (int i = 0; i < SIDES; i++) {
+      if (!side[i]) continue;
+      side[i]->jobs[WRITE_SHEETS]();
+      if (*side[i]->length == 0) differ(name, "a sheet refused");
+      if (*side[i]->length != *proved.length || memcmp(side[i]->bytes, proved.bytes, *proved.length) != 0) differ(name, "a sheet");
+    }
+  unwritten = pile;
+  unwritten_count = count;
+}
+
+static void written(const char *name) {
+  same_sheets(name);
+  measure("A sheet written", name, WRITE_SHEETS, unwritten_count);
+}
+
+static void ordinary_written(const char *name, uint64_t rows, uint64_t longest) {
+  uint64_t seed = 20261115;
+  for (unwritten_count = 0; unwritten_count < BATCH;) pile_up(ordinary(&seed, rows, longest, 40), 1, &seed);
+  written(name);
+}
+
+static void largest_written(const char *name) {
+  uint64_t seed = 20261115;
+  unwritten_count = 0;
+  pile_up(largest(MOST_ROWS, MOST_SEPARATION), LONGEST_LABEL, &seed);
+  written(name);
+}
+
+static void sheets_written(void) {
+  for (size_t i = 0; i < LETTERS; i++) letters[i] = 0x21 + i;
+  ordinary_written("1 row, T to 1,000", 1, 1000);
+  ordinary_written("12 rows, T to 1,000", 12, 1000);
+  ordinary_written("12 rows, T to 1,000,000", 12, 1000000);
+  largest_written("32 longest rows");
+}
+
 int main(void) {
   against("Verdicts, against the same search in C", VERDICTS);
   slots("a run, 2 rows", 2, RUN);
@@ -216,6 +274,7 @@ int main(void) {
   scenarios("written, 8 rows, one in 4", 8, 4, WRITE_SCENARIO);
   scenarios("written, 32 rows, each row released", 32, 1, WRITE_SCENARIO);
   scenarios("written, 32 rows, one in 20", 32, 20, WRITE_SCENARIO);
+  sheets_written();
   against("Verdicts, against the paper's iteration in C", PAPER_VERDICTS);
   growth("Growth with T, against the paper's iteration in C (16 rows, loaded to 40 in a hundred)", PAPER_VERDICTS);
   return 0;

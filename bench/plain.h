@@ -25,6 +25,11 @@ typedef struct {
   size_t length;
 } label_t;
 
+/* Where a label lies in some bytes. */
+typedef struct {
+  uint64_t start, length;
+} part_t;
+
 typedef struct {
   uint64_t processors, count;
   row_t rows[MOST_ROWS];
@@ -52,6 +57,16 @@ static inline bool refuse(reader_t *reader, unsigned number, size_t place) {
   return false;
 }
 
+/* How many bytes a number of at most three groups has. */
+static inline size_t number_length(uint64_t value) { return value < 128 ? 1 : value < 16384 ? 2 : 3; }
+
+/* Writes a number in groups of seven bits; the place after it. */
+static inline uint8_t *write_number(uint8_t *to, uint64_t value) {
+  for (; value >= 128; value /= 128) *to++ = (uint8_t)(128 + value % 128);
+  *to++ = (uint8_t)value;
+  return to;
+}
+
 /* The bound of row k by the bounds above, or 0 for none. */
 typedef uint64_t search_t(const sheet_t *sheet, const uint64_t *bounds, size_t k);
 
@@ -69,5 +84,6 @@ refusal_t plain_slot(const sheet_t *sheet, record_t *state, const uint64_t *rele
 refusal_t plain_run(const sheet_t *sheet, record_t *state, const uint64_t *releases, size_t count, uint8_t *codes, uint64_t *done);
 refusal_t plain_read_scenario(const sheet_t *sheet, const uint8_t *bytes, size_t count, uint64_t *releases, size_t room, uint64_t *slots);
 refusal_t plain_write_scenario(const sheet_t *sheet, const uint64_t *releases, size_t count, uint8_t *bytes, size_t room, size_t *length);
+refusal_t plain_write_sheet(const sheet_t *sheet, const uint8_t *lent, size_t count, const part_t *labels, uint8_t *bytes, size_t room, size_t *length);
 
 #endif

@@ -55,14 +55,6 @@ refusal_t plain_read_scenario(const sheet_t *sheet, const uint8_t *bytes, size_t
   return reader.refusal;
 }
 
-static size_t number_length(uint64_t value) { return value < 128 ? 1 : value < 16384 ? 2 : 3; }
-
-static uint8_t *put_number(uint8_t *to, uint64_t value) {
-  for (; value >= 128; value /= 128) *to++ = (uint8_t)(128 + value % 128);
-  *to++ = (uint8_t)value;
-  return to;
-}
-
 static uint64_t count_releases(const uint64_t *entries, size_t n) {
   uint64_t count = 0;
   for (size_t row = 0; row < n; row++) count += entries[row] != 0;
@@ -77,9 +69,9 @@ static size_t slot_length(const uint64_t *entries, size_t n) {
 }
 
 static uint8_t *put_slot(uint8_t *to, const uint64_t *entries, size_t n) {
-  to = put_number(to, count_releases(entries, n));
+  to = write_number(to, count_releases(entries, n));
   for (size_t row = 0; row < n; row++)
-    if (entries[row] != 0) to = put_number(put_number(to, row), entries[row]);
+    if (entries[row] != 0) to = write_number(write_number(to, row), entries[row]);
   return to;
 }
 

@@ -37,4 +37,11 @@ static void read_scenario(void) { plain_read_scenario(&running, scenario, scenar
 
 static void write_scenario(void) { plain_write_scenario(&running, releases, SLOTS * running.count, bytes, SCENARIO_ROOM, &length); }
 
-const side_t SIDE = {{verdicts, paper_verdicts, run, one_by_one, read_scenario, write_scenario}, text, codes, state, entries, bytes, &length, &done};
+static void write_sheets(void) {
+  for (size_t i = 0; i < unwritten_count; i++) {
+    length = 0;
+    plain_write_sheet(&unwritten[i].sheet, letters, LETTERS, unwritten[i].labels, bytes, SHEET_BYTES, &length);
+  }
+}
+
+const side_t SIDE = {{verdicts, paper_verdicts, run, one_by_one, read_scenario, write_scenario, write_sheets}, text, codes, state, entries, bytes, &length, &done};

@@ -30,4 +30,12 @@ static void write_scenario(void) {
   giachimu_write_scenario(list, GIACHIMU_SHEET_LENGTH, releases, SLOTS * running.count, bytes, SCENARIO_ROOM, &length, &place);
 }
 
-const side_t proved = {{verdicts, verdicts, run, one_by_one, read_scenario, write_scenario}, text, codes, state, entries, bytes, &length, &done};
+static void write_sheets(void) {
+  for (size_t i = 0; i < unwritten_count; i++) {
+    length = 0;
+    const unwritten_t *one = &unwritten[i];
+    giachimu_write(one->list, GIACHIMU_SHEET_LENGTH, letters, LETTERS, &one->labels[0].start, GIACHIMU_PAIRS_LENGTH, bytes, SHEET_BYTES, &length, &place);
+  }
+}
+
+const side_t proved = {{verdicts, verdicts, run, one_by_one, read_scenario, write_scenario, write_sheets}, text, codes, state, entries, bytes, &length, &done};

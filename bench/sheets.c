@@ -7,12 +7,6 @@ uint64_t roll(uint64_t *seed, uint64_t limit) {
   return *seed % limit;
 }
 
-static uint8_t *write_number(uint8_t *to, uint64_t value) {
-  for (; value >= 128; value >>= 7) *to++ = 128 | (value & 127);
-  *to++ = value;
-  return to;
-}
-
 void write_sheet(const sheet_t *sheet, written_t *written) {
   static const uint8_t MARK[] = {0x47, 0x53, 0x48, 0x01};
   uint8_t *to = written->bytes;
@@ -68,6 +62,12 @@ sheet_t long_above_short(uint64_t rows, uint64_t longest) {
 sheet_t equal_wide(uint64_t rows, uint64_t longest) {
   sheet_t sheet = empty(MOST_PROCESSORS);
   while (sheet.count < rows) add(&sheet, MOST_PROCESSORS, longest, longest, longest / (2 * rows) + sheet.count);
+  return sheet;
+}
+
+sheet_t largest(uint64_t rows, uint64_t longest) {
+  sheet_t sheet = empty(MOST_PROCESSORS);
+  while (sheet.count < rows) add(&sheet, MOST_PROCESSORS, longest, longest, longest);
   return sheet;
 }
 

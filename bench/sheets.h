@@ -29,6 +29,9 @@ sheet_t long_above_short(uint64_t rows, uint64_t longest);
 /* Rows on all processors, with budgets that fill the longest separation together. */
 sheet_t equal_wide(uint64_t rows, uint64_t longest);
 
+/* Rows whose every number is as large as it may be. */
+sheet_t largest(uint64_t rows, uint64_t longest);
+
 /* Two rows that fill the box, and one of budget 1 below. */
 sheet_t saturated(uint64_t longest);
 

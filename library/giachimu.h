@@ -8,6 +8,7 @@
  * Beside a refusal nothing else is written, save by giachimu_run and giachimu_box, which say how many slots they did before the refused one.
  *
  * A sheet's list: processors m, rows n, and then of each row threads, separation, deadline, budget.
+ * A list of labels: of each row where its label starts in some bytes, and how many bytes it has.
  * A state's list: of each row remaining, since.
  * A list of results: of each row a word, and the bound or 0.
  * A release list: of each slot an entry for each row, for how many slots it is released, or 0 for no release.
@@ -31,7 +32,7 @@ enum giachimu_refusal {
   GIACHIMU_BAD_NUMBER = 3,         /* a number is too long, or not written in the shortest form */
   GIACHIMU_BAD_PROCESSORS = 4,     /* processors out of range */
   GIACHIMU_BAD_ROWS = 5,           /* rows out of range */
-  GIACHIMU_BAD_LABEL = 6,          /* a label's length or byte out of range */
+  GIACHIMU_BAD_LABEL = 6,          /* a label's length or byte out of range (where a sheet is written: or it lies outside its bytes; the place is the row) */
   GIACHIMU_BLANK = 7,              /* threads, separation, deadline or budget is 0 */
   GIACHIMU_TOO_LARGE = 8,          /* one of these is too large */
   GIACHIMU_BYTES_AFTER = 9,        /* bytes after the last row */
@@ -51,11 +52,15 @@ enum giachimu_code { GIACHIMU_NO_JOB = 0, GIACHIMU_WAITED = 1, GIACHIMU_RAN = 2,
 /* The word of a row's result. */
 enum giachimu_word { GIACHIMU_UNREACHED = 0, GIACHIMU_BOUND = 1, GIACHIMU_NONE = 2 };
 
-/* The most rows of a sheet; the lengths of the lists of such a sheet, and of the longest verdict. */
+/* The most rows of a sheet; the lengths of the lists of such a sheet (states, results and labels are pairs), and of the longest verdict. */
 #define GIACHIMU_MOST_ROWS 32
 #define GIACHIMU_SHEET_LENGTH (4 * GIACHIMU_MOST_ROWS + 2)
 #define GIACHIMU_PAIRS_LENGTH (2 * GIACHIMU_MOST_ROWS)
 #define GIACHIMU_TEXT_LENGTH 1084
+
+/* The bytes of the longest sheet, and of the longest label. */
+#define GIACHIMU_SHEET_BYTES 870
+#define GIACHIMU_LABEL_BYTES 16
 
 /* The bytes of the longest scenario of so many slots of a sheet with so many rows. */
 #define GIACHIMU_SCENARIO_LENGTH(rows, slots) (4 + (slots) * (1 + 4 * (rows)))
@@ -71,6 +76,14 @@ uint64_t giachimu_read(const uint8_t *bytes, size_t bytes_length, uint64_t *shee
 
 /* Where the label of a row starts in the bytes, and how many bytes it has. Refusals: 1 to 9, 14. */
 uint64_t giachimu_label(const uint8_t *bytes, size_t bytes_length, size_t row, size_t *start, size_t *length, size_t *place);
+
+/* Where the labels of all rows lie in a sheet's bytes, as a list of labels; places past the last row are made 0. Refusals: 1 to 9, 15. */
+uint64_t giachimu_labels(const uint8_t *bytes, size_t bytes_length, uint64_t *labels, size_t labels_length, size_t *place);
+
+/* Writes a sheet's list, with labels that lie in `bytes`, as a sheet's bytes, and how many these are; `written` past them is left as it was. Refusals: 10, then 6 with
+ * the first row whose label is at fault as its place, then 15. */
+uint64_t giachimu_write(const uint64_t *sheet, size_t sheet_length, const uint8_t *bytes, size_t bytes_length, const uint64_t *labels, size_t labels_length,
+                        uint8_t *written, size_t written_length, size_t *length, size_t *place);
 
 /* The results of a sheet's rows, and 1 in `holds` where every row has a bound, else 0; places past the last row are made 0. Refusals: 10, 15. */
 uint64_t giachimu_bounds(const uint64_t *sheet, size_t sheet_length, uint64_t *results, size_t results_length, uint64_t *holds, size_t *place);

@@ -2,6 +2,8 @@
 #include "../giachimu.h"
 
 int printf(const char *format, ...);
+int memcmp(const void *a, const void *b, size_t count);
+void *memcpy(void *to, const void *from, size_t count);
 
 static const uint8_t SHEET[] = {0x47, 0x53, 0x48, 0x01, 2, 2, 4, 'r', 'o', 'l', 'l', 2, 2, 2, 1, 4, 't', 'r', 'i', 'm', 1, 4, 4, 2};
 
@@ -61,20 +63,56 @@ static void show_further(const uint64_t *sheet) {
   printf("the box: %llu slots done, refusal %llu at %zu\n", (unsigned long long)done, (unsigned long long)number, place);
 }
 
+static void show_bytes(const char *what, const uint8_t *bytes, size_t count) {
+  printf("a %s of %zu bytes:", what, count);
+  for (size_t i = 0; i < count; i++) printf(" %02x", bytes[i]);
+  printf("\n");
+}
+
 static void show_scenario(const uint64_t *sheet) {
   static const uint64_t RELEASES[] = {1, 2, 0, 0, 1, 0};
   uint8_t bytes[GIACHIMU_SCENARIO_LENGTH(2, 3)];
   uint64_t releases[6] = {0}, slots = 0;
   size_t length = 0, place;
   giachimu_write_scenario(sheet, GIACHIMU_SHEET_LENGTH, RELEASES, 6, bytes, sizeof bytes, &length, &place);
-  printf("a scenario of %zu bytes:", length);
-  for (size_t i = 0; i < length; i++) printf(" %02x", bytes[i]);
+  show_bytes("scenario", bytes, length);
   giachimu_read_scenario(sheet, GIACHIMU_SHEET_LENGTH, bytes, length, releases, 6, &slots, &place);
-  printf("\n%llu slots:", (unsigned long long)slots);
+  printf("%llu slots:", (unsigned long long)slots);
   for (size_t i = 0; i < 6; i++) printf(" %llu", (unsigned long long)releases[i]);
   bytes[8] = 7;
   uint64_t number = giachimu_read_scenario(sheet, GIACHIMU_SHEET_LENGTH, bytes, length, releases, 6, &slots, &place);
   printf("\na slot count of 7: refusal %llu at %zu\n", (unsigned long long)number, place);
+}
+
+/* Writes a sheet whose labels lie in some bytes; how many bytes it has, or 0 and the refusal is shown. */
+static size_t write_sheet(const uint64_t *sheet, const uint8_t *bytes, size_t count, const uint64_t *labels, uint8_t *written) {
+  size_t length = 0, place;
+  uint64_t number = giachimu_write(sheet, GIACHIMU_SHEET_LENGTH, bytes, count, labels, GIACHIMU_PAIRS_LENGTH, written, GIACHIMU_SHEET_BYTES, &length, &place);
+  if (number != GIACHIMU_ACCEPTED) printf("refusal %llu at %zu\n", (unsigned long long)number, place);
+  return length;
+}
+
+/* A correction from end to end: the separation of row 1, then its label, for which there is room behind the sheet's own bytes. */
+static void show_correction(void) {
+  uint64_t sheet[GIACHIMU_SHEET_LENGTH], labels[GIACHIMU_PAIRS_LENGTH];
+  uint8_t bytes[GIACHIMU_SHEET_BYTES + GIACHIMU_LABEL_BYTES], again[GIACHIMU_SHEET_BYTES];
+  size_t place;
+  giachimu_read(SHEET, sizeof SHEET, sheet, GIACHIMU_SHEET_LENGTH, &place);
+  giachimu_labels(SHEET, sizeof SHEET, labels, GIACHIMU_PAIRS_LENGTH, &place);
+  sheet[2 + 4 * 1 + 1] = 200;
+  size_t length = write_sheet(sheet, SHEET, sizeof SHEET, labels, bytes);
+  show_bytes("sheet", bytes, length);
+  giachimu_read(bytes, length, sheet, GIACHIMU_SHEET_LENGTH, &place);
+  giachimu_labels(bytes, length, labels, GIACHIMU_PAIRS_LENGTH, &place);
+  bool same = write_sheet(sheet, bytes, length, labels, again) == length && memcmp(again, bytes, length) == 0;
+  printf("written as it was read, the very bytes: %d\n", same);
+  memcpy(bytes + length, "heel", 4);
+  labels[2 * 1] = length;
+  labels[2 * 1 + 1] = 4;
+  show_verdict(again, write_sheet(sheet, bytes, length + 4, labels, again));
+  bytes[length] = ' ';
+  printf("a label with a blank: ");
+  write_sheet(sheet, bytes, length + 4, labels, again);
 }
 
 int main(void) {
@@ -88,5 +126,6 @@ int main(void) {
   show_run(sheet);
   show_further(sheet);
   show_scenario(sheet);
+  show_correction();
   return 0;
 }

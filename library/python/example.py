@@ -13,6 +13,10 @@ def shown(result):
     return "none 0" if isinstance(result, NoBound) else "unreached 0"
 
 
+def show_bytes(what, data):
+    print(f"a {what} of {len(data)} bytes: {data.hex(' ')}")
+
+
 giachimu = Giachimu(sys.argv[1])
 print(giachimu.verdict(DATA), end="")
 print("green:", int(giachimu.green(DATA)))
@@ -44,10 +48,23 @@ print(f"legal: {int(giachimu.legal(sheet))}, sheet D: {int(giachimu.fixed(3) == 
 ran, _ = giachimu.boxed(sheet, RELEASES)
 print(f"the box: {len(ran.codes)} slots done, {ran.refusal}")
 scenario = giachimu.write_scenario(sheet, [1, 2, 0, 0, 1, 0])
-print(f"a scenario of {len(scenario)} bytes: {scenario.hex(' ')}")
+show_bytes("scenario", scenario)
 slots = giachimu.read_scenario(sheet, scenario)
 print(f"{len(slots)} slots:", *(release for slot in slots for release in slot))
 try:
     giachimu.read_scenario(sheet, scenario[:8] + b"\x07" + scenario[9:])
 except Refused as refused:
     print(f"a slot count of 7: {refused}")
+sheet, labels = giachimu.read_labelled(DATA)
+sheet.rows[1] = sheet.rows[1]._replace(separation=200)
+corrected = giachimu.write(sheet, labels)
+show_bytes("sheet", corrected)
+sheet, labels = giachimu.read_labelled(corrected)
+print("written as it was read, the very bytes:", int(giachimu.write(sheet, labels) == corrected))
+labels[1] = b"heel"
+print(giachimu.verdict(giachimu.write(sheet, labels)), end="")
+labels[1] = b" eel"
+try:
+    giachimu.write(sheet, labels)
+except Refused as refused:
+    print(f"a label with a blank: {refused}")

@@ -5,6 +5,7 @@ from typing import List, NamedTuple, Optional, Union
 
 MOST_ROWS = 32
 TEXT_LENGTH = 1084
+SHEET_BYTES = 870
 
 
 class Refused(Exception):
@@ -109,6 +110,25 @@ class Giachimu:
         self._ask("giachimu_label", data, _length(data), ctypes.c_size_t(row), ctypes.byref(start), ctypes.byref(length))
         return data[start.value : start.value + length.value].decode("ascii")
 
+    def labels(self, data):
+        """The label of each row, as bytes."""
+        list_ = _numbers([0] * (2 * MOST_ROWS))
+        self._ask("giachimu_labels", data, _length(data), list_, _length(list_))
+        return [data[start : start + length] for start, length in zip(list_[::2], list_[1::2]) if length]
+
+    def read_labelled(self, data):
+        """The sheet in some bytes, and the label of each row: any number or label may be corrected, and the sheet written again."""
+        return self.read(data), self.labels(data)
+
+    def write(self, sheet, labels):
+        """The sheet's bytes, with a label for each row, as bytes; a row without one is refused by 6."""
+        numbers, (data, list_), length = _listed(sheet), _joined(labels), ctypes.c_size_t()
+        written = (ctypes.c_uint8 * SHEET_BYTES)()
+        self._ask(
+            "giachimu_write", numbers, _length(numbers), data, _length(data), list_, _length(list_), written, _length(written), ctypes.byref(length)
+        )
+        return bytes(written[: length.value])
+
     def number(self, data, at):
         """The number at a place of some bytes, and the place after it."""
         value, after = ctypes.c_uint64(), ctypes.c_size_t()
@@ -211,3 +231,12 @@ def _sheet(numbers):
 
 def _listed(sheet):
     return _numbers([sheet.processors, len(sheet.rows)] + [number for row in sheet.rows for number in row])
+
+
+def _joined(labels):
+    """Labels one after another in one string of bytes, and the list of where each starts in it and how many bytes it has."""
+    data, list_ = b"", []
+    for label in labels:
+        list_ += [len(data), len(label)]
+        data += label
+    return data, _numbers(list_)

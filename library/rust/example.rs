@@ -6,6 +6,26 @@ use giachimu::{green, label, number, number_up_to, verdict, Outcome, Sheet, Stat
 
 const SHEET: &[u8] = b"GSH\x01\x02\x02\x04roll\x02\x02\x02\x01\x04trim\x01\x04\x04\x02";
 
+fn show_bytes(what: &str, bytes: &[u8]) {
+    let shown: Vec<String> = bytes.iter().map(|byte| format!("{byte:02x}")).collect();
+    println!("a {what} of {} bytes: {}", bytes.len(), shown.join(" "));
+}
+
+/// A correction from end to end: the separation of row 1, then its label.
+fn show_correction() {
+    let (mut sheet, labels) = Sheet::read_labelled(SHEET).expect("a legal sheet");
+    sheet.rows[1].separation = 200;
+    let bytes = sheet.write(&labels).expect("200 is in the range");
+    show_bytes("sheet", &bytes);
+    let (sheet, mut labels) = Sheet::read_labelled(&bytes).expect("it was written");
+    println!("written as it was read, the very bytes: {}", (sheet.write(&labels).as_ref() == Ok(&bytes)) as u8);
+    labels[1] = b"heel";
+    print!("{}", verdict(&sheet.write(&labels).expect("a plain label")));
+    labels[1] = b" eel";
+    let refused = sheet.write(&labels).expect_err("a blank is no byte of a label");
+    println!("a label with a blank: refusal {} at {}", refused.number, refused.place);
+}
+
 fn main() {
     print!("{}", verdict(SHEET));
     println!("green: {}", green(SHEET) as u8);
@@ -44,8 +64,7 @@ fn main() {
     let refusal = run.refusal.expect("the last slot releases too soon");
     println!("the box: {} slots done, refusal {} at {}", run.done, refusal.number, refusal.place);
     let scenario = sheet.write_scenario(&[1, 2, 0, 0, 1, 0]).expect("whole slots within the budgets");
-    let shown: Vec<String> = scenario.iter().map(|byte| format!("{byte:02x}")).collect();
-    println!("a scenario of {} bytes: {}", scenario.len(), shown.join(" "));
+    show_bytes("scenario", &scenario);
     let (slots, releases) = sheet.read_scenario(&scenario).expect("it was written");
     let shown: Vec<String> = releases.iter().map(u64::to_string).collect();
     println!("{slots} slots: {}", shown.join(" "));
@@ -53,4 +72,5 @@ fn main() {
     damaged[8] = 7;
     let refused = sheet.read_scenario(&damaged).expect_err("the count is over the budget");
     println!("a slot count of 7: refusal {} at {}", refused.number, refused.place);
+    show_correction();
 }

@@ -6,6 +6,9 @@ extern "C" {
     fn giachimu_verdict(bytes: *const u8, bytes_length: usize, text: *mut u8, text_length: usize, length: *mut usize, place: *mut usize) -> u64;
     fn giachimu_read(bytes: *const u8, bytes_length: usize, sheet: *mut u64, sheet_length: usize, place: *mut usize) -> u64;
     fn giachimu_label(bytes: *const u8, bytes_length: usize, row: usize, start: *mut usize, length: *mut usize, place: *mut usize) -> u64;
+    fn giachimu_labels(bytes: *const u8, bytes_length: usize, labels: *mut u64, labels_length: usize, place: *mut usize) -> u64;
+    #[rustfmt::skip]
+    fn giachimu_write(sheet: *const u64, sheet_length: usize, bytes: *const u8, bytes_length: usize, labels: *const u64, labels_length: usize, written: *mut u8, written_length: usize, length: *mut usize, place: *mut usize) -> u64;
     fn giachimu_bounds(sheet: *const u64, sheet_length: usize, results: *mut u64, results_length: usize, holds: *mut u64, place: *mut usize) -> u64;
     fn giachimu_fresh(sheet: *const u64, sheet_length: usize, state: *mut u64, state_length: usize, place: *mut usize) -> u64;
     #[rustfmt::skip]
@@ -32,6 +35,9 @@ pub const MOST_ROWS: usize = 32;
 
 /// The bytes of the longest verdict.
 const TEXT_LENGTH: usize = 1084;
+
+/// The bytes of the longest sheet.
+const SHEET_BYTES: usize = 870;
 
 /// Why a call was refused: the number and the place of the table of refusals.
 #[derive(Clone, Copy, Debug, PartialEq, Eq)]
@@ -118,6 +124,25 @@ pub fn label(bytes: &[u8], row: usize) -> Result<&[u8], Refusal> {
     answer(number, place, &bytes[start..start + length])
 }
 
+/// The label of each row, parts of the bytes.
+pub fn labels(bytes: &[u8]) -> Result<Vec<&[u8]>, Refusal> {
+    let (mut list, mut place) = ([0; 2 * MOST_ROWS], 0);
+    // SAFETY: as above.
+    let number = unsafe { giachimu_labels(bytes.as_ptr(), bytes.len(), list.as_mut_ptr(), list.len(), &mut place) };
+    let parts = list.chunks(2).map(|part| (part[0] as usize, part[1] as usize)).take_while(|&(_, length)| length > 0);
+    answer(number, place, parts.map(|(start, length)| &bytes[start..start + length]).collect())
+}
+
+/// Labels one after another in one string of bytes, and the list of where each starts in it and how many bytes it has.
+fn joined(labels: &[impl AsRef<[u8]>]) -> (Vec<u8>, Vec<u64>) {
+    let (mut bytes, mut list) = (vec![], vec![]);
+    for label in labels.iter().map(AsRef::as_ref) {
+        list.extend([bytes.len() as u64, label.len() as u64]);
+        bytes.extend_from_slice(label);
+    }
+    (bytes, list)
+}
+
 /// The number at a place of some bytes, and the place after it.
 pub fn number(bytes: &[u8], at: usize) -> Result<(u64, usize), Refusal> {
     let (mut value, mut after, mut place) = (0, 0, 0);
@@ -141,6 +166,23 @@ impl Sheet {
         // SAFETY: as above.
         let number = unsafe { giachimu_read(bytes.as_ptr(), bytes.len(), list.as_mut_ptr(), list.len(), &mut place) };
         answer(number, place, Sheet::listed(&list))
+    }
+
+    /// The sheet in some bytes, and the label of each row: any number or label may be corrected, and the sheet written again.
+    pub fn read_labelled(bytes: &[u8]) -> Result<(Sheet, Vec<&[u8]>), Refusal> {
+        Ok((Sheet::read(bytes)?, labels(bytes)?))
+    }
+
+    /// The sheet's bytes, with a label for each row; a row without one is refused by 6.
+    pub fn write(&self, labels: &[impl AsRef<[u8]>]) -> Result<Vec<u8>, Refusal> {
+        let (list, (bytes, labels)) = (self.list(), joined(labels));
+        let (mut written, mut length, mut place) = (vec![0; SHEET_BYTES], 0, 0);
+        // SAFETY: as above.
+        let number = unsafe {
+            giachimu_write(list.as_ptr(), list.len(), bytes.as_ptr(), bytes.len(), labels.as_ptr(), labels.len(), written.as_mut_ptr(), written.len(), &mut length, &mut place)
+        };
+        written.truncate(length);
+        answer(number, place, written)
     }
 
     /// A worked sheet, A to F by 0 to 5; a sheet of zeros by any other number.
