@@ -1,2 +1,4 @@
+pub mod ReadIsWritten
+pub mod WrittenIsRead
 pub mod Inside
 mod Names

@@ -1,4 +1,6 @@
 pub mod Form
 pub mod Answers
 pub mod Length
+pub mod Good
+pub mod Listed
 pub mod Inside
