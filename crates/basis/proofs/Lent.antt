@@ -20,7 +20,7 @@ written-same x a b m n e f =
     (λ i. record { refusal = r i; length = g i .count }, λ i. g i .lent)
 
 module _ (k : ℕ) (xs l : List ℕ) where
-  -- where there is room, and where there is not
+  -- where there is room
   pub put-where-room : length xs ≤ length l → putAll k xs l ≡ answer accepted k (sets l 0 xs)
   put-where-room r = ap (λ (t : Bool). pick {A = Answer} t (answer accepted k (sets l 0 xs)) (nothingBy (refused 15 0) l)) (le-leb (length xs) (length l) r)
 
@@ -57,3 +57,13 @@ wrote (refused a b) w out e = let z : _≡_ {A = ℕ} 0 1 = cc in absurd (omega 
 -- the checks are passed and there is room: all is written
 pub written-whole : (o : Outcome) (w out : List ℕ) → o ≡ accepted → length w ≤ length out → writtenBy o w out ≡ answer accepted (length w) (sets out 0 w)
 written-whole o w out e r = ap (λ (x : Outcome). writtenBy x w out) e ∙ put-where-room (length w) w out r
+
+-- beside a refusal nothing is written, and nothing is counted
+pub written-kept : (o : Outcome) (w out : List ℕ) (k p : ℕ) → writtenBy o w out .outcome ≡ refused k p → (writtenBy o w out .count ≡ 0) × (writtenBy o w out .lent ≡ out)
+written-kept accepted w out k p e = go (leb (length w) (length out)) e
+  where
+    go : (t : Bool) → pick {A = Answer} t (answer accepted (length w) (sets out 0 w)) (nothingBy (refused 15 0) out) .outcome ≡ refused k p
+        → (pick {A = Answer} t (answer accepted (length w) (sets out 0 w)) (nothingBy (refused 15 0) out) .count ≡ 0) × (pick {A = Answer} t (answer accepted (length w) (sets out 0 w)) (nothingBy (refused 15 0) out) .lent ≡ out)
+    go true q = let z : _≡_ {A = ℕ} 0 1 = cc in absurd (omega arith)
+    go false q = (refl, refl)
+written-kept (refused a b) w out k p e = (refl, refl)

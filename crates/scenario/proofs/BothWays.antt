@@ -1,6 +1,7 @@
 -- Both ways, over the promises: a list that is written and read is the list again, a file that is read and written is its very bytes, and so each list has one file and each accepted file one list. Assumes nothing.
 use Rattle.basis.specs.Prelude.{ℕ, zero, suc, _+_, _*_, _/_, _≤_, _%_, _<_, _≡_, refl, sym, ap, ap₂, _∙_, Bool, true, mul-div-cancel, mul-mod-left, List, false, arith, length, getD, take, take-at, drop, sets-eq, ltb, div-add-mod', leb, sets, le-ltb, ltb-false, eq-eqb, le-leb, leb-true}
 use Rattle.scenario.proofs.Names.{put-where-room, written-whole, wrote, first-at, Bytes, Step, ok, refuse, Outcome, accepted, refused, firstOf, pick, Answer, answer, filledBy, nothingBy, writtenBy, checkList, checkWhole, overAt, overBudget, readScenario, writeScenario, Held, budgetAt, scenario, fileOf, scenarioBytes, legal-is, legal, Sheet}
+use Rattle.basis.proofs.Inside.FirstRefusal.{all-accepted}
 use Rattle.basis.proofs.Inside.Stores.{sets-front}
 use Rattle.scenario.proofs.Inside.Checks.{checked-legal, checked-even, checked-entries}
 use Rattle.scenario.proofs.ReadIsWritten.{read-is-written}
@@ -19,11 +20,6 @@ checked-fits h l e = record {
     go : (i : ℕ) (t : Bool) → ltb (budgetAt h (i % h .count)) (getD l i 0) ≡ t → pick t (refused 12 (i % h .count)) accepted ≡ accepted → getD l i 0 ≤ budgetAt h (i % h .count)
     go i true q f = let z : _≡_ {A = ℕ} 0 1 = cc in absurd (omega arith)
     go i false q f = ltb-false (budgetAt h (i % h .count)) (getD l i 0) q
-
-all-accepted : (n : ℕ) (f : ℕ → Outcome) → ((i : ℕ) → i < n → f i ≡ accepted) → firstOf n f ≡ accepted
-unfolding firstOf
-all-accepted zero f h = refl
-all-accepted (suc n) f h = rw (all-accepted n f (λ i b. h i (omega arith)), h n (omega arith))
 
 -- and a list that fits is accepted
 pub fits-checked : (h : Sheet) (k : ℕ) (l : List ℕ) → legal h ≡ true → Fits h k l → checkList h l ≡ accepted

@@ -1,3 +1,4 @@
 pub mod Checks
+pub mod Held
 pub mod Lengths
 pub mod Stored

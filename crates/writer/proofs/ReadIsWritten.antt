@@ -4,23 +4,20 @@ use Rattle.writer.proofs.Names.{all-true, both-true, within, within-tru
 use Rattle.reader.proofs.Inside.Plain.{plain-ok}
 use Rattle.reader.proofs.Inside.LabelPlaces.{rowed, whole}
 use Rattle.reader.proofs.LegalSheets.{read-is-legal}
+use Rattle.writer.proofs.Inside.Checks.{part-is-label}
 
 module _ (s : List ℕ) where
   -- ---- what was read can be written
 
   label-good : (at : ℕ) (bs : List ℕ) (n : ℕ) → label s at ≡ ok bs n → isLabel bs ≡ true
-  unfolding labelBy isLabel
+  unfolding labelBy
   label-good at bs n e =
       after-ok (upTo longestLabel 6 6 s at) _ e λ k st e₁ e₂.
       after-ok (enough k s st) _ e₂ λ u m e₃ e₄.
+      let (fits, em) = enough-ok k s st u m e₃ in
       let r = plain-ok k s m bs n e₄ in
       let b = bounded longestLabel 6 6 s at k st e₁ in
-      let each : (j : ℕ) → j < length bs → plainAt bs j ≡ true =
-      λ j h.
-      let same : getD bs j 0 ≡ getD s (m + j) 0 = ap (λ (x : List ℕ). getD x j 0) (r .bytes) ∙ getD-take k (drop m s) j 0 (omega (arith, r .long)) ∙ getD-drop m s j 0 in
-      ap isPlain same ∙ r .plainly j (omega (arith, r .long)) in
-      both-true (within 1 longestLabel (length bs)) (allOf (length bs) (plainAt bs))
-      (within-true 1 longestLabel (length bs) (omega (arith, r .long, b .positive)) (omega (arith, r .long, b .not-over))) (all-true (length bs) (plainAt bs) each)
+      ap isLabel (r .bytes) ∙ part-is-label s (record { start = m; long = k }) (b .positive) (b .not-over) (omega arith) (r .plainly)
 
   entry-good : (m at : ℕ) (x : Entry) (n : ℕ) → entry m s at ≡ ok x n → GoodEntry m x
   entry-good m at x n e = let r = rowed m s at x n e in record { labelled = label-good at (x .label) (r .from) (r .labelled); in-ranges = r .legal }

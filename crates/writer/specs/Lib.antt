@@ -3,4 +3,5 @@ pub mod Answers
 pub mod Length
 pub mod Good
 pub mod Listed
+pub mod Cases
 pub mod Inside

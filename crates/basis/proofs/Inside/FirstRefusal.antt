@@ -25,6 +25,12 @@ first-at (suc n) f e i h =
     let (below, here) = both-accepted (firstOf n f) (f n) e in
     ⊎-elim (λ q. rw q here) (λ l. first-at n f below i l) (eq-or-lt-of-le {n = i} {m = n} (omega arith))
 
+-- and where none of them is refused, nothing is
+pub all-accepted : (n : ℕ) (f : ℕ → Outcome) → ((i : ℕ) → i < n → f i ≡ accepted) → firstOf n f ≡ accepted
+unfolding firstOf
+all-accepted zero f h = refl
+all-accepted (suc n) f h = rw (all-accepted n f (λ i b. h i (omega arith)), h n (omega arith))
+
 pub first-same : (n : ℕ) (f g : ℕ → Outcome) → ((i : ℕ) → i < n → f i ≡ g i) → firstOf n f ≡ firstOf n g
 unfolding firstOf
 first-same zero f g h = refl

@@ -1,6 +1,6 @@
 -- Each way out of the functions that check, and what is known where nothing is refused. Assumes nothing.
-use Rattle.basis.specs.Prelude.{ℕ, _+_, _*_, _-_, _≤_, _<_, _≡_, refl, sym, ap, _∙_, Bool, true, false, ⊎-elim, List, arith, length, length-take, length-drop, take, drop, getD, leb, lt-leb, le-leb, leb-true, le-ltb, add-sub-cancel-left}
-use Rattle.writer.proofs.Names.{both-accepted, first-at, first-found, first-more, all-fails, all-one-more, at-least, at-most, both-left, both-right, both-true, lt-or-le, within-true, needed-holds, longestLabel, mostRows, Outcome, accepted, needed, orElse, outcome, refused, firstOf, both, pick, within, allOf, Refusal, Accepted, Refused, isPlain, partIn, Part, legal-is, legal, numberAt, Sheet, partOf, plainAt, checkSheet, isLabel, labelAt, labelLies}
+use Rattle.basis.specs.Prelude.{ℕ, _+_, _*_, _-_, _≤_, _<_, _≡_, refl, sym, ap, _∙_, Bool, true, false, ⊎-elim, List, arith, length, length-take, length-drop, take, drop, getD, getD-take, getD-drop, leb, lt-leb, le-leb, leb-true, le-ltb, add-sub-cancel-left}
+use Rattle.writer.proofs.Names.{both-accepted, first-at, first-found, first-more, all-fails, all-one-more, all-true, at-least, at-most, both-left, both-right, both-true, lt-or-le, within-true, needed-holds, longestLabel, mostRows, Outcome, accepted, needed, orElse, outcome, refused, firstOf, both, pick, within, allOf, Refusal, Accepted, Refused, isPlain, partIn, Part, legal-is, legal, numberAt, Sheet, partOf, plainAt, checkSheet, isLabel, labelAt, labelLies}
 
 -- `part_of`
 pub part-read : (labels : List ℕ) (k a b : ℕ) → a ≡ numberAt labels (k * 2) → b ≡ numberAt labels (k * 2 + 1) → record { start = a; long = b } ≡ partIn labels k
@@ -68,6 +68,16 @@ module _ (s : List ℕ) (p : Part) where
       let et : t ≡ allOf (length (partOf s p)) (plainAt (partOf s p)) = e ∙ ap (λ (k : ℕ). allOf (length (take k (drop (p .start) s))) (plainAt (take k (drop (p .start) s)))) cut in
       let w : within 1 longestLabel (length (partOf s p)) ≡ true = rw (part-long h) (within-true 1 longestLabel (p .long) a b) in
       et ∙ sym (simp (le-leb (p .start + p .long) (length s) h, w))
+
+-- a part that lies inside, of so many bytes that a label may have, is a label
+pub part-is-label : (s : List ℕ) (p : Part) → 1 ≤ p .long → p .long ≤ longestLabel → p .start + p .long ≤ length s → ((j : ℕ) → j < p .long → isPlain (getD s (p .start + j) 0) ≡ true) → isLabel (partOf s p) ≡ true
+unfolding isLabel
+part-is-label s p a b h all =
+    let long = part-long s p h in
+    both-true (within 1 longestLabel (length (partOf s p))) (allOf (length (partOf s p)) (plainAt (partOf s p)))
+    (rw long (within-true 1 longestLabel (p .long) a b))
+    (all-true (length (partOf s p)) (plainAt (partOf s p)) (λ j c.
+    ap isPlain (getD-take (p .long) (drop (p .start) s) j 0 (omega arith) ∙ getD-drop (p .start) s j 0) ∙ all j (omega arith)))
 
 -- ---- `check_labels`
 

@@ -1,0 +1,85 @@
+-- The rows that are written, one by one; and those of a sheet that was read. Assumes nothing.
+use Rattle.basis.specs.Prelude.{ℕ, zero, suc, _+_, _≤_, _<_, _≡_, refl, sym, ap, ap₂, _∙_, ⊎-elim, eq-or-lt-of-le, true, List, [], _∷_, _++_, arith, length, length-map, map, getD, getD-append-seam, List·getD-append, List·getD-map, ext-getD}
+use Rattle.writer.proofs.Names.{Outcome, accepted, mostRows, ok, Each, Entry, Held, sheet, partIn, Part, rowAt, Sheet, sheetIn, entryOf, heldBy, partOf, firstRows, legal-is, legal, checkSheet, labelAt, isLabel, GoodEntry, Good}
+use Rattle.sheet.specs.Legal.{noRow}
+use Rattle.sheet.proofs.RoundTrip.{processors-come-back, row-comes-back}
+use Rattle.reader.specs.Form.{entryRow, entryLabel}
+use Rattle.reader.specs.Answers.{reading, sheetHeld, labelIn}
+use Rattle.reader.specs.Lists.{readInto}
+use Rattle.reader.proofs.LentLists.{reader-accepts, list-has-room, list-written, count-read, parts-written}
+use Rattle.reader.proofs.LegalSheets.{row-held, read-is-legal}
+use Rattle.reader.proofs.RowLabels.{label-of-row}
+use Rattle.reader.proofs.Inside.ZeroLists.{lists}
+use Rattle.writer.proofs.Inside.Checks.{label-holds, checked-at, checked-legal}
+use Rattle.writer.proofs.Inside.Stored.{rows-count}
+
+-- ---- one by one
+
+pub row-first : (n : ℕ) (f : ℕ → Entry) (d : Entry) (k : ℕ) → k < n → getD (firstRows n f) k d ≡ f k
+unfolding firstRows
+row-first zero f d k h = absurd (omega arith)
+row-first (suc n) f d k h =
+    ⊎-elim (λ e. ap (λ (j : ℕ). getD (firstRows n f ++ (f n ∷ [])) j d) (e ∙ sym (rows-count n f)) ∙ getD-append-seam (firstRows n f) (f n) [] d ∙ ap f (sym e))
+    (λ l. List·getD-append (firstRows n f) (f n ∷ []) d k (omega (arith, rows-count n f)) ∙ row-first n f d k l)
+    (eq-or-lt-of-le {n = k} {m = n} (omega arith))
+
+-- the rows of a list, one by one, are the list
+rows-of-list : (es : List Entry) (n : ℕ) (f : ℕ → Entry) (d : Entry) → n ≡ length es → ((k : ℕ) → k < n → f k ≡ getD es k d) → firstRows n f ≡ es
+rows-of-list es n f d e h =
+    ext-getD d (firstRows n f) es (rows-count n f ∙ e) (λ k b. let l : k < n = omega (arith, rows-count n f) in row-first n f d k l ∙ h k l)
+
+-- what holds of each is held by all
+pub rows-each : (P : Entry → Type 0) (n : ℕ) (f : ℕ → Entry) → ((k : ℕ) → k < n → P (f k)) → Each P (firstRows n f)
+unfolding firstRows
+rows-each P zero f h = tt
+rows-each P (suc n) f h = snoc (firstRows n f) (rows-each P n f (λ k b. h k (omega arith)))
+  where
+    snoc : (es : List Entry) → Each P es → Each P (es ++ (f n ∷ []))
+    snoc [] all = (h n (omega arith), tt)
+    snoc (e ∷ es) (g, gs) = (g, snoc es gs)
+
+-- ---- what the writer accepts can be written
+
+pub checked-is-good : (h : Sheet) (s labels : List ℕ) → checkSheet h s labels ≡ accepted → Good (heldBy h s labels)
+checked-is-good h s labels e =
+    let l = legal-is h (checked-legal h s labels e) in
+    let n = rows-count (h .count) (entryOf h s labels) in
+    record {
+      some-processors = l .some-processors;
+      most-processors = l .most-processors;
+      some-rows = omega (arith, n, l .some-rows);
+      most-rows = omega (arith, n, l .most-rows);
+      rows = rows-each (GoodEntry (h .processors)) (h .count) (entryOf h s labels) (λ k b. record { labelled = label-holds s labels k (checked-at h s labels e k b); in-ranges = l .rows k b });
+    }
+
+-- ---- a sheet that was read into lists
+
+module _ (s list labels l b : List ℕ) (e : lists accepted l b ≡ readInto s list labels) (h : Held) (n : ℕ) (q : sheet s 0 ≡ ok h n) where
+  noEntry : Entry
+  noEntry = record { label = []; row = noRow }
+
+  count-is : sheetIn l .count ≡ length (h .entries)
+  count-is = count-read s list labels accepted l b e refl ∙ rw q refl
+
+  few : length (h .entries) ≤ mostRows
+  few = read-is-legal s h n q .most-rows
+
+  entry-is : (k : ℕ) → k < sheetIn l .count → entryOf (sheetIn l) s b k ≡ getD (h .entries) k noEntry
+  unfolding noEntry
+  entry-is k c =
+      let c₁ : k < length (h .entries) = omega (arith, count-is) in
+      let there : k < reading s .1 .count = rw q c₁ in
+      let label : partOf s (partIn b k) ≡ getD (h .entries) k noEntry .label =
+      ap (partOf s) (parts-written s list labels accepted l b e refl k there) ∙ label-of-row s k (rw q c₁) .is-read h n q ∙ List·getD-map entryLabel (h .entries) k noEntry in
+      let row : rowAt (sheetIn l) k ≡ getD (h .entries) k noEntry .row =
+      row-comes-back (reading s .1) (reading s .1 .count) list l (list-written s list labels accepted l b e refl) (list-has-room s list labels accepted l b e refl) k there (omega (arith, few))
+      ∙ rw q (row-held h k c₁) ∙ List·getD-map entryRow (h .entries) k noEntry in
+      λ i. record { label = label i; row = row i }
+
+  -- the lists hold what was read
+  pub lists-hold : heldBy (sheetIn l) s b ≡ h
+  lists-hold =
+      let m : sheetIn l .processors ≡ h .processors =
+      processors-come-back (reading s .1) (reading s .1 .count) list l (list-written s list labels accepted l b e refl) (list-has-room s list labels accepted l b e refl) ∙ rw q refl in
+      let rows : firstRows (sheetIn l .count) (entryOf (sheetIn l) s b) ≡ h .entries = rows-of-list (h .entries) (sheetIn l .count) (entryOf (sheetIn l) s b) noEntry count-is entry-is in
+      λ i. record { processors = m i; entries = rows i }
