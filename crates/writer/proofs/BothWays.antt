@@ -3,18 +3,16 @@ use Rattle.basis.specs.Prelude.{ℕ, _+_, _≤_, _<_, _≡_, refl, sym, ap, ap�
 use Rattle.writer.proofs.Names.{written-whole, wrote, both-left, both-right, both-true, mostRows, Outcome, accepted, needed, orElse, refused, firstOf, both, pick, Bytes, ok, Answer, answer, writtenBy, Held, sheet, partIn, Part, Sheet, sheetIn, legal, legal-is, entryOf, heldBy, partOf, checkSheet, isLabel, labelAt, labelLies, writeSheet, Good, sheetBytes}
 use Rattle.basis.proofs.Inside.FirstRefusal.{all-accepted}
 use Rattle.sheet.specs.Lists.{sheetLong}
-use Rattle.sheet.proofs.Legality.{legal-says}
-use Rattle.sheet.proofs.RoundTrip.{row-comes-back}
 use Rattle.reader.specs.Answers.{reading, labelIn}
 use Rattle.reader.specs.Lists.{labelsLong, readInto}
-use Rattle.reader.proofs.LegalSheets.{accepted-read, read-is-legal}
-use Rattle.reader.proofs.LentLists.{outcome-is-the-readers, reader-accepts, list-has-room, list-written, parts-written, count-read}
+use Rattle.reader.proofs.LegalSheets.{accepted-read}
+use Rattle.reader.proofs.LentLists.{outcome-is-the-readers}
 use Rattle.reader.proofs.RowLabels.{label-of-row}
 use Rattle.reader.proofs.Inside.ZeroLists.{lists}
 use Rattle.writer.proofs.WrittenIsRead.{written-is-read}
 use Rattle.writer.proofs.ReadIsWritten.{read-is-written, read-is-good}
 use Rattle.writer.proofs.Inside.Checks.{label-inside, part-is-label}
-use Rattle.writer.proofs.Inside.Held.{checked-is-good, lists-hold}
+use Rattle.writer.proofs.Inside.Held.{Handed, checked-is-good, read-into-hands-over, lists-hold, list-is-legal}
 use Rattle.writer.proofs.Inside.Stored.{rows-count}
 
 -- ---- rows and labels, bytes, rows and labels
@@ -45,8 +43,10 @@ module _ (h : Sheet) (s labels out : List ℕ) (e : writeSheet h s labels out .o
       → (readInto file list parts .0 ≡ accepted) × (heldBy (sheetIn (readInto file list parts .1 .0)) file (readInto file list parts .1 .1) ≡ heldBy h s labels)
   sheet-comes-back list parts r q =
       let many : reading file .1 .count ≡ h .count = rw file-is-read (rows-count (h .count) (entryOf h s labels)) in
-      let fine : readInto file list parts .0 ≡ accepted = outcome-is-the-readers file list parts (omega arith) (omega arith) ∙ file-is-accepted in
-      (fine, lists-hold file list parts (readInto file list parts .1 .0) (readInto file list parts .1 .1) (λ i. (sym fine i, readInto file list parts .1)) (heldBy h s labels) (length file) file-is-read)
+      let fine : readInto file list parts .0 ≡ accepted = outcome-is-the-readers file list parts (omega arith) (omega arith) ∙ file-is-accepted in (
+        fine,
+        lists-hold file _ _ (read-into-hands-over file list parts (readInto file list parts .1 .0) (readInto file list parts .1 .1) (λ i. (sym fine i, readInto file list parts .1))) (heldBy h s labels) (length file) file-is-read,
+      )
 
 -- ---- bytes, rows and labels, bytes
 
@@ -57,46 +57,33 @@ labels-checked h s labels fine all =
     ap (λ (t : Bool). orElse (needed t 10) (firstOf (h .count) (labelAt s labels))) fine
     ∙ all-accepted (h .count) (labelAt s labels) (λ k b. ap (λ (t : Bool). pick t accepted (refused 6 k)) (all k b))
 
--- a sheet that was read into a list is in the ranges there
-list-is-legal : (s list labels l b : List ℕ) → lists accepted l b ≡ readInto s list labels → legal (sheetIn l) ≡ true
-list-is-legal s list labels l b e =
-    let (h, n, q) = accepted-read s (reader-accepts s list labels accepted l b e refl) in
-    let hold = lists-hold s list labels l b e h n q in
-    let fine = read-is-good s h n q in
-    let many : sheetIn l .count ≡ length (h .entries) = sym (rows-count (sheetIn l .count) (entryOf (sheetIn l) s b)) ∙ ap (λ (x : Held). length (x .entries)) hold in
-    let wide : sheetIn l .processors ≡ h .processors = ap (λ (x : Held). x .processors) hold in
-    legal-says (sheetIn l) (record {
-      some-processors = omega (arith, fine .some-processors);
-      most-processors = omega (arith, fine .most-processors);
-      some-rows = omega (arith, fine .some-rows);
-      most-rows = omega (arith, fine .most-rows);
-      rows = λ k c. rw (row-comes-back (reading s .1) (reading s .1 .count) list l (list-written s list labels accepted l b e refl) (list-has-room s list labels accepted l b e refl) k (rw q (omega arith)) (omega (arith, fine .most-rows)), wide) (rw q (read-is-legal s h n q .rows k (omega arith)));
-    })
-
-module _ (s list labels l b : List ℕ) (e : lists accepted l b ≡ readInto s list labels) where
+module _ (s l b : List ℕ) (d : Handed s l b) where
   -- every label that was read lies in the bytes, and is a label
   read-label-lies : (k : ℕ) → k < sheetIn l .count → labelLies s (partIn b k) ≡ true
   unfolding labelLies
   read-label-lies k c =
-      let (h, n, q) = accepted-read s (reader-accepts s list labels accepted l b e refl) in
-      let count : sheetIn l .count ≡ length (h .entries) = count-read s list labels accepted l b e refl ∙ rw q refl in
+      let (h, n, q) = accepted-read s (d .accepts) in
+      let count : sheetIn l .count ≡ length (h .entries) = d .count ∙ rw q refl in
       let r = label-of-row s k (rw q (omega arith)) in
-      let is : partIn b k ≡ labelIn s k = parts-written s list labels accepted l b e refl k (rw q (omega arith)) in
-      rw is (both-true _ _ (le-leb _ _ (r .inside)) (part-is-label s (labelIn s k) (r .some) (r .short) (r .inside) (r .plainly)))
+      rw (d .parts k (rw q (omega arith))) (both-true _ _ (le-leb _ _ (r .inside)) (part-is-label s (labelIn s k) (r .some) (r .short) (r .inside) (r .plainly)))
 
-  -- so with any numbers in their ranges, for as many rows, nothing is refused before 15
+  -- so with any numbers in their ranges, for as many rows or fewer, nothing is refused before 15
   pub numbers-replaced : (h : Sheet) → legal h ≡ true → h .count ≤ sheetIn l .count → checkSheet h s b ≡ accepted
   numbers-replaced h fine many = labels-checked h s b fine (λ k c. read-label-lies k (omega arith))
 
   -- the sheet that was read, written into any buffer that is long enough, gives the very bytes
-  pub file-comes-back : Bytes s → (out : List ℕ) → length s ≤ length out → writeSheet (sheetIn l) s b out ≡ answer accepted (length s) (sets out 0 s)
+  pub handed-comes-back : Bytes s → (out : List ℕ) → length s ≤ length out → writeSheet (sheetIn l) s b out ≡ answer accepted (length s) (sets out 0 s)
   unfolding writeSheet
-  file-comes-back bytes out r =
-      let (h, n, q) = accepted-read s (reader-accepts s list labels accepted l b e refl) in
-      let hold : heldBy (sheetIn l) s b ≡ h = lists-hold s list labels l b e h n q in
-      let same : sheetBytes (heldBy (sheetIn l) s b) ≡ s = ap sheetBytes hold ∙ sym (read-is-written s bytes h n q) in
+  handed-comes-back bytes out r =
+      let (h, n, q) = accepted-read s (d .accepts) in
+      let same : sheetBytes (heldBy (sheetIn l) s b) ≡ s = ap sheetBytes (lists-hold s l b d h n q) ∙ sym (read-is-written s bytes h n q) in
       ap (λ (w : List ℕ). writtenBy (checkSheet (sheetIn l) s b) w out) same
-      ∙ written-whole (checkSheet (sheetIn l) s b) s out (numbers-replaced (sheetIn l) (list-is-legal s list labels l b e) (omega arith)) r
+      ∙ written-whole (checkSheet (sheetIn l) s b) s out (numbers-replaced (sheetIn l) (list-is-legal s l b d h n q) (omega arith)) r
+
+-- where both lists were read at once
+pub file-comes-back : (s list labels l b out : List ℕ) → Bytes s → lists accepted l b ≡ readInto s list labels → length s ≤ length out
+    → writeSheet (sheetIn l) s b out ≡ answer accepted (length s) (sets out 0 s)
+file-comes-back s list labels l b out bytes e r = handed-comes-back s l b (read-into-hands-over s list labels l b e) bytes out r
 
 -- ---- one label replaced
 

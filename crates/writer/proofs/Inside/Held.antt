@@ -9,7 +9,8 @@ use Rattle.reader.specs.Lists.{readInto}
 use Rattle.reader.proofs.LentLists.{reader-accepts, list-has-room, list-written, count-read, parts-written}
 use Rattle.reader.proofs.LegalSheets.{row-held, read-is-legal}
 use Rattle.reader.proofs.RowLabels.{label-of-row}
-use Rattle.reader.proofs.Inside.ZeroLists.{lists}
+use Rattle.reader.proofs.Inside.ZeroLists.{lists, rows-few}
+use Rattle.sheet.proofs.Legality.{legal-says}
 use Rattle.writer.proofs.Inside.Checks.{label-holds, checked-at, checked-legal}
 use Rattle.writer.proofs.Inside.Stored.{rows-count}
 
@@ -54,32 +55,60 @@ checked-is-good h s labels e =
 
 -- ---- a sheet that was read into lists
 
-module _ (s list labels l b : List ℕ) (e : lists accepted l b ≡ readInto s list labels) (h : Held) (n : ℕ) (q : sheet s 0 ≡ ok h n) where
+-- the lists hand over what was read
+pub record Handed (s l b : List ℕ) : Type 0 where
+  pub accepts : reading s .0 ≡ accepted
+  pub processors : sheetIn l .processors ≡ reading s .1 .processors
+  pub count : sheetIn l .count ≡ reading s .1 .count
+  pub rows : (k : ℕ) → k < reading s .1 .count → rowAt (sheetIn l) k ≡ rowAt (reading s .1) k
+  pub parts : (k : ℕ) → k < reading s .1 .count → partIn b k ≡ labelIn s k
+
+pub read-into-hands-over : (s list labels l b : List ℕ) → lists accepted l b ≡ readInto s list labels → Handed s l b
+read-into-hands-over s list labels l b e =
+    let written = list-written s list labels accepted l b e refl in
+    let room = list-has-room s list labels accepted l b e refl in
+    record {
+      accepts = reader-accepts s list labels accepted l b e refl;
+      processors = processors-come-back (reading s .1) (reading s .1 .count) list l written room;
+      count = count-read s list labels accepted l b e refl;
+      rows = λ k c. row-comes-back (reading s .1) (reading s .1 .count) list l written room k c (omega (arith, rows-few s));
+      parts = parts-written s list labels accepted l b e refl;
+    }
+
+module _ (s l b : List ℕ) (d : Handed s l b) (h : Held) (n : ℕ) (q : sheet s 0 ≡ ok h n) where
   noEntry : Entry
   noEntry = record { label = []; row = noRow }
 
   count-is : sheetIn l .count ≡ length (h .entries)
-  count-is = count-read s list labels accepted l b e refl ∙ rw q refl
-
-  few : length (h .entries) ≤ mostRows
-  few = read-is-legal s h n q .most-rows
+  count-is = d .count ∙ rw q refl
 
   entry-is : (k : ℕ) → k < sheetIn l .count → entryOf (sheetIn l) s b k ≡ getD (h .entries) k noEntry
   unfolding noEntry
   entry-is k c =
-      let c₁ : k < length (h .entries) = omega (arith, count-is) in
-      let there : k < reading s .1 .count = rw q c₁ in
+      let inside : k < length (h .entries) = omega (arith, count-is) in
+      let there : k < reading s .1 .count = rw q inside in
       let label : partOf s (partIn b k) ≡ getD (h .entries) k noEntry .label =
-      ap (partOf s) (parts-written s list labels accepted l b e refl k there) ∙ label-of-row s k (rw q c₁) .is-read h n q ∙ List·getD-map entryLabel (h .entries) k noEntry in
+      ap (partOf s) (d .parts k there) ∙ label-of-row s k (rw q inside) .is-read h n q ∙ List·getD-map entryLabel (h .entries) k noEntry in
       let row : rowAt (sheetIn l) k ≡ getD (h .entries) k noEntry .row =
-      row-comes-back (reading s .1) (reading s .1 .count) list l (list-written s list labels accepted l b e refl) (list-has-room s list labels accepted l b e refl) k there (omega (arith, few))
-      ∙ rw q (row-held h k c₁) ∙ List·getD-map entryRow (h .entries) k noEntry in
+      d .rows k there ∙ rw q (row-held h k inside) ∙ List·getD-map entryRow (h .entries) k noEntry in
       λ i. record { label = label i; row = row i }
 
-  -- the lists hold what was read
+  -- so they hold what was read
   pub lists-hold : heldBy (sheetIn l) s b ≡ h
   lists-hold =
-      let m : sheetIn l .processors ≡ h .processors =
-      processors-come-back (reading s .1) (reading s .1 .count) list l (list-written s list labels accepted l b e refl) (list-has-room s list labels accepted l b e refl) ∙ rw q refl in
+      let m : sheetIn l .processors ≡ h .processors = d .processors ∙ rw q refl in
       let rows : firstRows (sheetIn l .count) (entryOf (sheetIn l) s b) ≡ h .entries = rows-of-list (h .entries) (sheetIn l .count) (entryOf (sheetIn l) s b) noEntry count-is entry-is in
       λ i. record { processors = m i; entries = rows i }
+
+  -- and the sheet's list is in the ranges
+  pub list-is-legal : legal (sheetIn l) ≡ true
+  list-is-legal =
+      let fine = read-is-legal s h n q in
+      let m : sheetIn l .processors ≡ h .processors = d .processors ∙ rw q refl in
+      legal-says (sheetIn l) (record {
+        some-processors = omega (arith, fine .some-processors);
+        most-processors = omega (arith, fine .most-processors);
+        some-rows = omega (arith, fine .some-rows, count-is);
+        most-rows = omega (arith, fine .most-rows, count-is);
+        rows = λ k c. let inside : k < length (h .entries) = omega (arith, count-is) in rw (d .rows k (rw q inside), m) (rw q (fine .rows k inside));
+      })
