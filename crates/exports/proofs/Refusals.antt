@@ -1,7 +1,8 @@
 -- A refused call changes nothing that is lent: where the number told is not 0, every list and number is as it was. Assumes nothing.
 use Rattle.basis.specs.Prelude.{ℕ, _/_, _≡_, refl, sym, ap, _∙_, List, length, eq-eqb}
 use lib.IntN.{ℤ}
-use Rattle.exports.proofs.Names.{pick, Outcome, accepted, refused, orElse, needed, roomFor, handed, isAccepted, Step, ok, refuse, number, upTo, reading, Sheet, boundsOf, resultsLong, checkSlot, checkRun, RunAnswer, runAnswer, MarginAnswer, no-job, margin-is, refused-by, fresh, nextState, nextCodes, slotBy, slot, course, run, margin, State, verdictText, legal, sheetIn, sheetLong, fixedSheet, stateLong, stateIn, freshOn, slotListed, slotIn, runIn, told, verdictIn, fieldsIn, readIn, labelOutcome, labelAnswer, resultsIn, boundsIn, freshIn, slotTold, slotOn, runOn, marginGiven, marginIn, stepTold, numberOn, upToOn, fixedIn, boxBy, boxOf, boxOn}
+use Rattle.exports.proofs.Names.{pick, Outcome, accepted, refused, orElse, needed, roomFor, handed, isAccepted, Step, ok, refuse, number, upTo, reading, Sheet, boundsOf, resultsLong, checkSlot, checkRun, RunAnswer, runAnswer, MarginAnswer, no-job, margin-is, refused-by, fresh, nextState, nextCodes, slotBy, slot, course, run, margin, State, verdictText, legal, sheetIn, sheetLong, fixedSheet, stateLong, stateIn, freshOn, slotListed, slotIn, runIn, told, verdictIn, fieldsIn, readIn, labelsBy, labelsOn, labelOutcome, labelAnswer, resultsIn, boundsIn, freshIn, slotTold, slotOn, runOn, marginGiven, marginIn, stepTold, numberOn, upToOn, fixedIn, boxBy, boxOf, boxOn}
+use Rattle.reader.specs.Lists.{labelsLong}
 use Rattle.machine.proofs.SlotsDone.{Ends, all-done, stopped-at, run-ends, run-not-begun}
 
 -- what is handed over where a number other than 0 is told
@@ -18,6 +19,11 @@ refused-read-changes-nothing s list n = kept (orElse (reading s .0) (roomFor (sh
 pub refused-label-changes-nothing : (s : List ℕ) (row : ℕ) (found : ℕ × ℕ) → (labelAnswer s row found .0 .0 ≡ 0 → ⊥) → labelAnswer s row found .1 ≡ found
 unfolding labelAnswer
 refused-label-changes-nothing s row found n = kept (labelOutcome (reading s) row) _ found n
+
+-- A refused `giachimu_labels` leaves the list.
+pub refused-labels-changes-nothing : (s list : List ℕ) → (labelsOn s list .0 .0 ≡ 0 → ⊥) → labelsOn s list .1 ≡ list
+unfolding labelsOn labelsBy
+refused-labels-changes-nothing s list n = kept (orElse (reading s .0) (roomFor (labelsLong (reading s .1 .count)) (length list))) _ list n
 
 -- A refused `giachimu_bounds` leaves the list and the number.
 pub refused-bounds-changes-nothing : (s : List ℕ) (lent : ℕ × List ℕ) → (boundsIn s lent .0 .0 ≡ 0 → ⊥) → boundsIn s lent .1 ≡ lent

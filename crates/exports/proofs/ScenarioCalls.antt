@@ -7,17 +7,9 @@ use Rattle.scenario.specs.Listed.{ReadRefusal, sheet-not-legal, no-mark, cut-of
 use Rattle.scenario.proofs.Refusals.{read-refusal-is-listed, write-refusal-is-listed}
 use Rattle.scenario.proofs.BothWays.{list-comes-back, file-comes-back}
 use Rattle.basis.specs.Readers.{Bytes}
+use Rattle.exports.proofs.Inside.LentAnswers.{put-kept, written-left, told-zero}
 use Rattle.basis.specs.Lent.{nothingBy, putAll, writtenBy}
 use Rattle.scenario.specs.Answers.{filledBy, checkList}
-
--- what is put where there is room is told, or nothing is changed
-put-kept : (k : ℕ) (xs l : List ℕ) (found : ℕ) → (lentTold (putAll k xs l) found .0 .0 ≡ 0 → ⊥) → lentTold (putAll k xs l) found .1 ≡ (found, l)
-put-kept k xs l found n = go (leb (length xs) (length l)) n
-  where
-    go : (t : Bool) → (lentTold (pick t (record { outcome = accepted; count = k; lent = sets l 0 xs }) (nothingBy (refused 15 0) l)) found .0 .0 ≡ 0 → ⊥)
-        → lentTold (pick t (record { outcome = accepted; count = k; lent = sets l 0 xs }) (nothingBy (refused 15 0) l)) found .1 ≡ (found, l)
-    go true m = absurd (m refl)
-    go false m = refl
 
 -- A refused `giachimu_read_scenario` leaves the number and the list.
 pub refused-read-scenario-changes-nothing : (sheet s : List ℕ) (lent : ℕ × List ℕ) → (scenarioRead sheet s lent .0 .0 ≡ 0 → ⊥) → scenarioRead sheet s lent .1 ≡ lent
@@ -36,16 +28,7 @@ refused-read-scenario-changes-nothing sheet s (found, list) n = go (legal (sheet
 -- A refused `giachimu_write_scenario` leaves the number and the buffer.
 pub refused-write-scenario-changes-nothing : (sheet list : List ℕ) (lent : ℕ × List ℕ) → (scenarioWritten sheet list lent .0 .0 ≡ 0 → ⊥) → scenarioWritten sheet list lent .1 ≡ lent
 unfolding scenarioWritten writeScenario
-refused-write-scenario-changes-nothing sheet list (found, out) n = go (checkList (sheetIn sheet) list) n
-  where
-    go : (o : Outcome) → (lentTold (writtenBy o (fileOf (sheetIn sheet) list) out) found .0 .0 ≡ 0 → ⊥) → lentTold (writtenBy o (fileOf (sheetIn sheet) list) out) found .1 ≡ (found, out)
-    go accepted f = put-kept (length (fileOf (sheetIn sheet) list)) (fileOf (sheetIn sheet) list) out found f
-    go (refused a b) f = refl
-
--- where 0 is told, and no refusal has that number, nothing is refused
-told-zero : (o : Outcome) → ((k p : ℕ) → o ≡ refused k p → 1 ≤ k) → told o .0 ≡ 0 → o ≡ accepted
-told-zero accepted f e = refl
-told-zero (refused k p) f e = absurd (omega (arith, f k p refl))
+refused-write-scenario-changes-nothing sheet list (found, out) n = written-left (checkList (sheetIn sheet) list) (fileOf (sheetIn sheet) list) out found n
 
 read-some : (s : List ℕ) (k p : ℕ) → ReadRefusal s k p → 1 ≤ k
 read-some s k p (sheet-not-legal a b) = omega arith

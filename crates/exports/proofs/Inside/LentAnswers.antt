@@ -1,8 +1,8 @@
 -- What the calls that read a scenario and those that write answer, from the answers of what they call. Assumes nothing.
-use Rattle.basis.specs.Prelude.{ℕ, _≡_, sym, List}
-use Rattle.exports.proofs.Names.{Accepted, Refused, sheetIn, readTold, writtenTold, readScenario, writeScenario, lentTold, scenarioRead, scenarioWritten, sheetWritten, writeSheet}
+use Rattle.basis.specs.Prelude.{ℕ, _≤_, _≡_, refl, sym, Bool, true, false, List, arith, length, leb, sets}
+use Rattle.exports.proofs.Names.{pick, Outcome, accepted, refused, told, Accepted, Refused, sheetIn, readTold, writtenTold, readScenario, writeScenario, lentTold, scenarioRead, scenarioWritten, sheetWritten, writeSheet}
 use Rattle.scenario.specs.declared.reader.ScenarioRead.{ScenarioRead}
-use Rattle.basis.specs.Lent.{Answer}
+use Rattle.basis.specs.Lent.{Answer, answer, nothingBy, putAll, writtenBy}
 use Rattle.basis.specs.declared.stored.Written.{Written}
 
 -- `giachimu_read_scenario`
@@ -40,3 +40,21 @@ module _ (sheet s labels out : List ℕ) (r : Written) (after : List ℕ) (er : 
   pub sheet-accepted : r .refusal ≡ Accepted → t ≡ (0, 0) → (t, (r .length, after)) ≡ sheetWritten sheet s labels (found, out)
   unfolding sheetWritten
   sheet-accepted = told-accepted r after _ er found t
+
+-- what is put where there is room is told, or nothing is changed
+pub put-kept : (k : ℕ) (xs l : List ℕ) (found : ℕ) → (lentTold (putAll k xs l) found .0 .0 ≡ 0 → ⊥) → lentTold (putAll k xs l) found .1 ≡ (found, l)
+put-kept k xs l found n = go (leb (length xs) (length l)) n
+  where
+    go : (t : Bool) → (lentTold (pick t (answer accepted k (sets l 0 xs)) (nothingBy (refused 15 0) l)) found .0 .0 ≡ 0 → ⊥)
+        → lentTold (pick t (answer accepted k (sets l 0 xs)) (nothingBy (refused 15 0) l)) found .1 ≡ (found, l)
+    go true m = absurd (m refl)
+    go false m = refl
+
+pub written-left : (o : Outcome) (w out : List ℕ) (found : ℕ) → (lentTold (writtenBy o w out) found .0 .0 ≡ 0 → ⊥) → lentTold (writtenBy o w out) found .1 ≡ (found, out)
+written-left accepted w out found n = put-kept (length w) w out found n
+written-left (refused a b) w out found n = refl
+
+-- where 0 is told, and no refusal has that number, nothing is refused
+pub told-zero : (o : Outcome) → ((k p : ℕ) → o ≡ refused k p → 1 ≤ k) → told o .0 ≡ 0 → o ≡ accepted
+told-zero accepted f e = refl
+told-zero (refused k p) f e = absurd (omega (arith, f k p refl))
