@@ -1,7 +1,7 @@
 //! The answer that is expected of a case.
 
 use crate::bound::{bounds, holds, Outcome};
-use crate::case::{Case, Room, Step};
+use crate::case::{Case, Draft, Room, Step};
 use crate::machine::{fresh, handed, listed, margin, run, slot, Record};
 use crate::number::{number, refuse, up_to, Refusal};
 use crate::page::Page;
@@ -10,6 +10,7 @@ use crate::rules::{broken, Rule};
 use crate::scenario;
 use crate::sheet::{fixed, Sheet};
 use crate::text::verdict;
+use crate::writer::{labels, write};
 
 /// What every number that is lent for an answer holds before the call.
 const BEFORE: u64 = 7;
@@ -59,6 +60,8 @@ impl Case {
             Case::ReadScenario { sheet, list, bytes } => scenario_read(sheet, list, bytes),
             Case::WriteScenario { sheet, releases, buffer } => scenario_written(sheet, releases, buffer),
             Case::ScenarioSweep { sheet, bytes } => scenario_swept(sheet, bytes),
+            Case::Labels { list, bytes } => labels_listed(list, bytes),
+            Case::Write(draft) => sheet_written(draft),
         };
         page.0
     }
@@ -237,4 +240,21 @@ fn scenario_swept(sheet: &[u64], bytes: &[u8]) -> Page {
         page = page.bytes(&[refusal.number as u8, refusal.place as u8, slots.unwrap_or(BEFORE) as u8, fold]);
     }
     page
+}
+
+/// Where every label of a sheet's bytes lies, in the list.
+fn labels_listed(list: &[u64], bytes: &[u8]) -> Page {
+    if broken(Rule::LabelsRoomFirst) && list.is_empty() {
+        return filled(list, refuse(15, 0));
+    }
+    filled(list, labels(bytes))
+}
+
+/// How many bytes a sheet has, everything that it was written from, and the bytes around the buffer and in it.
+fn sheet_written(draft: &Draft) -> Page {
+    let Draft { sheet, labels, bytes, buffer } = draft;
+    let mut buffer = buffer.clone();
+    let length = write(sheet, bytes.part(), labels, buffer.lent());
+    let page = Page::default().refusal(length.err()).word(length.unwrap_or(BEFORE));
+    page.words(sheet).words(labels).bytes(&bytes.bytes).bytes(&buffer.bytes)
 }

@@ -23,13 +23,15 @@ pub enum Kind {
     ReadScenario,
     WriteScenario,
     ScenarioSweep,
+    Labels,
+    Write,
     VerdictProgram,
     ReferenceProgram,
     PlayProgram,
 }
 
 /// The kinds of the wire.
-pub const EVERY_KIND: [Kind; 18] = [
+pub const EVERY_KIND: [Kind; 20] = [
     Kind::Number,
     Kind::UpTo,
     Kind::Read,
@@ -48,6 +50,8 @@ pub const EVERY_KIND: [Kind; 18] = [
     Kind::ReadScenario,
     Kind::WriteScenario,
     Kind::ScenarioSweep,
+    Kind::Labels,
+    Kind::Write,
 ];
 
 /// A buffer lent out of the middle of some bytes, so that those before and after it are guards.
@@ -63,6 +67,11 @@ impl Room {
     pub fn lent(&mut self) -> &mut [u8] {
         &mut self.bytes[self.before..][..self.long]
     }
+
+    /// The same part, to be read only.
+    pub fn part(&self) -> &[u8] {
+        &self.bytes[self.before..][..self.long]
+    }
 }
 
 /// What a slot or a run is asked with; of the box's own loop the state is only a list that is lent.
@@ -72,6 +81,16 @@ pub struct Step {
     pub state: Vec<u64>,
     pub releases: Vec<u64>,
     pub codes: Room,
+}
+
+/// What a sheet is written from and into: its list, of each row where its label starts and how long it is, the bytes that the
+/// labels lie in, and a buffer.
+#[derive(Clone, Debug)]
+pub struct Draft {
+    pub sheet: Vec<u64>,
+    pub labels: Vec<u64>,
+    pub bytes: Room,
+    pub buffer: Room,
 }
 
 /// A question to the program under test. A sheet and a state are lists of plain numbers, `list` is one that is lent.
@@ -95,11 +114,17 @@ pub enum Case {
     ReadScenario { sheet: Vec<u64>, list: Vec<u64>, bytes: Vec<u8> },
     WriteScenario { sheet: Vec<u64>, releases: Vec<u64>, buffer: Room },
     ScenarioSweep { sheet: Vec<u64>, bytes: Vec<u8> },
+    Labels { list: Vec<u64>, bytes: Vec<u8> },
+    Write(Draft),
 }
 
 impl Page {
     fn room(self, room: &Room) -> Page {
         self.words(&[room.before as u64, room.long as u64])
+    }
+
+    fn counted(self, room: &Room) -> Page {
+        self.room(room).word(room.bytes.len() as u64).bytes(&room.bytes)
     }
 
     fn step(self, step: &Step) -> Page {
@@ -129,6 +154,8 @@ impl Case {
             Case::ReadScenario { .. } => Kind::ReadScenario,
             Case::WriteScenario { .. } => Kind::WriteScenario,
             Case::ScenarioSweep { .. } => Kind::ScenarioSweep,
+            Case::Labels { .. } => Kind::Labels,
+            Case::Write(_) => Kind::Write,
         }
     }
 
@@ -138,18 +165,21 @@ impl Case {
         let page = match self {
             Case::Number { at, bytes } => page.word(*at).bytes(bytes),
             Case::UpTo { at, most, bytes } => page.words(&[*at, *most]).bytes(bytes),
-            Case::Read { list, bytes } => page.list(list).bytes(bytes),
+            Case::Read { list, bytes } | Case::Labels { list, bytes } => page.list(list).bytes(bytes),
             Case::Label { row, bytes } => page.word(*row).bytes(bytes),
             Case::Bounds { sheet, list } | Case::Fresh { sheet, list } => page.list(sheet).list(list),
             Case::Slot(step) | Case::Run(step) | Case::BoxRun(step) => page.step(step),
             Case::Margin { sheet, state, row } => page.list(sheet).list(state).word(*row),
-            Case::Verdict { text, bytes } => page.room(text).word(text.bytes.len() as u64).bytes(&text.bytes).bytes(bytes),
+            Case::Verdict { text, bytes } => page.counted(text).bytes(bytes),
             Case::Green { bytes } | Case::Sweep { bytes } => page.bytes(bytes),
             Case::Legal { sheet } => page.list(sheet),
             Case::Fixed { number, list } => page.word(*number).list(list),
             Case::ReadScenario { sheet, list, bytes } => page.list(sheet).list(list).bytes(bytes),
             Case::WriteScenario { sheet, releases, buffer } => page.list(sheet).list(releases).room(buffer).bytes(&buffer.bytes),
             Case::ScenarioSweep { sheet, bytes } => page.list(sheet).bytes(bytes),
+            Case::Write(Draft { sheet, labels, bytes, buffer }) => {
+                page.list(sheet).list(labels).counted(bytes).room(buffer).bytes(&buffer.bytes)
+            }
         };
         page.0
     }

@@ -1,4 +1,5 @@
-//! The answers worked by hand: sheets A to F, the runs G and H, the numbers I and the texts, held against this program's own rules.
+//! The answers worked by hand: sheets A to F, the runs G and H, the numbers I, the texts and sheet C written again, held against this
+//! program's own rules.
 
 use crate::bound::{bounds, Outcome};
 use crate::machine::{fresh, margin, run, slot};
@@ -8,6 +9,7 @@ use crate::reader::{label, read};
 use crate::scenario;
 use crate::sheet::fixed;
 use crate::text::{reference, verdict};
+use crate::writer::{labels, sheet_bytes, write};
 
 /// Sheet C with the labels roll and trim.
 pub const SHEET_C: &[u8] = b"GSH\x01\x02\x02\x04roll\x02\x02\x02\x01\x04trim\x01\x04\x04\x03";
@@ -19,6 +21,7 @@ pub fn check() {
     bytes();
     texts();
     scenarios();
+    written();
 }
 
 /// The bounds of sheets A to F.
@@ -98,4 +101,34 @@ fn scenarios() {
     assert_eq!(played(b"", bytes), b"REFUSED 1 0 sheet\n");
     assert_eq!(scenario::write(c, &[1]), Err(Refusal { number: 11, place: 0 }));
     assert_eq!(scenario::write(c, &[1, 3, 2, 0]), Err(Refusal { number: 12, place: 0 }));
+}
+
+/// Sheet C written from its own bytes: whole, with a number and with a label replaced, and refused in each way.
+fn written() {
+    let (list, parts) = (fixed()[2].list(), vec![7, 4, 16, 4]);
+    assert_eq!(labels(SHEET_C), Ok(parts.clone()));
+    assert_eq!(sheet_bytes(&list, SHEET_C, &parts), Ok(SHEET_C.to_vec()));
+    assert_eq!(sheet_bytes(&list, b"rolltrim", &[0, 4, 4, 4]), Ok(SHEET_C.to_vec()));
+    let shorter = b"GSH\x01\x02\x02\x04roll\x02\x02\x02\x01\x02ol\x01\x80\x01\x04\x03";
+    let longer_separation = [&list[..7], &[128], &list[8..]].concat();
+    assert_eq!(sheet_bytes(&longer_separation, SHEET_C, &[7, 4, 8, 2]), Ok(shorter.to_vec()));
+    let refused: [(&[u64], u64); 8] = [
+        (&[], 0),
+        (&[7, 4, 16, 0], 1),
+        (&[7, 4, 16, 5], 1),
+        (&[7, 17, 16, 4], 0),
+        (&[6, 4, 16, 4], 0),
+        (&[7, 4, 24, 1], 1),
+        (&[7, 4, u64::MAX, 4], 1),
+        (&[7, 4, 16, u64::MAX], 1),
+    ];
+    let mut buffer = [9; 26];
+    for (parts, place) in refused {
+        assert_eq!(write(&list, SHEET_C, parts, &mut buffer), Err(Refusal { number: 6, place }));
+        assert_eq!(write(&list[..9], SHEET_C, parts, &mut buffer), Err(Refusal { number: 10, place: 0 }));
+    }
+    assert_eq!(write(&list, SHEET_C, &parts, &mut buffer[..23]), Err(Refusal { number: 15, place: 0 }));
+    assert_eq!(buffer, [9; 26]);
+    assert_eq!(write(&list, SHEET_C, &parts, &mut buffer), Ok(24));
+    assert_eq!(buffer, *[SHEET_C, &[9, 9]].concat());
 }

@@ -1,5 +1,5 @@
-//! A second program for the sheet, the bound, the slot machine and the scenario, written from their rules alone: it makes cases, and compares
-//! the answers to them with its own.
+//! A second program for the sheet, its writer, the bound, the slot machine and the scenario, written from their rules alone: it makes
+//! cases, and compares the answers to them with its own.
 
 mod answer;
 mod batch;
@@ -22,6 +22,7 @@ mod scenario;
 mod sheet;
 mod table;
 mod text;
+mod writer;
 
 use make::Half;
 use probe::Choice;

@@ -168,4 +168,15 @@ impl Dice {
         let (before, after) = (self.pick(&[0, 0, 1, 2, 7]), self.pick(&[0, 0, 1, 2, 7]));
         Room { before, long, bytes: self.bytes(before + long + after) }
     }
+
+    /// A buffer for so many bytes: often as long, sometimes longer, sometimes too short.
+    pub fn room_for(&mut self, needed: usize) -> Room {
+        let long = match self.bits() % 8 {
+            0 => self.range(0, needed as u64) as usize,
+            1 | 2 => needed.saturating_sub(1),
+            3 | 4 => needed + self.range(1, 40) as usize,
+            _ => needed,
+        };
+        self.room(long)
+    }
 }

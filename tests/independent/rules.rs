@@ -44,10 +44,27 @@ pub enum Rule {
     OneReleaseShort,
     PlaceInList,
     SlotsFromOne,
+    LabelAtLength,
+    LabelsRoomFirst,
+    LabelsBeforeSheet,
+    RoomBeforeLabels,
+    EmptyLabel,
+    LabelOfSeventeen,
+    BlankInLabel,
+    LabelPastTilde,
+    PartCut,
+    PartWraps,
+    MissingLabels,
+    LastRowAtFault,
+    BudgetFirst,
+    LongForm,
+    FrontWritten,
+    MarkWritten,
+    PastBytesCleared,
 }
 
-/// Every rule with the kind of case that has to show it broken, and its name.
-pub const RULES: [(Rule, Kind, &str); 38] = [
+/// Every rule with the kind of case that has to show it broken, and its name; a rule that two kinds stand on has a name for each.
+pub const RULES: [(Rule, Kind, &str); 57] = [
     (Rule::ZeroLastGroup, Kind::Number, "zero-last-group"),
     (Rule::FourthGroup, Kind::Number, "fourth-group"),
     (Rule::MostRefused, Kind::UpTo, "most-refused"),
@@ -86,6 +103,25 @@ pub const RULES: [(Rule, Kind, &str); 38] = [
     (Rule::OneReleaseShort, Kind::WriteScenario, "one-release-short"),
     (Rule::PlaceInList, Kind::WriteScenario, "place-in-list"),
     (Rule::SlotsFromOne, Kind::PlayProgram, "slots-from-one"),
+    (Rule::RestOfListKept, Kind::Labels, "rest-of-labels-kept"),
+    (Rule::LabelAtLength, Kind::Labels, "label-at-length"),
+    (Rule::LabelsRoomFirst, Kind::Labels, "labels-room-first"),
+    (Rule::RowPastLast, Kind::Write, "row-past-last-written"),
+    (Rule::LabelsBeforeSheet, Kind::Write, "labels-before-sheet"),
+    (Rule::RoomBeforeLabels, Kind::Write, "room-before-labels"),
+    (Rule::EmptyLabel, Kind::Write, "empty-label"),
+    (Rule::LabelOfSeventeen, Kind::Write, "label-of-seventeen"),
+    (Rule::BlankInLabel, Kind::Write, "blank-in-label"),
+    (Rule::LabelPastTilde, Kind::Write, "label-past-tilde"),
+    (Rule::PartCut, Kind::Write, "part-cut"),
+    (Rule::PartWraps, Kind::Write, "part-wraps"),
+    (Rule::MissingLabels, Kind::Write, "missing-labels"),
+    (Rule::LastRowAtFault, Kind::Write, "last-row-at-fault"),
+    (Rule::BudgetFirst, Kind::Write, "budget-first"),
+    (Rule::LongForm, Kind::Write, "long-form"),
+    (Rule::FrontWritten, Kind::Write, "front-written"),
+    (Rule::MarkWritten, Kind::Write, "mark-written"),
+    (Rule::PastBytesCleared, Kind::Write, "past-bytes-cleared"),
 ];
 
 /// No rule.
@@ -104,4 +140,9 @@ pub fn break_rule(name: &str) -> Option<Kind> {
 /// Whether this rule is the broken one.
 pub fn broken(rule: Rule) -> bool {
     BROKEN.load(Relaxed) == rule as usize
+}
+
+/// Whether every rule is kept.
+pub fn all_kept() -> bool {
+    BROKEN.load(Relaxed) == NONE
 }

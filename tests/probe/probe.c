@@ -9,7 +9,7 @@ static void put_told(uint64_t number, size_t place) {
 }
 
 static list_t sheet, list, releases;
-static room_t room;
+static room_t room, source;
 
 /* Kinds 1 and 2: a place, a most for the second, and bytes; the number at that place. */
 static void answer_number(bool limited) {
@@ -22,12 +22,15 @@ static void answer_number(bool limited) {
   put_word(after);
 }
 
-/* Kind 3: a list and bytes; the sheet in the list. */
-static void answer_read(void) {
+/* A reading of a sheet's bytes into a list: the sheet, or where its labels lie. */
+typedef uint64_t read_t(const uint8_t *bytes, size_t bytes_length, uint64_t *list, size_t list_length, size_t *place);
+
+/* Kinds 3 and 19: a list and bytes; what is read, in the list. */
+static void answer_read(read_t *read_into) {
   size_t count, place = 7;
   take_list(&list);
   const uint8_t *bytes = take_rest(&count);
-  uint64_t number = giachimu_read(bytes, count, list.at, list.count, &place);
+  uint64_t number = read_into(bytes, count, list.at, list.count, &place);
   put_told(number, place);
   put_list(&list);
 }
@@ -67,12 +70,17 @@ static void answer_fresh(void) {
   put_list(&list);
 }
 
-/* The releases of a step, and all the bytes that its code buffer lies in. */
-static void take_step(void) {
+/* All the bytes that are left, and the buffer that lies in them. */
+static void take_buffer(void) {
   size_t before, lent_count;
-  take_list(&releases);
   take_places(&before, &lent_count);
   take_room(&room, left(), before, lent_count);
+}
+
+/* The releases of a step, and all the bytes that its code buffer lies in. */
+static void take_step(void) {
+  take_list(&releases);
+  take_buffer();
 }
 
 /* Kind 7: a sheet's and a state's list, and a step; the list and the bytes after one slot. */
@@ -121,10 +129,8 @@ static void answer_margin(void) {
 
 /* Kind 10: where the buffer lies in its bytes, how many these are, the bytes, and a sheet's bytes; the verdict's text. */
 static void answer_verdict(void) {
-  size_t before, lent_count, count, length = 7, place = 7;
-  take_places(&before, &lent_count);
-  uint64_t long_room = take_word();
-  take_room(&room, long_room, before, lent_count);
+  size_t count, length = 7, place = 7;
+  take_counted(&room);
   const uint8_t *bytes = take_rest(&count);
   uint64_t number = giachimu_verdict(bytes, count, room.lent, room.lent_count, &length, &place);
   put_told(number, place);
@@ -216,12 +222,28 @@ static void answer_scenario_sweep(void) {
   }
 }
 
+/* Kind 20: a sheet's list, where its labels lie, the bytes that they lie in (as kind 10 has its buffer), and a buffer; the length, and all of these after the call. */
+static void answer_write(void) {
+  size_t length = 7, place = 7;
+  take_list(&sheet);
+  take_list(&list);
+  take_counted(&source);
+  take_buffer();
+  uint64_t number = giachimu_write(sheet.at, sheet.count, source.lent, source.lent_count, list.at, list.count, room.lent, room.lent_count, &length, &place);
+  put_told(number, place);
+  put_word(length);
+  put_list(&sheet);
+  put_list(&list);
+  put_bytes(source.bytes, source.count);
+  put_bytes(room.bytes, room.count);
+}
+
 /* One case by its kind. */
 static void answer(uint64_t kind) {
   switch (kind) {
     case 1: answer_number(false); break;
     case 2: answer_number(true); break;
-    case 3: answer_read(); break;
+    case 3: answer_read(giachimu_read); break;
     case 4: answer_label(); break;
     case 5: answer_bounds(); break;
     case 6: answer_fresh(); break;
@@ -237,6 +259,8 @@ static void answer(uint64_t kind) {
     case 16: answer_read_scenario(); break;
     case 17: answer_write_scenario(); break;
     case 18: answer_scenario_sweep(); break;
+    case 19: answer_read(giachimu_labels); break;
+    case 20: answer_write(); break;
     default: stop("a case of no kind");
   }
 }

@@ -9,10 +9,13 @@ void *memcpy(void *to, const void *from, size_t count);
 
 enum { IN = 0, OUT = 1, ERR = 2, HEAD = 2, WORD = 8, BUFFER = 1 << 16 };
 
+/* What stands on either side of a list: a number that any list may have, so that it shows where it is read, too. */
+enum { GUARD = 3 };
+
 static uint8_t input[BUFFER], output[BUFFER];
 static size_t input_at, input_end, output_end;
 
-/* The case and how much of it is taken; where the answer begins in the output. */
+/* The case and how much of it is taken; where its answer begins in the output, behind the answers to the cases before it. */
 static uint8_t question[ROOM];
 static size_t question_at, question_end, answer_from;
 
@@ -27,6 +30,7 @@ static void write_all(int file, const uint8_t *bytes, size_t count) {
 
 _Noreturn void stop(const char *what) {
   size_t length = 0;
+  write_all(OUT, output, answer_from);
   while (what[length] != 0) length++;
   write_all(ERR, (const uint8_t *)"probe: ", 7);
   write_all(ERR, (const uint8_t *)what, length);
@@ -34,11 +38,16 @@ _Noreturn void stop(const char *what) {
   exit(1);
 }
 
+/* Writes the answers so far. */
+static void write_answers(void) {
+  write_all(OUT, output, output_end);
+  output_end = answer_from = 0;
+}
+
 /* The next byte of the input, or -1 at its end; the answers so far are written before it is waited for. */
 static int next_byte(void) {
   if (input_at == input_end) {
-    write_all(OUT, output, output_end);
-    output_end = 0;
+    write_answers();
     long got = read(IN, input, BUFFER);
     if (got < 0) stop("the cases cannot be read");
     input_at = 0;
@@ -62,11 +71,7 @@ bool next_case(void) {
   }
   question_at = 0;
   question_end = length;
-  if (output_end + HEAD + ROOM > BUFFER) {
-    write_all(OUT, output, output_end);
-    output_end = 0;
-  }
-  answer_from = output_end;
+  if (output_end + HEAD + ROOM > BUFFER) write_answers();
   output_end += HEAD;
   return true;
 }
@@ -90,9 +95,10 @@ uint64_t take_word(void) {
 void take_list(list_t *list) {
   uint64_t count = take_word();
   if (count > LONGEST_LIST) stop("a list is too long");
-  for (uint64_t i = 0; i < count; i++) list->numbers[i] = take_word();
+  for (uint64_t i = 0; i < count; i++) list->numbers[1 + i] = take_word();
+  list->numbers[0] = list->numbers[1 + count] = GUARD;
   list->count = count;
-  list->at = count == 0 ? NULL : list->numbers;
+  list->at = count == 0 ? NULL : list->numbers + 1;
 }
 
 const uint8_t *take_rest(size_t *count) {
@@ -113,6 +119,13 @@ void take_room(room_t *room, size_t count, size_t before, size_t lent_count) {
   room->lent_count = lent_count;
 }
 
+void take_counted(room_t *room) {
+  size_t before, lent_count;
+  take_places(&before, &lent_count);
+  size_t count = take_word();
+  take_room(room, count, before, lent_count);
+}
+
 void put_byte(uint8_t byte) {
   if (output_end == answer_from + HEAD + ROOM) stop("an answer is too long");
   output[output_end++] = byte;
@@ -127,11 +140,13 @@ void put_word(uint64_t value) {
 }
 
 void put_list(const list_t *list) {
-  for (size_t i = 0; i < list->count; i++) put_word(list->numbers[i]);
+  if (list->numbers[0] != GUARD || list->numbers[1 + list->count] != GUARD) stop("a list is written outside");
+  for (size_t i = 0; i < list->count; i++) put_word(list->numbers[1 + i]);
 }
 
 void send_answer(void) {
   size_t length = output_end - answer_from - HEAD;
   output[answer_from] = (uint8_t)length;
   output[answer_from + 1] = (uint8_t)(length >> 8);
+  answer_from = output_end;
 }

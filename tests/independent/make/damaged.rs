@@ -36,7 +36,7 @@ pub fn all(cases: &mut dyn Cases, dice: &mut Dice, times: u64) {
 }
 
 /// The bytes damaged at a place in several ways.
-fn damages(dice: &mut Dice, bytes: &[u8], at: usize) -> Vec<(&'static str, Vec<u8>)> {
+pub fn damages(dice: &mut Dice, bytes: &[u8], at: usize) -> Vec<(&'static str, Vec<u8>)> {
     let old = bytes[at];
     let near = dice.pick(&[old.wrapping_add(1), old.wrapping_sub(1), 0, 0x20, 0x7f, 0xff]);
     let mut damaged = Vec::new();

@@ -2,12 +2,14 @@
 
 mod bounds;
 mod damaged;
+mod edges;
 mod families;
 mod fields;
 mod full;
 mod handed;
 mod jobs;
 mod numbers;
+mod parts;
 mod runs;
 pub mod scenarios;
 mod sheets;
@@ -16,6 +18,7 @@ mod small;
 mod strings;
 pub mod texts;
 pub mod worked;
+mod written;
 
 use crate::batch::Cases;
 use crate::case::{Kind, EVERY_KIND};
@@ -27,14 +30,14 @@ type Make = fn(&mut dyn Cases, &mut Dice, u64);
 /// The two halves, about equally long, that are asked at the same time.
 #[derive(Clone, Copy, PartialEq)]
 pub enum Half {
-    /// Sheets in bytes, and bounds.
+    /// Sheets in bytes, read and written, and bounds.
     Sheets,
     /// The machine, and all else.
     Machine,
 }
 
 /// Every group: its half, the kinds of its cases, and what makes it.
-const GROUPS: [(Half, &[Kind], Make); 21] = [
+const GROUPS: [(Half, &[Kind], Make); 26] = [
     (Half::Machine, &EVERY_KIND, worked::all),
     (Half::Machine, &[Kind::Number, Kind::UpTo], numbers::all),
     (Half::Sheets, &[Kind::Read, Kind::Label], sheets::all),
@@ -56,6 +59,11 @@ const GROUPS: [(Half, &[Kind], Make); 21] = [
     (Half::Machine, &[Kind::ReadScenario], scenarios::made_up),
     (Half::Machine, &[Kind::ScenarioSweep], scenarios::strings),
     (Half::Machine, &[Kind::WriteScenario], scenarios::lists),
+    (Half::Sheets, &[Kind::Labels], parts::all),
+    (Half::Sheets, &[Kind::Write], edges::all),
+    (Half::Sheets, &[Kind::Write], written::sheets),
+    (Half::Sheets, &[Kind::Write], written::corrected),
+    (Half::Sheets, &[Kind::Write], written::faults),
 ];
 
 /// Whether a half has cases of the kind, or any cases where no kind is named.

@@ -155,13 +155,7 @@ pub fn lists(cases: &mut dyn Cases, dice: &mut Dice, times: u64) {
                 }
             }
         }
-        let room = match dice.bits() % 8 {
-            0 => dice.range(0, long as u64) as usize,
-            1 | 2 => long.saturating_sub(1),
-            3 | 4 => long + dice.range(1, 40) as usize,
-            _ => long,
-        };
-        let buffer = dice.room(room);
+        let buffer = dice.room_for(long);
         cases.add("scenarios written", Case::WriteScenario { sheet: list, releases, buffer });
     }
     let largest = Sheet::of(1, &[[1, LONGEST_SEPARATION, LONGEST_SEPARATION, LONGEST_SEPARATION]; MOST_ROWS]);

@@ -1,7 +1,7 @@
-//! The cases worked by hand: sheets A to F, the runs G and H, the numbers I, and sheet C in bytes.
+//! The cases worked by hand: sheets A to F, the runs G and H, the numbers I, and sheet C in bytes and written again.
 
 use crate::batch::Cases;
-use crate::case::{Case, Room, Step};
+use crate::case::{Case, Draft, Room, Step};
 use crate::dice::Dice;
 use crate::hand::SHEET_C;
 use crate::machine::{fresh, listed};
@@ -13,6 +13,7 @@ const BYTES: &str = "worked by hand, bytes";
 const SHEETS: &str = "worked by hand, sheets";
 const MACHINES: &str = "worked by hand, slots";
 const SCENARIOS: &str = "worked by hand, scenarios";
+const WRITTEN: &str = "worked by hand, sheets written";
 
 /// One or a few cases of each kind.
 pub fn all(cases: &mut dyn Cases, _: &mut Dice, _: u64) {
@@ -20,6 +21,7 @@ pub fn all(cases: &mut dyn Cases, _: &mut Dice, _: u64) {
     sheets(cases);
     machines(cases);
     scenarios(cases);
+    written(cases);
 }
 
 /// So many bytes to lend, with one before and two after.
@@ -87,4 +89,17 @@ fn scenarios(cases: &mut dyn Cases) {
         SCENARIOS,
         Case::ReadScenario { sheet: c.list(), list: vec![7; 14], bytes: b"GSC\x01\x02\x01\x01\x01\x01".to_vec() },
     );
+}
+
+/// The labels of sheet C, and it written from its own bytes: whole, and at fault in its last number, in a label and in the buffer's
+/// length, one of these by itself and two at once.
+fn written(cases: &mut dyn Cases) {
+    let bytes = Room { before: 0, long: SHEET_C.len(), bytes: SHEET_C.to_vec() };
+    [0, 4, 6].into_iter().for_each(|long| cases.add(WRITTEN, Case::Labels { list: vec![7; long], bytes: SHEET_C.to_vec() }));
+    for (budget, length, long) in [(3, 4, 24), (0, 4, 24), (3, 0, 24), (3, 4, 23), (0, 0, 24), (3, 0, 0), (0, 4, 0)] {
+        let mut sheet = fixed()[2].list();
+        sheet[9] = budget;
+        let draft = Draft { sheet, labels: vec![7, 4, 16, length], bytes: bytes.clone(), buffer: room(long) };
+        cases.add(WRITTEN, Case::Write(draft));
+    }
 }
