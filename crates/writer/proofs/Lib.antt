@@ -5,5 +5,6 @@ pub mod ReadIsWritten
 pub mod Refusals
 pub mod Same
 pub mod WrittenIsRead
+pub mod Wrong
 pub mod Inside
 mod Names

@@ -4,4 +4,5 @@ pub mod Length
 pub mod Good
 pub mod Listed
 pub mod Cases
+pub mod Wrong
 pub mod Inside
