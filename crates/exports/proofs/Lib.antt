@@ -7,5 +7,6 @@ pub mod SheetCalls
 pub mod Wrong
 pub mod WrongFurther
 pub mod WrongScenarios
+pub mod WrongSheets
 pub mod Inside
 mod Names

@@ -6,3 +6,4 @@ pub mod Sheets
 pub mod Wrong
 pub mod WrongFurther
 pub mod WrongScenarios
+pub mod WrongSheets
