@@ -1,5 +1,5 @@
 -- Laws of what a writer answers: what it has done where it accepts, what it refuses by, and equal answers. Assumes nothing.
-use Rattle.basis.specs.Prelude.{ℕ, _≤_, _≡_, refl, sym, ap, _∙_, Bool, true, false, List, arith, length, take, sets, leb, leb-true, le-leb}
+use Rattle.basis.specs.Prelude.{ℕ, _≤_, _≡_, refl, ap, _∙_, Bool, true, false, List, arith, length, take, sets, leb, leb-true, le-leb}
 use Rattle.basis.specs.Words.{pick}
 use Rattle.basis.specs.Refusals.{Outcome, accepted, refused}
 use Rattle.basis.specs.Lent.{Answer, answer, storedAt, writtenTold, nothingBy, putAll, writtenBy}

@@ -1,6 +1,6 @@
 -- What is read into a list comes back when the list is read: the sheet, and where its labels lie. Assumes nothing.
-use Rattle.basis.specs.Prelude.{ℕ, _+_, _*_, _≤_, _<_, _≡_, refl, ap₂, _∙_, Bool, true, false, List, length, leb, le-leb, arith}
-use Rattle.exports.proofs.Names.{Outcome, accepted, refused, orElse, needed, roomFor, room-holds, reading, labelIn, accepted-is-legal, rows-long, sheetIn, sheetLong, filled, told, fieldsIn, readIn, labelsBy, labelsOn}
+use Rattle.basis.specs.Prelude.{ℕ, _+_, _*_, _≤_, _<_, _≡_, refl, ap₂, _∙_, Bool, true, false, List, length, leb, arith}
+use Rattle.exports.proofs.Names.{Outcome, accepted, refused, orElse, needed, roomFor, room-holds, reading, labelIn, accepted-is-legal, rows-long, sheetIn, sheetLong, told, fieldsIn, readIn, labelsBy, labelsOn}
 use Rattle.basis.proofs.Inside.Pairs.{first-cell, second-cell}
 use Rattle.reader.specs.Lists.{labelsLong, labelCell, partIn}
 use Rattle.reader.proofs.Reach.{refusal-is-listed}

@@ -1,6 +1,6 @@
 -- A refused call for a scenario changes nothing that is lent, and what one call writes the other reads. Assumes nothing.
-use Rattle.basis.specs.Prelude.{ℕ, _*_, _/_, _≤_, _≡_, refl, Bool, true, false, List, length, take, sets, leb, arith}
-use Rattle.exports.proofs.Names.{Outcome, accepted, refused, Step, ok, refuse, legal, sheetIn, told, lentTold, readScenario, writeScenario, scenarioRead, scenarioWritten, pick}
+use Rattle.basis.specs.Prelude.{ℕ, _*_, _/_, _≤_, _≡_, refl, Bool, true, false, List, length, take, sets, arith}
+use Rattle.exports.proofs.Names.{accepted, refused, Step, ok, refuse, legal, sheetIn, lentTold, readScenario, writeScenario, scenarioRead, scenarioWritten, pick}
 use Rattle.scenario.specs.Form.{Held, scenario}
 use Rattle.scenario.specs.Written.{fileOf}
 use Rattle.scenario.specs.Listed.{ReadRefusal, sheet-not-legal, no-mark, cut-off, bad-number, no-such-row, out-of-order, bad-count, no-room, WriteRefusal, unfit-sheet, uneven-list, over-budget, short-buffer}
@@ -8,7 +8,7 @@ use Rattle.scenario.proofs.Refusals.{read-refusal-is-listed, write-refusal-is-l
 use Rattle.scenario.proofs.BothWays.{list-comes-back, file-comes-back}
 use Rattle.basis.specs.Readers.{Bytes}
 use Rattle.exports.proofs.Inside.LentAnswers.{put-kept, written-left, told-zero}
-use Rattle.basis.specs.Lent.{nothingBy, putAll, writtenBy}
+use Rattle.basis.specs.Lent.{nothingBy}
 use Rattle.scenario.specs.Answers.{filledBy, checkList}
 
 -- A refused `giachimu_read_scenario` leaves the number and the list.

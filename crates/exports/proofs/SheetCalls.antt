@@ -1,8 +1,8 @@
 -- A sheet that is written and read, or read and written, by the library's calls; and a refused writing changes nothing that is lent. Assumes nothing.
-use Rattle.basis.specs.Prelude.{ℕ, _≤_, _≡_, refl, sym, ap, _∙_, List, arith, length, take, sets, le-leb}
+use Rattle.basis.specs.Prelude.{ℕ, _≤_, _≡_, refl, ap, _∙_, List, arith, length, take, sets, le-leb}
 use Rattle.basis.specs.Lent.{Answer}
 use Rattle.basis.specs.Readers.{Bytes}
-use Rattle.exports.proofs.Names.{Outcome, accepted, refused, orElse, roomFor, handed, reading, sheetIn, sheetLong, told, lentTold, fieldsIn, readIn, labelsBy, labelsOn, sheetWritten, writeSheet}
+use Rattle.exports.proofs.Names.{accepted, reading, sheetIn, sheetLong, lentTold, fieldsIn, readIn, labelsBy, labelsOn, sheetWritten, writeSheet}
 use Rattle.reader.specs.Lists.{labelsLong}
 use Rattle.writer.specs.Answers.{heldBy, entryOf, checkSheet}
 use Rattle.writer.specs.Form.{sheetBytes}

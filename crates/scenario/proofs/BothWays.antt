@@ -1,6 +1,6 @@
 -- Both ways, over the promises: a list that is written and read is the list again, a file that is read and written is its very bytes, and so each list has one file and each accepted file one list. Assumes nothing.
-use Rattle.basis.specs.Prelude.{ℕ, zero, suc, _+_, _*_, _/_, _≤_, _%_, _<_, _≡_, refl, sym, ap, ap₂, _∙_, Bool, true, mul-div-cancel, mul-mod-left, List, false, arith, length, getD, take, take-at, drop, sets-eq, ltb, div-add-mod', leb, sets, le-ltb, ltb-false, eq-eqb, le-leb, leb-true}
-use Rattle.scenario.proofs.Names.{put-where-room, written-whole, wrote, first-at, Bytes, Step, ok, refuse, Outcome, accepted, refused, firstOf, pick, Answer, answer, filledBy, nothingBy, writtenBy, checkList, checkWhole, overAt, overBudget, readScenario, writeScenario, Held, budgetAt, scenario, fileOf, scenarioBytes, legal-is, legal, Sheet}
+use Rattle.basis.specs.Prelude.{ℕ, _+_, _*_, _/_, _≤_, _%_, _<_, _≡_, refl, sym, ap, _∙_, Bool, true, mul-div-cancel, mul-mod-left, List, false, arith, length, getD, take, ltb, div-add-mod', leb, sets, le-ltb, ltb-false, eq-eqb, leb-true}
+use Rattle.scenario.proofs.Names.{put-where-room, written-whole, wrote, first-at, Bytes, Step, ok, refuse, accepted, refused, firstOf, pick, Answer, answer, filledBy, nothingBy, writtenBy, checkList, checkWhole, overAt, overBudget, readScenario, writeScenario, Held, budgetAt, scenario, fileOf, scenarioBytes, legal-is, legal, Sheet}
 use Rattle.basis.proofs.Inside.FirstRefusal.{all-accepted}
 use Rattle.basis.proofs.Inside.Stores.{sets-front}
 use Rattle.scenario.proofs.Inside.Checks.{checked-legal, checked-even, checked-entries}

@@ -1,6 +1,6 @@
 -- Every refusal of the reader is one of the table's: of the bytes at its place in them, 10 and 15 at 0; and every one of the writer. Assumes nothing.
-use Rattle.basis.specs.Prelude.{ℕ, zero, suc, _+_, _%_, _<_, _≡_, refl, sym, ap₂, _∙_, _⊎_, inl, inr, ⊎-elim, Bool, true, false, List, length, arith, ltb, leb, eqb, getD, sets, mod-lt, zero-lt-suc}
-use Rattle.scenario.proofs.Names.{put-refused, mostGroups, pick, Step, ok, refuse, after, refuse-at, give, begins, markBytes, Outcome, accepted, refused, never-ok, lt-or-le, number, upTo, upToBy, groups, taken, Sheet, legal, Held, noReleases, noSlots, slotBefore, row, releases, slot, slots, scenario, legal-is, fileOf, firstOf, budgetAt, overBudget, overAt, checkWhole, checkList, readScenario, writeScenario, nothingBy, filledBy, writtenBy, answer}
+use Rattle.basis.specs.Prelude.{ℕ, zero, suc, _+_, _%_, _<_, _≡_, refl, sym, ap₂, _∙_, _⊎_, inl, inr, ⊎-elim, Bool, true, false, List, length, arith, ltb, leb, eqb, getD, mod-lt, zero-lt-suc}
+use Rattle.scenario.proofs.Names.{put-refused, mostGroups, pick, Step, ok, refuse, after, refuse-at, give, begins, markBytes, Outcome, accepted, refused, never-ok, lt-or-le, number, upTo, upToBy, groups, taken, Sheet, legal, Held, noReleases, noSlots, slotBefore, row, releases, slot, slots, scenario, legal-is, fileOf, firstOf, budgetAt, overBudget, overAt, checkWhole, checkList, readScenario, writeScenario, nothingBy, filledBy, writtenBy}
 use Rattle.basis.specs.Refusals.{orElse}
 use Rattle.basis.proofs.Inside.Steps.{refuse-same, after-no}
 use Rattle.numbers.proofs.Inside.Groups.{ends, low, last, more, over, one-less}

@@ -1,6 +1,6 @@
 -- Both ways, over the promises: what is written reads back as those rows and those labels, a sheet that was read is written as its very bytes, and a number or a label that is replaced leaves the others. Assumes nothing.
-use Rattle.basis.specs.Prelude.{ℕ, _+_, _≤_, _<_, _≡_, refl, sym, ap, ap₂, _∙_, true, Bool, List, _++_, arith, length, length-append, take, take-append-le, drop, drop-append-le, length-drop, sets, leb, le-leb, leb-true}
-use Rattle.writer.proofs.Names.{written-whole, wrote, both-left, both-right, both-true, mostRows, Outcome, accepted, needed, orElse, refused, firstOf, both, pick, Bytes, ok, Answer, answer, writtenBy, Held, sheet, partIn, Part, Sheet, sheetIn, legal, legal-is, entryOf, heldBy, partOf, checkSheet, isLabel, labelAt, labelLies, writeSheet, Good, sheetBytes}
+use Rattle.basis.specs.Prelude.{ℕ, _+_, _≤_, _<_, _≡_, refl, sym, ap, _∙_, true, Bool, List, _++_, arith, length, length-append, take, take-append-le, drop, drop-append-le, length-drop, sets, leb, le-leb, leb-true}
+use Rattle.writer.proofs.Names.{written-whole, wrote, both-left, both-right, both-true, accepted, needed, orElse, refused, firstOf, pick, Bytes, ok, answer, writtenBy, sheet, partIn, Part, Sheet, sheetIn, legal, entryOf, heldBy, partOf, checkSheet, isLabel, labelAt, labelLies, writeSheet, sheetBytes}
 use Rattle.basis.proofs.Inside.FirstRefusal.{all-accepted}
 use Rattle.sheet.specs.Lists.{sheetLong}
 use Rattle.reader.specs.Answers.{reading, labelIn}
@@ -10,8 +10,8 @@ use Rattle.reader.proofs.LentLists.{outcome-is-the-readers}
 use Rattle.reader.proofs.RowLabels.{label-of-row}
 use Rattle.reader.proofs.Inside.ZeroLists.{lists}
 use Rattle.writer.proofs.WrittenIsRead.{written-is-read}
-use Rattle.writer.proofs.ReadIsWritten.{read-is-written, read-is-good}
-use Rattle.writer.proofs.Inside.Checks.{label-inside, part-is-label}
+use Rattle.writer.proofs.ReadIsWritten.{read-is-written}
+use Rattle.writer.proofs.Inside.Checks.{part-is-label}
 use Rattle.writer.proofs.Inside.Held.{Handed, checked-is-good, read-into-hands-over, lists-hold, list-is-legal}
 use Rattle.writer.proofs.Inside.Stored.{rows-count}
 

@@ -1,6 +1,6 @@
 -- How many bytes are written: what a sum over the rows says, and 870 at most; a buffer of that size is never too short. Assumes nothing.
-use Rattle.basis.specs.Prelude.{ℕ, _≤_, _≡_, refl, sym, true, ap, _∙_, List, arith, length}
-use Rattle.writer.proofs.Names.{accepted, written-whole, wrote, put-accepted, Outcome, refused, answer, writtenBy, spelt, Held, Sheet, legal, sheetIn, heldBy, checkSheet, writeSheet, Good, entryLong, headLong, rowLong, sheetLength, sheetBytes, entriesBytes, entryBytes, headBytes, rowBytes}
+use Rattle.basis.specs.Prelude.{ℕ, _≤_, _≡_, refl, sym, true, _∙_, List, arith, length}
+use Rattle.writer.proofs.Names.{accepted, written-whole, wrote, Outcome, refused, writtenBy, spelt, Held, Sheet, legal, sheetIn, heldBy, checkSheet, writeSheet, Good, sheetLength, sheetBytes, entriesBytes, entryBytes, headBytes, rowBytes}
 use Rattle.reader.specs.Longest.{longestSheet}
 use Rattle.reader.proofs.Reach.{accepted-is-short}
 use Rattle.writer.specs.Cases.{longest}

@@ -1,6 +1,6 @@
 -- What is read is what would be written: its very bytes. And it can be written: so a sheet's numbers and labels have one file. Assumes nothing.
-use Rattle.basis.specs.Prelude.{ℕ, zero, suc, _+_, _≤_, _<_, _≡_, sym, ap, ap₂, subst, _∙_, true, List, [], _∷_, _++_, arith, append-assoc, length, take, drop, getD, getD-take, getD-drop}
-use Rattle.writer.proofs.Names.{all-true, both-true, within, within-true, allOf, longestLabel, mostProcessors, mostRows, mostSeparation, Each, Bytes, Step, ok, after-ok, ok-same, enough, enough-ok, marked, marked-ok, begins, bounded, Covers, covers-all, covers-as, covers-mark, covers-none, covers-part, covers-then, covers-up-to, spell, upTo, Entry, Held, Head, isPlain, markBytes, entries, entry, head, label, sheet, entriesBy, entryBy, headBy, labelBy, isLabel, plainAt, GoodEntry, Good, labelBytes, entriesBytes, entryBytes, headBytes, rowBytes, sheetBytes}
+use Rattle.basis.specs.Prelude.{ℕ, zero, suc, _+_, _≤_, _<_, _≡_, sym, ap, ap₂, subst, _∙_, true, List, [], _∷_, _++_, arith, length, take, drop}
+use Rattle.writer.proofs.Names.{longestLabel, mostProcessors, mostRows, mostSeparation, Each, Bytes, ok, after-ok, ok-same, enough, enough-ok, marked, marked-ok, bounded, Covers, covers-all, covers-as, covers-mark, covers-none, covers-part, covers-then, covers-up-to, spell, upTo, Entry, Held, Head, markBytes, entries, entry, head, label, sheet, entriesBy, entryBy, headBy, labelBy, isLabel, GoodEntry, Good, labelBytes, entriesBytes, entryBytes, headBytes, rowBytes, sheetBytes}
 use Rattle.reader.proofs.Inside.Plain.{plain-ok}
 use Rattle.reader.proofs.Inside.LabelPlaces.{rowed, whole}
 use Rattle.reader.proofs.LegalSheets.{read-is-legal}

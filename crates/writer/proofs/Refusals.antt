@@ -1,6 +1,6 @@
 -- Every refusal of the writer is one of the table's, and beside it the buffer is as it was. Assumes nothing.
-use Rattle.basis.specs.Prelude.{ℕ, zero, suc, _<_, _≡_, refl, sym, _∙_, Bool, true, false, List, arith, length}
-use Rattle.writer.proofs.Names.{put-refused, Outcome, accepted, needed, orElse, refused, firstOf, pick, Answer, putAll, writtenBy, Sheet, legal, heldBy, partIn, checkSheet, labelAt, labelLies, writeSheet, sheetBytes}
+use Rattle.basis.specs.Prelude.{ℕ, zero, suc, _<_, _≡_, refl, _∙_, Bool, true, false, List, arith, length}
+use Rattle.writer.proofs.Names.{put-refused, Outcome, accepted, needed, orElse, refused, firstOf, pick, writtenBy, Sheet, legal, heldBy, partIn, checkSheet, labelAt, labelLies, writeSheet, sheetBytes}
 use Rattle.basis.proofs.Lent.{written-kept}
 use Rattle.writer.specs.Listed.{SheetRefusal, not-legal, bad-label, no-room}
 

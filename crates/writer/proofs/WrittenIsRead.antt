@@ -1,6 +1,6 @@
 -- What is written is read back: the same processors, the same rows and the same labels. Assumes nothing.
-use Rattle.basis.specs.Prelude.{ℕ, suc, _+_, _≤_, _<_, _≡_, refl, sym, ap, _∙_, true, List, [], _∷_, _++_, append-assoc, append-nil, arith, length, length-append, getD, getD-append-seam, lt-ltb, le-ltb, le-leb, le-refl, zero-lt-suc}
-use Rattle.writer.proofs.Names.{all-at, at-least, at-most, both-left, both-right, within, allOf, longestLabel, mostProcessors, mostRows, mostSeparation, Each, Reads, at-place, reads-end, reads-give, reads-then, reads-up-to, ok, begins, spell, upTo, Entry, Held, isPlain, markBytes, body, entries, entry, head, label, sheet, bodyBy, entriesBy, entryBy, headBy, labelBy, plain, sheetBy, isLabel, plainAt, GoodEntry, Good, labelBytes, entriesBytes, entryBytes, headBytes, rowBytes, sheetBytes}
+use Rattle.basis.specs.Prelude.{ℕ, suc, _+_, _≤_, _<_, _≡_, refl, sym, ap, _∙_, true, List, [], _∷_, _++_, append-assoc, append-nil, arith, length, length-append, getD, getD-append-seam, lt-ltb, le-ltb, le-leb, zero-lt-suc}
+use Rattle.writer.proofs.Names.{all-at, at-least, at-most, both-left, both-right, within, allOf, longestLabel, mostProcessors, mostRows, mostSeparation, Each, Reads, at-place, reads-end, reads-give, reads-then, reads-up-to, ok, begins, spell, upTo, Entry, Held, isPlain, markBytes, entries, entry, label, sheet, bodyBy, entriesBy, entryBy, headBy, labelBy, plain, sheetBy, isLabel, plainAt, GoodEntry, Good, labelBytes, entriesBytes, entryBytes, headBytes, rowBytes, sheetBytes}
 
 -- the bytes of a label
 reads-plain : (l : List ℕ) → ((j : ℕ) → j < length l → plainAt l j ≡ true) → Reads (plain (length l)) l l

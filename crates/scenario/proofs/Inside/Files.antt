@@ -1,5 +1,5 @@
 -- The loops of the writer over the slots, after the mark: what they measure and store, and the whole. Assumes nothing.
-use Rattle.basis.specs.Prelude.{ℕ, zero, suc, _+_, _*_, _-_, _/_, _≤_, _<_, _≡_, refl, sym, ap, _∙_, ap₂, Bool, true, false, List, drop-drop, length-sets, _++_, append-nil, arith, append-assoc, mul-le-mul-right, length, getD, add-one, set, add-zero, take, drop, length-take, div-add-mod', length-append, leb-true, sets, take-all, leb, lt-leb, le-leb}
+use Rattle.basis.specs.Prelude.{ℕ, zero, suc, _+_, _*_, _-_, _/_, _≤_, _<_, _≡_, refl, sym, ap, _∙_, ap₂, Bool, true, false, List, drop-drop, length-sets, _++_, append-nil, arith, append-assoc, mul-le-mul-right, length, add-one, add-zero, take, drop, length-take, div-add-mod', length-append, leb-true, sets, leb, lt-leb, le-leb}
 use Rattle.scenario.proofs.Names.{sets-after, mostRows, Outcome, accepted, outcome, refused, pick, Refusal, Answer, answer, nothingBy, writtenBy, checkList, writeScenario, markBytes, putWritten, fileOf, scenarioBytes, slotBytes, slotsBytes, legal-is, Sheet}
 use Rattle.scenario.proofs.Inside.Checks.{checked-legal, checked-even}
 use Rattle.basis.specs.declared.refusal.Refusal.the-variants as refusal-variants

@@ -1,6 +1,6 @@
 -- Each way out of the functions that check, and what is known where nothing is refused. Assumes nothing.
-use Rattle.basis.specs.Prelude.{ℕ, _+_, _*_, _-_, _≤_, _<_, _≡_, refl, sym, ap, _∙_, Bool, true, false, ⊎-elim, List, arith, length, length-take, length-drop, take, drop, getD, getD-take, getD-drop, leb, lt-leb, le-leb, leb-true, le-ltb, add-sub-cancel-left}
-use Rattle.writer.proofs.Names.{both-accepted, first-at, first-found, first-more, all-fails, all-one-more, all-true, at-least, at-most, both-left, both-right, both-true, lt-or-le, within-true, needed-holds, longestLabel, mostRows, Outcome, accepted, needed, orElse, outcome, refused, firstOf, both, pick, within, allOf, Refusal, Accepted, Refused, isPlain, partIn, Part, legal-is, legal, numberAt, Sheet, partOf, plainAt, checkSheet, isLabel, labelAt, labelLies}
+use Rattle.basis.specs.Prelude.{ℕ, _+_, _*_, _-_, _≤_, _<_, _≡_, refl, sym, ap, _∙_, Bool, true, false, ⊎-elim, List, arith, length, length-take, length-drop, take, drop, getD, getD-take, getD-drop, leb, lt-leb, le-leb, leb-true}
+use Rattle.writer.proofs.Names.{both-accepted, first-at, first-found, first-more, all-fails, all-one-more, all-true, at-least, at-most, both-left, both-right, both-true, lt-or-le, within-true, needed-holds, longestLabel, mostRows, Outcome, accepted, needed, refused, firstOf, both, pick, within, allOf, isPlain, partIn, Part, legal-is, legal, numberAt, Sheet, partOf, plainAt, checkSheet, isLabel, labelAt, labelLies}
 
 -- `part_of`
 pub part-read : (labels : List ℕ) (k a b : ℕ) → a ≡ numberAt labels (k * 2) → b ≡ numberAt labels (k * 2 + 1) → record { start = a; long = b } ≡ partIn labels k

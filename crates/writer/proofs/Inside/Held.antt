@@ -1,10 +1,10 @@
 -- The rows that are written, one by one; and those of a sheet that was read. Assumes nothing.
-use Rattle.basis.specs.Prelude.{ℕ, zero, suc, _+_, _≤_, _<_, _≡_, refl, sym, ap, ap₂, _∙_, ⊎-elim, eq-or-lt-of-le, true, List, [], _∷_, _++_, arith, length, length-map, map, getD, getD-append-seam, List·getD-append, List·getD-map, ext-getD}
-use Rattle.writer.proofs.Names.{Outcome, accepted, mostRows, ok, Each, Entry, Held, sheet, partIn, Part, rowAt, Sheet, sheetIn, entryOf, heldBy, partOf, firstRows, legal-is, legal, checkSheet, labelAt, isLabel, GoodEntry, Good}
+use Rattle.basis.specs.Prelude.{ℕ, zero, suc, _+_, _≤_, _<_, _≡_, refl, sym, ap, _∙_, ⊎-elim, eq-or-lt-of-le, true, List, [], _∷_, _++_, arith, length, getD, getD-append-seam, List·getD-append, List·getD-map, ext-getD}
+use Rattle.writer.proofs.Names.{accepted, ok, Each, Entry, Held, sheet, partIn, rowAt, Sheet, sheetIn, entryOf, heldBy, partOf, firstRows, legal-is, legal, checkSheet, GoodEntry, Good}
 use Rattle.sheet.specs.Legal.{noRow}
 use Rattle.sheet.proofs.RoundTrip.{processors-come-back, row-comes-back}
 use Rattle.reader.specs.Form.{entryRow, entryLabel}
-use Rattle.reader.specs.Answers.{reading, sheetHeld, labelIn}
+use Rattle.reader.specs.Answers.{reading, labelIn}
 use Rattle.reader.specs.Lists.{readInto}
 use Rattle.reader.proofs.LentLists.{reader-accepts, list-has-room, list-written, count-read, parts-written}
 use Rattle.reader.proofs.LegalSheets.{row-held, read-is-legal}

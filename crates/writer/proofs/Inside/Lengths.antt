@@ -1,6 +1,6 @@
 -- The functions that measure a sheet: the room that is left after the rows so far. Assumes nothing.
-use Rattle.basis.specs.Prelude.{ℕ, _+_, _-_, _≤_, _<_, _≡_, refl, sym, ap, ap₂, _∙_, true, false, List, arith, length, leb, lt-leb, le-leb}
-use Rattle.writer.proofs.Names.{sum-grows, sum-one-more, sum, width, markBytes, partIn, Part, rowAt, Row, Sheet, longAt, entryLong, headLong, rowLong, sheetLength}
+use Rattle.basis.specs.Prelude.{ℕ, _+_, _-_, _≤_, _<_, _≡_, refl, sym, ap, ap₂, _∙_, true, false, List, arith, leb, lt-leb, le-leb}
+use Rattle.writer.proofs.Names.{sum-grows, sum-one-more, sum, width, partIn, Part, rowAt, Row, Sheet, longAt, entryLong, headLong, rowLong, sheetLength}
 
 -- `row_length`
 pub row-measured : (row : Row) (a b c d : ℕ) → a ≡ width (row .threads) → b ≡ width (row .separation) → c ≡ width (row .deadline) → d ≡ width (row .budget)

@@ -1,6 +1,6 @@
 -- The functions that write: each part is stored after the one before it. Assumes nothing.
 use Rattle.basis.specs.Prelude.{ℕ, zero, suc, _+_, _-_, _*_, _^_, _≤_, _<_, _≡_, refl, sym, ap, ap₂, _∙_, Bool, true, false, leb, leb-true, List, [], _∷_, _++_, append-nil, append-assoc, arith, add-one, add-zero, zero-add, length, length-append, take, drop, sets, w64, Fits}
-use Rattle.writer.proofs.Names.{sum, written-whole, answer, nothingBy, writtenBy, Outcome, outcome, refused, Refusal, Accepted, Refused, longAt, entryLong, rowLong, headLong, sheetLength, writeSheet, sets-after, first-at, firstOf, mostHead, mostRows, longestLabel, accepted, spell, width, Entry, markBytes, partIn, Part, rowAt, Row, Sheet, partOf, entryOf, heldBy, firstRows, labelAt, checkSheet, sheetBytes, labelBytes, rowBytes, entryBytes, entriesBytes, headBytes}
+use Rattle.writer.proofs.Names.{sum, written-whole, answer, nothingBy, writtenBy, Outcome, outcome, refused, Refusal, Accepted, Refused, longAt, entryLong, rowLong, headLong, sheetLength, writeSheet, sets-after, first-at, firstOf, mostRows, longestLabel, accepted, spell, width, Entry, markBytes, partIn, Part, rowAt, Row, Sheet, partOf, entryOf, heldBy, firstRows, labelAt, checkSheet, sheetBytes, labelBytes, rowBytes, entryBytes, entriesBytes, headBytes}
 use Rattle.writer.proofs.Inside.Checks.{label-inside, label-long, label-short, checked-few, checked-labels, checked-at}
 
 -- one part after another
