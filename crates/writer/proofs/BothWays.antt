@@ -1,18 +1,19 @@
 -- Both ways, over the promises: what is written reads back as those rows and those labels, a sheet that was read is written as its very bytes, and a number or a label that is replaced leaves the others. Assumes nothing.
-use Rattle.basis.specs.Prelude.{ℕ, _+_, _≤_, _<_, _≡_, refl, sym, ap, _∙_, true, Bool, List, _++_, arith, length, length-append, take, take-append-le, drop, drop-append-le, length-drop, sets, leb, le-leb, leb-true}
-use Rattle.writer.proofs.Names.{written-whole, wrote, both-left, both-right, both-true, accepted, needed, orElse, refused, firstOf, pick, Bytes, ok, answer, writtenBy, sheet, partIn, Part, Sheet, sheetIn, legal, entryOf, heldBy, partOf, checkSheet, isLabel, labelAt, labelLies, writeSheet, sheetBytes}
+use Rattle.basis.specs.Prelude.{ℕ, _+_, _≤_, _<_, _≡_, refl, sym, ap, _∙_, true, Bool, List, _++_, arith, length, length-append, List·getD-map, take, take-append-le, drop, drop-append-le, length-drop, sets, leb, le-leb, leb-true}
+use Rattle.writer.proofs.Names.{written-whole, wrote, both-left, both-right, both-true, accepted, needed, orElse, refused, firstOf, pick, Bytes, ok, answer, writtenBy, sheet, partIn, Part, Sheet, sheetIn, legal, rowAt, firstRows, entryOf, heldBy, partOf, checkSheet, isLabel, labelAt, labelLies, writeSheet, sheetBytes}
 use Rattle.basis.proofs.Inside.FirstRefusal.{all-accepted}
 use Rattle.sheet.specs.Lists.{sheetLong}
 use Rattle.reader.specs.Answers.{reading, labelIn}
+use Rattle.reader.specs.Form.{entryRow, entryLabel}
 use Rattle.reader.specs.Lists.{labelsLong, readInto}
-use Rattle.reader.proofs.LegalSheets.{accepted-read}
+use Rattle.reader.proofs.LegalSheets.{accepted-read, row-held}
 use Rattle.reader.proofs.LentLists.{outcome-is-the-readers}
 use Rattle.reader.proofs.RowLabels.{label-of-row}
 use Rattle.reader.proofs.Inside.ZeroLists.{lists}
 use Rattle.writer.proofs.WrittenIsRead.{written-is-read}
 use Rattle.writer.proofs.ReadIsWritten.{read-is-written}
 use Rattle.writer.proofs.Inside.Checks.{part-is-label}
-use Rattle.writer.proofs.Inside.Held.{Handed, checked-is-good, read-into-hands-over, lists-hold, list-is-legal}
+use Rattle.writer.proofs.Inside.Held.{Handed, noEntry, row-first, checked-is-good, read-into-hands-over, lists-hold, list-is-legal}
 use Rattle.writer.proofs.Inside.Stored.{rows-count}
 
 -- ---- rows and labels, bytes, rows and labels
@@ -38,11 +39,32 @@ module _ (h : Sheet) (s labels out : List ℕ) (e : writeSheet h s labels out .o
   pub file-is-accepted : reading file .0 ≡ accepted
   file-is-accepted = rw file-is-read refl
 
+  -- and hands over the processors, the rows and the labels that were given
+  pub processors-are-read : reading file .1 .processors ≡ h .processors
+  processors-are-read = rw file-is-read refl
+
+  pub count-is-read : reading file .1 .count ≡ h .count
+  count-is-read = rw file-is-read (rows-count (h .count) (entryOf h s labels))
+
+  module _ (k : ℕ) (c : k < h .count) where
+    there : k < length (firstRows (h .count) (entryOf h s labels))
+    there = omega (arith, rows-count (h .count) (entryOf h s labels))
+
+    pub row-is-read : rowAt (reading file .1) k ≡ rowAt h k
+    row-is-read =
+        rw file-is-read (row-held (heldBy h s labels) k there)
+        ∙ List·getD-map entryRow (firstRows (h .count) (entryOf h s labels)) k noEntry ∙ ap entryRow (row-first (h .count) (entryOf h s labels) noEntry k c)
+
+    pub label-is-read : partOf file (labelIn file k) ≡ partOf s (partIn labels k)
+    label-is-read =
+        label-of-row file k (rw file-is-read there) .is-read (heldBy h s labels) (length file) file-is-read
+        ∙ List·getD-map entryLabel (firstRows (h .count) (entryOf h s labels)) k noEntry ∙ ap entryLabel (row-first (h .count) (entryOf h s labels) noEntry k c)
+
   -- and the lists that it is read into, where they have room, hold what was written
   pub sheet-comes-back : (list parts : List ℕ) → sheetLong (h .count) ≤ length list → labelsLong (h .count) ≤ length parts
       → (readInto file list parts .0 ≡ accepted) × (heldBy (sheetIn (readInto file list parts .1 .0)) file (readInto file list parts .1 .1) ≡ heldBy h s labels)
   sheet-comes-back list parts r q =
-      let many : reading file .1 .count ≡ h .count = rw file-is-read (rows-count (h .count) (entryOf h s labels)) in
+      let many = count-is-read in
       let fine : readInto file list parts .0 ≡ accepted = outcome-is-the-readers file list parts (omega arith) (omega arith) ∙ file-is-accepted in (
         fine,
         lists-hold file _ _ (read-into-hands-over file list parts (readInto file list parts .1 .0) (readInto file list parts .1 .1) (λ i. (sym fine i, readInto file list parts .1))) (heldBy h s labels) (length file) file-is-read,

@@ -14,6 +14,10 @@ use Rattle.sheet.proofs.Legality.{legal-says}
 use Rattle.writer.proofs.Inside.Checks.{label-holds, checked-at, checked-legal}
 use Rattle.writer.proofs.Inside.Stored.{rows-count}
 
+-- an entry that is not there
+abbrev pub noEntry : Entry
+noEntry = record { label = []; row = noRow }
+
 -- ---- one by one
 
 pub row-first : (n : ℕ) (f : ℕ → Entry) (d : Entry) (k : ℕ) → k < n → getD (firstRows n f) k d ≡ f k
@@ -76,14 +80,10 @@ read-into-hands-over s list labels l b e =
     }
 
 module _ (s l b : List ℕ) (d : Handed s l b) (h : Held) (n : ℕ) (q : sheet s 0 ≡ ok h n) where
-  noEntry : Entry
-  noEntry = record { label = []; row = noRow }
-
   count-is : sheetIn l .count ≡ length (h .entries)
   count-is = d .count ∙ rw q refl
 
   entry-is : (k : ℕ) → k < sheetIn l .count → entryOf (sheetIn l) s b k ≡ getD (h .entries) k noEntry
-  unfolding noEntry
   entry-is k c =
       let inside : k < length (h .entries) = omega (arith, count-is) in
       let there : k < reading s .1 .count = rw q inside in
