@@ -26,7 +26,7 @@ BROKEN = [
     ("a record field for a law", PAGE, "`is-legal-same` | ", "`some-rows` | ", "no file beside it has some-rows"),
     ("a law of no file", PAGE, "`is-legal-same`", "`is-legal-alike`", "no file beside it has is-legal-alike"),
     ("no law", PAGE, "`is-legal-same`", "is-legal-same", "no definition or no law"),
-    ("a file that is not there", PAGE, "`crates/sheet/specs/Legal.antt`, `crates/sheet/specs/Lists.antt`, `crates/sheet/proofs/Same.antt`", "`crates/sheet/specs/Legal.antt`, `crates/sheet/specs/List.antt`, `crates/sheet/specs/Lists.antt`, `crates/sheet/proofs/Same.antt`", "there is no crates/sheet/specs/List.antt"),
+    ("a file that is not there", PAGE, LEGAL, LEGAL.replace("specs/Legal.antt`,", "specs/Legal.antt`, `crates/sheet/specs/List.antt`,"), "there is no crates/sheet/specs/List.antt"),
     ("a file that has nothing of it", PAGE, LEGAL, LEGAL.replace("specs/Legal.antt`,", "specs/Legal.antt`, `crates/sheet/specs/Values.antt`,"), "Values.antt has none of the names"),
     ("a cell too few", PAGE, LEGAL, LEGAL.replace(" | `is-legal-same`", ""), "has not the cells of its heading"),
     ("another table's theorem that is none", PAGE, "`no-job-is-late` | `crates/green/proofs/Theorem.antt`", "`no-job-is-early` | `crates/green/proofs/Theorem.antt`", "no file beside it has no-job-is-early"),
