@@ -25,11 +25,14 @@ pub fn count(list: &[u64]) -> u64
     number_at(list, 1)
 }
 
-// Its row k; all zero where no sheet has such a row.
+// Its row k; all zero where no sheet has such a row. The list's end is looked at once where the whole row is there.
 pub fn row_at(list: &[u64], k: usize) -> Row
     ensures { λ r. ⌜ r ≡ rowAt (sheetIn (now (list .entry))) k ⌝ }
 {
     if k < MOST_ROWS {
+        if k * 4 + 5 < list.len() {
+            return row_inside(list, k);
+        }
         return row_in(list, k);
     }
     NO_ROW
