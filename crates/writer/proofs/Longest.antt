@@ -1,7 +1,6 @@
 -- How many bytes are written: what a sum over the rows says, and 870 at most; a buffer of that size is never too short. Assumes nothing.
 use Rattle.basis.specs.Prelude.{ℕ, _≤_, _≡_, refl, sym, true, _∙_, List, arith, length}
-use Rattle.writer.proofs.Names.{accepted, written-whole, wrote, Outcome, refused, writtenBy, spelt, Held, Sheet, legal, sheetIn, heldBy, checkSheet, writeSheet, Good, sheetLength, sheetBytes, entriesBytes, entryBytes, headBytes, rowBytes}
-use Rattle.reader.specs.Longest.{longestSheet}
+use Rattle.writer.proofs.Names.{accepted, written-whole, wrote, Outcome, refused, writtenBy, spelt, Held, longestSheet, Sheet, legal, sheetIn, heldBy, checkSheet, writeSheet, Good, sheetLength, sheetBytes, entriesBytes, entryBytes, headBytes, rowBytes}
 use Rattle.reader.proofs.Reach.{accepted-is-short}
 use Rattle.writer.specs.Cases.{longest}
 use Rattle.writer.proofs.WrittenIsRead.{written-is-read}
@@ -21,6 +20,10 @@ length-is-the-sum h s labels out e =
 -- no sheet is longer than the longest
 pub written-is-short : (h : Held) → Good h → length (sheetBytes h) ≤ longestSheet
 written-is-short h g = accepted-is-short (sheetBytes h) h (length (sheetBytes h)) (written-is-read h g)
+
+-- by the sum, too: `write_checked`
+pub all-short : (h : Sheet) (s labels : List ℕ) → checkSheet h s labels ≡ accepted → sheetLength h labels ≤ longestSheet
+all-short h s labels e = omega (arith, sheet-long h s labels e, written-is-short (heldBy h s labels) (checked-is-good h s labels e))
 
 -- so a buffer of that size has room for any: all that is refused is refused by the checks
 pub longest-has-room : (h : Sheet) (s labels out : List ℕ) → longestSheet ≤ length out → writeSheet h s labels out .outcome ≡ checkSheet h s labels

@@ -24,6 +24,7 @@ unfoldable pub use Rattle.numbers.specs.Numbers.{spelt, width}
 pub use Rattle.reader.specs.Form.{Entry, Head, Held, entries, entry, head, isPlain, label, markBytes, sheet}
 unfoldable pub use Rattle.reader.specs.Form.{bodyBy, entriesBy, entryBy, headBy, labelBy, plain, sheetBy}
 unfoldable pub use Rattle.reader.specs.Lists.{partIn}
+unfoldable pub use Rattle.reader.specs.Longest.{longestRow, longestSheet}
 pub use Rattle.reader.specs.declared.row.Part.{Part}
 pub use Rattle.sheet.proofs.Legality.{legal-is}
 pub use Rattle.sheet.specs.Legal.{rowAt}

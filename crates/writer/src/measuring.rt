@@ -4,11 +4,15 @@ ghost use Prim.Native.Nat.{_≤_};
 ghost use lib.Dec.{leb};
 ghost use Rattle.basis.specs.Limits.{mostRows};
 ghost use Rattle.sheet.specs.Lists.{sheetIn};
+ghost use Rattle.reader.specs.Longest.{longestSheet};
 ghost use Rattle.writer.specs.Length.{rowLong, headLong, sheetLength};
 ghost use Rattle.writer.specs.Inside.Bounds.{mostRow, mostHead};
 use crate::checking::part_of;
 use numbers::number_length;
 use sheet::Row;
+
+// Bytes of the longest sheet.
+const LONGEST_SHEET: usize = 870;
 
 // The numbers of a row.
 fn row_length(row: Row) -> usize
@@ -27,11 +31,14 @@ fn head_length(processors: u64, count: u64) -> usize
     4 + numbers
 }
 
-// Whether a sheet of n rows has room in so many bytes.
+// Whether a sheet of n rows has room in so many bytes; where the longest has, nothing is measured.
 pub(crate) fn fits(sheet: &[u64], labels: &[u64], n: usize, room: usize) -> bool
-    requires { ⌜ (n ≡ sheetIn (now sheet) .count) × (n ≤ mostRows) ⌝ }
+    requires { ⌜ (n ≡ sheetIn (now sheet) .count) × (n ≤ mostRows) × (sheetLength (sheetIn (now sheet)) (now labels) ≤ longestSheet) ⌝ }
     ensures { λ r. ⌜ r ≡ leb (sheetLength (sheetIn (now (sheet .entry))) (now (labels .entry))) room ⌝ }
 {
+    if LONGEST_SHEET <= room {
+        return true;
+    }
     let head = head_length(sheet::processors(sheet), n as u64);
     if room < head {
         return false;

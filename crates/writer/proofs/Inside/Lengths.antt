@@ -1,6 +1,6 @@
 -- The functions that measure a sheet: the room that is left after the rows so far. Assumes nothing.
 use Rattle.basis.specs.Prelude.{ℕ, _+_, _-_, _≤_, _<_, _≡_, refl, sym, ap, ap₂, _∙_, true, false, List, arith, leb, lt-leb, le-leb}
-use Rattle.writer.proofs.Names.{sum-grows, sum-one-more, sum, width, partIn, Part, rowAt, Row, Sheet, longAt, entryLong, headLong, rowLong, sheetLength}
+use Rattle.writer.proofs.Names.{sum-grows, sum-one-more, sum, spelt, width, longestRow, longestSheet, partIn, Part, rowAt, Row, Sheet, longAt, entryLong, headLong, rowLong, sheetLength}
 
 -- `row_length`
 pub row-measured : (row : Row) (a b c d : ℕ) → a ≡ width (row .threads) → b ≡ width (row .separation) → c ≡ width (row .deadline) → d ≡ width (row .budget)
@@ -14,6 +14,10 @@ unfolding headLong
 head-measured m n a b ea eb = omega (arith, ea, eb)
 
 -- `fits`
+pub fits-longest : (h : Sheet) (labels : List ℕ) (room : ℕ) → sheetLength h labels ≤ longestSheet → 870 ≤ room → true ≡ leb (sheetLength h labels) room
+unfolding longestSheet longestRow width spelt
+fits-longest h labels room a b = sym (le-leb (sheetLength h labels) room (omega arith))
+
 pub fits-none : (h : Sheet) (labels : List ℕ) (head room : ℕ) → head ≤ room → room - head + (head + sum 0 (longAt h labels)) ≡ room
 unfolding sum
 fits-none h labels head room b = omega arith
