@@ -1,6 +1,6 @@
 -- Each way out of the functions that check, and what is known where nothing is refused. Assumes nothing.
 use Rattle.basis.specs.Prelude.{ℕ, _+_, _*_, _-_, _≤_, _<_, _≡_, refl, sym, ap, _∙_, Bool, true, false, ⊎-elim, List, arith, length, length-take, length-drop, take, drop, getD, getD-take, getD-drop, leb, lt-leb, le-leb, leb-true}
-use Rattle.writer.proofs.Names.{both-accepted, first-at, first-found, first-more, all-fails, all-one-more, all-true, at-least, at-most, both-left, both-right, both-true, lt-or-le, within-true, needed-holds, longestLabel, mostRows, Outcome, accepted, needed, refused, firstOf, both, pick, within, allOf, isPlain, partIn, Part, legal-is, legal, numberAt, Sheet, partOf, plainAt, checkSheet, isLabel, labelAt, labelLies}
+use Rattle.writer.proofs.Names.{both-accepted, first-at, first-found, first-more, all-fails, all-one-more, all-true, at-most, both-left, both-right, both-true, lt-or-le, within-true, needed-holds, longestLabel, mostRows, Outcome, accepted, needed, refused, firstOf, both, pick, within, allOf, isPlain, partIn, Part, legal-is, legal, numberAt, Sheet, partOf, plainAt, checkSheet, isLabel, labelAt, labelLies}
 
 -- `part_of`
 pub part-read : (labels : List ℕ) (k a b : ℕ) → a ≡ numberAt labels (k * 2) → b ≡ numberAt labels (k * 2 + 1) → record { start = a; long = b } ≡ partIn labels k
@@ -136,10 +136,6 @@ module _ (s labels : List ℕ) (k : ℕ) (e : labelAt s labels k ≡ accepted) w
   pub label-short : partIn labels k .long ≤ longestLabel
   unfolding isLabel
   label-short = rw (← label-long) (at-most 1 longestLabel _ (both-left (within 1 longestLabel (length (partOf s (partIn labels k)))) _ label-holds))
-
-  pub label-some : 1 ≤ partIn labels k .long
-  unfolding isLabel
-  label-some = rw (← label-long) (at-least 1 longestLabel _ (both-left (within 1 longestLabel (length (partOf s (partIn labels k)))) _ label-holds))
 
 module _ (h : Sheet) (s labels : List ℕ) (e : checkSheet h s labels ≡ accepted) where
   both-checked : (needed (legal h) 10 ≡ accepted) × (firstOf (h .count) (labelAt s labels) ≡ accepted)
