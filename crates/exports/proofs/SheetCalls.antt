@@ -10,7 +10,7 @@ use Rattle.writer.specs.Listed.{SheetRefusal, not-legal, bad-label, no-room}
 use Rattle.writer.proofs.BothWays.{file-is-read, file-is-accepted, handed-comes-back}
 use Rattle.writer.proofs.Refusals.{sheet-refusal-is-listed}
 use Rattle.writer.proofs.Inside.Held.{Handed, lists-hold}
-use Rattle.writer.proofs.Inside.Stored.{rows-count}
+use Rattle.writer.proofs.Inside.Rows.{rows-count}
 use Rattle.exports.proofs.Back.{read-passes, read-comes-back, labels-come-back}
 use Rattle.exports.proofs.Inside.LentAnswers.{written-left, told-zero}
 

@@ -5,24 +5,23 @@ use Rattle.sheet.proofs.Inside.FilledLists.{filled-read}
 use Rattle.sheet.proofs.Inside.ListRows.{row-in-sheet, row-read}
 use Rattle.sheet.proofs.Inside.Cells.{cell-of-row, cell-past, no-row-past}
 
+-- A list that has the numbers of row k has the row.
+row-by-numbers : (h : Sheet) (l : List ℕ) (k : ℕ) → ((i : ℕ) → i < sheetLong (k + 1) → numberAt l i ≡ sheetCell h i) → rowAt h k ≡ rowIn l k
+unfolding rowCell
+row-by-numbers h l k same =
+    let number : (j i : ℕ) → i ≡ k * 4 + j + 2 → j < 4 → rowCell (rowAt h k) j ≡ numberAt l i = λ j i e b. sym (same i (omega arith) ∙ cell-of-row h i k j e b) in
+    row-read l k (rowAt h k .threads) (rowAt h k .separation) (rowAt h k .deadline) (rowAt h k .budget)
+    (number 0 (k * 4 + 2) (omega arith) (omega arith)) (number 1 (k * 4 + 3) (omega arith) (omega arith))
+    (number 2 (k * 4 + 4) (omega arith) (omega arith)) (number 3 (k * 4 + 5) (omega arith) (omega arith))
+
 -- A list whose every number is that of a sheet hands the sheet over.
 module _ (h : Sheet) (l : List ℕ) (long : length (h .rows) ≡ mostRows) (number : (i : ℕ) → numberAt l i ≡ sheetCell h i) where
-  row-number : (k j i : ℕ) → i ≡ k * 4 + j + 2 → j < 4 → rowCell (rowAt h k) j ≡ numberAt l i
-  row-number k j i e b = sym (number i ∙ cell-of-row h i k j e b)
-
-  row-is : (k : ℕ) → rowAt h k ≡ rowIn l k
-  unfolding rowCell
-  row-is k =
-      row-read l k (rowAt h k .threads) (rowAt h k .separation) (rowAt h k .deadline) (rowAt h k .budget)
-      (row-number k 0 (k * 4 + 2) (omega arith) (omega arith)) (row-number k 1 (k * 4 + 3) (omega arith) (omega arith))
-      (row-number k 2 (k * 4 + 4) (omega arith) (omega arith)) (row-number k 3 (k * 4 + 5) (omega arith) (omega arith))
-
   pub list-hands-over : sheetIn l ≡ h
   unfolding sheetIn listCell
   list-hands-over =
       let rows : upto mostRows (rowIn l) (noRows mostRows) ≡ h .rows =
       sym (ext-getD noRow (h .rows) (upto mostRows (rowIn l) (noRows mostRows)) (long ∙ sym (length-upto mostRows (rowIn l) (noRows mostRows)))
-      (λ i b. row-is i ∙ sym (upto-below mostRows (rowIn l) (noRows mostRows) noRow i (omega arith) (le-refl mostRows)))) in
+      (λ i b. row-by-numbers h l i (λ j c. number j) ∙ sym (upto-below mostRows (rowIn l) (noRows mostRows) noRow i (omega arith) (le-refl mostRows)))) in
       λ i. record { processors = number 0 i; count = number 1 i; rows = rows i }
 
 -- A sheet whose rows from n on are not there, and that is written into a list with room for n rows, is the sheet that the list hands over.
@@ -47,13 +46,7 @@ module _ (h : Sheet) (n : ℕ) (l l′ : List ℕ) (e : l′ ≡ upto (sheetLong
   processors-come-back = number-comes-back 0 (omega arith)
 
   pub row-comes-back : (k : ℕ) → k < n → k < mostRows → rowAt (sheetIn l′) k ≡ rowAt h k
-  unfolding rowCell
-  row-comes-back k b few =
-      let number : (j i : ℕ) → i ≡ k * 4 + j + 2 → j < 4 → rowCell (rowAt h k) j ≡ numberAt l′ i = λ j i q c. sym (number-comes-back i (omega arith) ∙ cell-of-row h i k j q c) in
-      row-in-sheet l′ k few
-      ∙ sym (row-read l′ k (rowAt h k .threads) (rowAt h k .separation) (rowAt h k .deadline) (rowAt h k .budget)
-      (number 0 (k * 4 + 2) (omega arith) (omega arith)) (number 1 (k * 4 + 3) (omega arith) (omega arith))
-      (number 2 (k * 4 + 4) (omega arith) (omega arith)) (number 3 (k * 4 + 5) (omega arith) (omega arith)))
+  row-comes-back k b few = row-in-sheet l′ k few ∙ sym (row-by-numbers h l′ k (λ i c. number-comes-back i (omega arith)))
 
 -- So is any sheet in a list with room for every row.
 pub whole-sheet-comes-back : (h : Sheet) (l : List ℕ) → length (h .rows) ≡ mostRows → sheetLong mostRows ≤ length l → sheetIn (filled (sheetCell h) l) ≡ h

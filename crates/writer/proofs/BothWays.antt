@@ -13,8 +13,8 @@ use Rattle.reader.proofs.Inside.ZeroLists.{lists}
 use Rattle.writer.proofs.WrittenIsRead.{written-is-read}
 use Rattle.writer.proofs.ReadIsWritten.{read-is-written}
 use Rattle.writer.proofs.Inside.Checks.{part-is-label}
-use Rattle.writer.proofs.Inside.Held.{Handed, noEntry, row-first, checked-is-good, read-into-hands-over, lists-hold, list-is-legal}
-use Rattle.writer.proofs.Inside.Stored.{rows-count}
+use Rattle.writer.proofs.Inside.Held.{Handed, noEntry, checked-is-good, read-into-hands-over, lists-hold, list-is-legal}
+use Rattle.writer.proofs.Inside.Rows.{rows-count, row-first}
 
 -- ---- rows and labels, bytes, rows and labels
 

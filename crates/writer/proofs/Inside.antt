@@ -1,4 +1,5 @@
 pub mod Checks
 pub mod Held
 pub mod Lengths
+pub mod Rows
 pub mod Stored

@@ -4,7 +4,7 @@ use Rattle.writer.proofs.Names.{accepted, written-whole, wrote, Outcome
 use Rattle.reader.proofs.Reach.{accepted-is-short}
 use Rattle.writer.specs.Cases.{longest}
 use Rattle.writer.proofs.WrittenIsRead.{written-is-read}
-use Rattle.writer.proofs.Inside.Stored.{sheet-long}
+use Rattle.writer.proofs.Inside.Lengths.{sheet-long}
 use Rattle.writer.proofs.BothWays.{numbers-replaced}
 use Rattle.writer.proofs.Inside.Held.{checked-is-good, read-into-hands-over}
 use Rattle.reader.specs.Lists.{readInto}

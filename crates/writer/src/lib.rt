@@ -1,4 +1,4 @@
-// The writer of a sheet's bytes: first its numbers and labels are checked and it is known to have room, and only then its bytes are written.
+// The writer of a sheet's bytes: first its numbers and labels are checked, then whether the buffer has room, and only then anything is written.
 mod checking;
 mod measuring;
 mod writing;

@@ -1,6 +1,6 @@
--- The rows that are written, one by one; and those of a sheet that was read. Assumes nothing.
-use Rattle.basis.specs.Prelude.{ℕ, zero, suc, _+_, _≤_, _<_, _≡_, refl, sym, ap, _∙_, ⊎-elim, eq-or-lt-of-le, true, List, [], _∷_, _++_, arith, length, getD, getD-append-seam, List·getD-append, List·getD-map, ext-getD}
-use Rattle.writer.proofs.Names.{accepted, ok, Each, Entry, Held, sheet, partIn, rowAt, Sheet, sheetIn, entryOf, heldBy, partOf, firstRows, legal-is, legal, checkSheet, GoodEntry, Good}
+-- What the writer accepts can be written; and lists that a sheet was read into hold what was read. Assumes nothing.
+use Rattle.basis.specs.Prelude.{ℕ, _+_, _≤_, _<_, _≡_, refl, ap, _∙_, true, List, [], _∷_, _++_, arith, length, getD, List·getD-map}
+use Rattle.writer.proofs.Names.{accepted, ok, Entry, Held, sheet, partIn, rowAt, Sheet, sheetIn, entryOf, heldBy, partOf, firstRows, legal-is, legal, checkSheet, GoodEntry, Good}
 use Rattle.sheet.specs.Legal.{noRow}
 use Rattle.sheet.proofs.RoundTrip.{processors-come-back, row-comes-back}
 use Rattle.reader.specs.Form.{entryRow, entryLabel}
@@ -12,36 +12,11 @@ use Rattle.reader.proofs.RowLabels.{label-of-row}
 use Rattle.reader.proofs.Inside.ZeroLists.{lists, rows-few}
 use Rattle.sheet.proofs.Legality.{legal-says}
 use Rattle.writer.proofs.Inside.Checks.{label-holds, checked-at, checked-legal}
-use Rattle.writer.proofs.Inside.Stored.{rows-count}
+use Rattle.writer.proofs.Inside.Rows.{rows-count, rows-of-list, rows-each}
 
 -- an entry that is not there
 abbrev pub noEntry : Entry
 noEntry = record { label = []; row = noRow }
-
--- ---- one by one
-
-pub row-first : (n : ℕ) (f : ℕ → Entry) (d : Entry) (k : ℕ) → k < n → getD (firstRows n f) k d ≡ f k
-unfolding firstRows
-row-first zero f d k h = absurd (omega arith)
-row-first (suc n) f d k h =
-    ⊎-elim (λ e. ap (λ (j : ℕ). getD (firstRows n f ++ (f n ∷ [])) j d) (e ∙ sym (rows-count n f)) ∙ getD-append-seam (firstRows n f) (f n) [] d ∙ ap f (sym e))
-    (λ l. List·getD-append (firstRows n f) (f n ∷ []) d k (omega (arith, rows-count n f)) ∙ row-first n f d k l)
-    (eq-or-lt-of-le {n = k} {m = n} (omega arith))
-
--- the rows of a list, one by one, are the list
-rows-of-list : (es : List Entry) (n : ℕ) (f : ℕ → Entry) (d : Entry) → n ≡ length es → ((k : ℕ) → k < n → f k ≡ getD es k d) → firstRows n f ≡ es
-rows-of-list es n f d e h =
-    ext-getD d (firstRows n f) es (rows-count n f ∙ e) (λ k b. let l : k < n = omega (arith, rows-count n f) in row-first n f d k l ∙ h k l)
-
--- what holds of each is held by all
-pub rows-each : (P : Entry → Type 0) (n : ℕ) (f : ℕ → Entry) → ((k : ℕ) → k < n → P (f k)) → Each P (firstRows n f)
-unfolding firstRows
-rows-each P zero f h = tt
-rows-each P (suc n) f h = snoc (firstRows n f) (rows-each P n f (λ k b. h k (omega arith)))
-  where
-    snoc : (es : List Entry) → Each P es → Each P (es ++ (f n ∷ []))
-    snoc [] all = (h n (omega arith), tt)
-    snoc (e ∷ es) (g, gs) = (g, snoc es gs)
 
 -- ---- what the writer accepts can be written
 

@@ -1,6 +1,8 @@
--- The functions that measure a sheet: the room that is left after the rows so far. Assumes nothing.
-use Rattle.basis.specs.Prelude.{ℕ, _+_, _-_, _≤_, _<_, _≡_, refl, sym, ap, ap₂, _∙_, true, false, List, arith, leb, lt-leb, le-leb}
-use Rattle.writer.proofs.Names.{sum-grows, sum-one-more, sum, spelt, width, longestRow, longestSheet, partIn, Part, rowAt, Row, Sheet, longAt, entryLong, headLong, rowLong, sheetLength}
+-- The functions that measure a sheet: the room that is left after the rows so far; and that the sum is the length of what is written. Assumes nothing.
+use Rattle.basis.specs.Prelude.{ℕ, zero, suc, _+_, _-_, _≤_, _<_, _≡_, refl, sym, ap, ap₂, _∙_, true, false, List, [], _∷_, _++_, arith, length, length-append, leb, lt-leb, le-leb}
+use Rattle.writer.proofs.Names.{accepted, spell, markBytes, Entry, partOf, entryOf, heldBy, firstRows, checkSheet, labelBytes, rowBytes, entryBytes, entriesBytes, headBytes, sheetBytes, sum-grows, sum-one-more, sum, spelt, width, longestRow, longestSheet, partIn, Part, rowAt, Row, Sheet, longAt, entryLong, headLong, rowLong, sheetLength}
+use Rattle.writer.proofs.Inside.Checks.{label-long, checked-at}
+use Rattle.writer.proofs.Inside.Rows.{rows-count, entries-both}
 
 -- `row_length`
 pub row-measured : (row : Row) (a b c d : ℕ) → a ≡ width (row .threads) → b ≡ width (row .separation) → c ≡ width (row .deadline) → d ≡ width (row .budget)
@@ -54,3 +56,40 @@ module _ (h : Sheet) (labels : List ℕ) (n head room : ℕ) (en : n ≡ h .coun
 
 pub fits-no-head : (h : Sheet) (labels : List ℕ) (m n head room : ℕ) → n ≡ h .count → m ≡ h .processors → head ≡ headLong m n → room < head → false ≡ leb (sheetLength h labels) room
 fits-no-head h labels m n head room en em eh b = too-long h labels n head room en (head-is h m n head em eh) (omega arith)
+
+-- ---- the sum is the length
+
+pub row-bytes-long : (row : Row) → length (rowBytes row) ≡ rowLong row
+unfolding rowBytes rowLong width
+row-bytes-long row =
+    omega (
+      arith,
+      length-append (spell (row .threads)) (spell (row .separation) ++ (spell (row .deadline) ++ spell (row .budget))),
+      length-append (spell (row .separation)) (spell (row .deadline) ++ spell (row .budget)),
+      length-append (spell (row .deadline)) (spell (row .budget)),
+    )
+
+pub head-bytes-long : (m n : ℕ) → length (headBytes m n) ≡ headLong m n
+unfolding headBytes headLong width
+head-bytes-long m n = omega (arith, length-append markBytes (spell m ++ spell n), length-append (spell m) (spell n))
+
+module _ (h : Sheet) (s labels : List ℕ) (e : checkSheet h s labels ≡ accepted) where
+  entry-bytes-long : (k : ℕ) → k < h .count → length (entryBytes (entryOf h s labels k)) ≡ longAt h labels k
+  unfolding entryBytes entryLong width
+  entry-bytes-long k b =
+      let l : List ℕ = partOf s (partIn labels k) in
+      let long : length l ≡ partIn labels k .long = label-long s labels k (checked-at h s labels e k b) in
+      omega (arith, ap (λ (j : ℕ). length (spell j)) long, length-append (labelBytes l) (rowBytes (rowAt h k)), length-append (spell (length l)) l, row-bytes-long (rowAt h k))
+
+  rows-bytes-long : (n : ℕ) → n ≤ h .count → length (entriesBytes (firstRows n (entryOf h s labels))) ≡ sum n (longAt h labels)
+  unfolding sum firstRows entriesBytes
+  rows-bytes-long zero b = refl
+  rows-bytes-long (suc n) b =
+      let f : ℕ → Entry = entryOf h s labels in
+      omega (arith, ap length (entries-both (firstRows n f) (f n ∷ [])), length-append (entriesBytes (firstRows n f)) (entryBytes (f n) ++ []), length-append (entryBytes (f n)) [], rows-bytes-long n (omega arith), entry-bytes-long n b)
+
+  pub sheet-long : length (sheetBytes (heldBy h s labels)) ≡ sheetLength h labels
+  unfolding sheetBytes sheetLength
+  sheet-long =
+      let es : List Entry = firstRows (h .count) (entryOf h s labels) in
+      omega (arith, length-append (headBytes (h .processors) (length es)) (entriesBytes es), ap (λ (k : ℕ). length (headBytes (h .processors) k)) (rows-count (h .count) (entryOf h s labels)), head-bytes-long (h .processors) (h .count), rows-bytes-long (h .count) (omega arith))

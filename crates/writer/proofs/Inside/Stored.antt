@@ -1,7 +1,9 @@
 -- The functions that write: each part is stored after the one before it. Assumes nothing.
-use Rattle.basis.specs.Prelude.{ℕ, zero, suc, _+_, _-_, _*_, _^_, _≤_, _<_, _≡_, refl, sym, ap, ap₂, _∙_, Bool, true, false, leb, leb-true, List, [], _∷_, _++_, append-nil, append-assoc, arith, add-one, add-zero, zero-add, length, length-append, take, drop, sets, w64, Fits}
-use Rattle.writer.proofs.Names.{sum, written-whole, answer, nothingBy, writtenBy, Outcome, outcome, refused, Refusal, Accepted, Refused, longAt, entryLong, rowLong, headLong, sheetLength, writeSheet, sets-after, first-at, firstOf, mostRows, longestLabel, accepted, spell, width, Entry, markBytes, partIn, Part, rowAt, Row, Sheet, partOf, entryOf, heldBy, firstRows, labelAt, checkSheet, sheetBytes, labelBytes, rowBytes, entryBytes, entriesBytes, headBytes}
-use Rattle.writer.proofs.Inside.Checks.{label-inside, label-long, label-short, checked-few, checked-labels, checked-at}
+use Rattle.basis.specs.Prelude.{ℕ, _+_, _-_, _*_, _^_, _≤_, _<_, _≡_, refl, sym, ap, ap₂, _∙_, Bool, true, false, leb, leb-true, List, [], _∷_, _++_, arith, add-zero, zero-add, length, length-append, take, drop, sets, w64, Fits}
+use Rattle.writer.proofs.Names.{written-whole, answer, nothingBy, writtenBy, Outcome, outcome, refused, Refusal, Accepted, Refused, sheetLength, writeSheet, sets-after, first-at, firstOf, mostRows, longestLabel, accepted, spell, width, Entry, markBytes, partIn, Part, rowAt, Row, Sheet, partOf, entryOf, heldBy, firstRows, labelAt, checkSheet, sheetBytes, labelBytes, rowBytes, entryBytes, entriesBytes, headBytes}
+use Rattle.writer.proofs.Inside.Checks.{label-inside, label-long, label-short, checked-few, checked-labels}
+use Rattle.writer.proofs.Inside.Lengths.{row-measured, head-measured, row-bytes-long, head-bytes-long, sheet-long}
+use Rattle.writer.proofs.Inside.Rows.{rows-count, rows-more}
 
 -- one part after another
 pub both-stored : (l₀ l₁ l₂ : List ℕ) (at next : ℕ) (xs ys : List ℕ) → l₁ ≡ sets l₀ at xs → next ≡ at + length xs → l₂ ≡ sets l₁ next ys → l₂ ≡ sets l₀ at (xs ++ ys)
@@ -22,18 +24,7 @@ module _ (label : List ℕ) (at a : ℕ) (ea : a ≡ width (length label)) where
 -- `write_row`
 module _ (row : Row) (at a b c d : ℕ) (ea : a ≡ width (row .threads)) (eb : b ≡ width (row .separation)) (ec : c ≡ width (row .deadline)) (ed : d ≡ width (row .budget)) where
   pub row-next : at + a + b + c + d ≡ at + length (rowBytes row)
-  unfolding rowBytes width
-  row-next =
-      omega (
-        arith,
-        ea,
-        eb,
-        ec,
-        ed,
-        length-append (spell (row .threads)) (spell (row .separation) ++ (spell (row .deadline) ++ spell (row .budget))),
-        length-append (spell (row .separation)) (spell (row .deadline) ++ spell (row .budget)),
-        length-append (spell (row .deadline)) (spell (row .budget)),
-      )
+  row-next = omega (arith, row-measured row a b c d ea eb ec ed, row-bytes-long row)
 
   pub row-stored : (l₀ l₁ l₂ l₃ l₄ : List ℕ) → l₁ ≡ sets l₀ at (spell (row .threads)) → l₂ ≡ sets l₁ (at + a) (spell (row .separation))
       → l₃ ≡ sets l₂ (at + a + b) (spell (row .deadline)) → l₄ ≡ sets l₃ (at + a + b + c) (spell (row .budget)) → l₄ ≡ sets l₀ at (rowBytes row)
@@ -46,8 +37,7 @@ module _ (row : Row) (at a b c d : ℕ) (ea : a ≡ width (row .threads)) (eb : 
 -- `write_head`
 module _ (m n a b : ℕ) (ea : a ≡ width m) (eb : b ≡ width n) where
   pub head-next : 4 + a + b ≡ length (headBytes m n)
-  unfolding headBytes width
-  head-next = omega (arith, ea, eb, length-append markBytes (spell m ++ spell n), length-append (spell m) (spell n))
+  head-next = omega (arith, head-measured m n a b ea eb, head-bytes-long m n)
 
   pub head-stored : (l₀ l₁ l₂ l₃ : List ℕ) → l₁ ≡ sets l₀ 0 markBytes → l₂ ≡ sets l₁ 4 (spell m) → l₃ ≡ sets l₂ (4 + a) (spell n) → l₃ ≡ sets l₀ 0 (headBytes m n)
   unfolding headBytes
@@ -84,17 +74,6 @@ module _ (s labels : List ℕ) (k : ℕ) (e : labelAt s labels k ≡ accepted) (
     entry-stored l₀ l₁ l₂ f g = both-stored l₀ l₁ l₂ at next (labelBytes cut) (rowBytes row) f en g ∙ ap (sets l₀ at) entry-is
 
 -- `write_rows`
-pub entries-both : (xs ys : List Entry) → entriesBytes (xs ++ ys) ≡ entriesBytes xs ++ entriesBytes ys
-unfolding entriesBytes
-entries-both [] ys = refl
-entries-both (x ∷ xs) ys = ap (λ (l : List ℕ). entryBytes x ++ l) (entries-both xs ys) ∙ sym (append-assoc (entryBytes x) (entriesBytes xs) (entriesBytes ys))
-
-pub rows-more : (k : ℕ) (f : ℕ → Entry) → entriesBytes (firstRows (k + 1) f) ≡ entriesBytes (firstRows k f) ++ entryBytes (f k)
-unfolding firstRows entriesBytes
-rows-more k f =
-    ap (λ (j : ℕ). entriesBytes (firstRows j f)) (add-one k) ∙ entries-both (firstRows k f) (f k ∷ [])
-    ∙ ap (λ (l : List ℕ). entriesBytes (firstRows k f) ++ l) (append-nil (entryBytes (f k)))
-
 module _ (f : ℕ → Entry) (at i next : ℕ) (en : next ≡ at + length (entriesBytes (firstRows i f))) where
   pub rows-next : (r : ℕ) → r ≡ next + length (entryBytes (f i)) → r ≡ at + length (entriesBytes (firstRows (i + 1) f))
   rows-next r e = omega (arith, ap length (rows-more i f), length-append (entriesBytes (firstRows i f)) (entryBytes (f i)))
@@ -120,12 +99,6 @@ rows-not-stored f at l = refl
 pub row-is-fine : (s labels : List ℕ) (n i : ℕ) → firstOf n (labelAt s labels) ≡ accepted → i < n → labelAt s labels i ≡ accepted
 row-is-fine s labels n i e h = first-at n (labelAt s labels) e i h
 
--- as many rows as there are
-pub rows-count : (n : ℕ) (f : ℕ → Entry) → length (firstRows n f) ≡ n
-unfolding firstRows
-rows-count zero f = refl
-rows-count (suc n) f = length-append (firstRows n f) (f n ∷ []) ∙ ap (λ (k : ℕ). k + 1) (rows-count n f) ∙ add-one n
-
 -- `write_all`
 module _ (h : Sheet) (s labels : List ℕ) (e : checkSheet h s labels ≡ accepted) (n : ℕ) (en : n ≡ h .count) where
   pub all-few : n ≤ mostRows
@@ -148,63 +121,18 @@ module _ (h : Sheet) (s labels : List ℕ) (e : checkSheet h s labels ≡ accept
     sheet-stored l₀ l₁ l₂ f g = both-stored l₀ l₁ l₂ 0 next (headBytes m n) (entriesBytes (firstRows n (entryOf h s labels))) f (ex ∙ sym (zero-add (length (headBytes m n)))) g ∙ ap (sets l₀ 0) sheet-is
 
 -- `write_checked`
-module _ (h : Sheet) (s labels : List ℕ) (e : checkSheet h s labels ≡ accepted) where
-  -- the sum is the length
-  row-long : (k : ℕ) → k < h .count → length (entryBytes (entryOf h s labels k)) ≡ longAt h labels k
-  unfolding entryBytes rowBytes entryLong rowLong width
-  row-long k b =
-      let row : Row = rowAt h k in
-      let l : List ℕ = partOf s (partIn labels k) in
-      let long : length l ≡ partIn labels k .long = label-long s labels k (checked-at h s labels e k b) in
-      omega (
-        arith,
-        ap (λ (j : ℕ). length (spell j)) long,
-        long,
-        length-append (labelBytes l) (spell (row .threads) ++ (spell (row .separation) ++ (spell (row .deadline) ++ spell (row .budget)))),
-        length-append (spell (length l)) l,
-        length-append (spell (row .threads)) (spell (row .separation) ++ (spell (row .deadline) ++ spell (row .budget))),
-        length-append (spell (row .separation)) (spell (row .deadline) ++ spell (row .budget)),
-        length-append (spell (row .deadline)) (spell (row .budget)),
-      )
+module _ (h : Sheet) (s labels : List ℕ) (e : checkSheet h s labels ≡ accepted) (out : List ℕ) (t : Bool) (et : t ≡ leb (sheetLength h labels) (length out)) where
+  pub no-room : t ≡ false → nothingBy (refused 15 0) out ≡ writeSheet h s labels out
+  unfolding writeSheet
+  no-room f =
+      let b : leb (length (sheetBytes (heldBy h s labels))) (length out) ≡ false = ap (λ (k : ℕ). leb k (length out)) (sheet-long h s labels e) ∙ sym et ∙ f in
+      sym (simp (e, b))
 
-  rows-long : (n : ℕ) → n ≤ h .count → length (entriesBytes (firstRows n (entryOf h s labels))) ≡ sum n (longAt h labels)
-  unfolding sum firstRows entriesBytes
-  rows-long zero b = refl
-  rows-long (suc n) b =
-      omega (
-        arith,
-        ap length (entries-both (firstRows n (entryOf h s labels)) (entryOf h s labels n ∷ [])),
-        length-append (entriesBytes (firstRows n (entryOf h s labels))) (entryBytes (entryOf h s labels n) ++ []),
-        length-append (entryBytes (entryOf h s labels n)) [],
-        rows-long n (omega arith),
-        row-long n b,
-      )
-
-  pub sheet-long : length (sheetBytes (heldBy h s labels)) ≡ sheetLength h labels
-  unfolding sheetBytes sheetLength headBytes headLong width
-  sheet-long =
-      let n : length (firstRows (h .count) (entryOf h s labels)) ≡ h .count = rows-count (h .count) (entryOf h s labels) in
-      omega (
-        arith,
-        length-append (headBytes (h .processors) (length (firstRows (h .count) (entryOf h s labels)))) (entriesBytes (firstRows (h .count) (entryOf h s labels))),
-        ap (λ (k : ℕ). length (headBytes (h .processors) k)) n,
-        length-append markBytes (spell (h .processors) ++ spell (h .count)),
-        length-append (spell (h .processors)) (spell (h .count)),
-        rows-long (h .count) (omega arith),
-      )
-
-  module _ (out : List ℕ) (t : Bool) (et : t ≡ leb (sheetLength h labels) (length out)) where
-    pub no-room : t ≡ false → nothingBy (refused 15 0) out ≡ writeSheet h s labels out
-    unfolding writeSheet
-    no-room f =
-        let b : leb (length (sheetBytes (heldBy h s labels))) (length out) ≡ false = ap (λ (k : ℕ). leb k (length out)) sheet-long ∙ sym et ∙ f in
-        sym (simp (e, b))
-
-    pub all-written : t ≡ true → (k : ℕ) (out′ : List ℕ) → k ≡ length (sheetBytes (heldBy h s labels)) → out′ ≡ sets out 0 (sheetBytes (heldBy h s labels)) → answer accepted k out′ ≡ writeSheet h s labels out
-    unfolding writeSheet
-    all-written f k out′ ek eo =
-        let room : length (sheetBytes (heldBy h s labels)) ≤ length out = omega (arith, sheet-long, leb-true (sheetLength h labels) (length out) (sym et ∙ f)) in
-        ap₂ (λ (x : ℕ) (y : List ℕ). answer accepted x y) ek eo ∙ sym (written-whole (checkSheet h s labels) (sheetBytes (heldBy h s labels)) out e room)
+  pub all-written : t ≡ true → (k : ℕ) (out′ : List ℕ) → k ≡ length (sheetBytes (heldBy h s labels)) → out′ ≡ sets out 0 (sheetBytes (heldBy h s labels)) → answer accepted k out′ ≡ writeSheet h s labels out
+  unfolding writeSheet
+  all-written f k out′ ek eo =
+      let room : length (sheetBytes (heldBy h s labels)) ≤ length out = omega (arith, sheet-long h s labels e, leb-true (sheetLength h labels) (length out) (sym et ∙ f)) in
+      ap₂ (λ (x : ℕ) (y : List ℕ). answer accepted x y) ek eo ∙ sym (written-whole (checkSheet h s labels) (sheetBytes (heldBy h s labels)) out e room)
 
 -- `write_sheet`
 module _ (h : Sheet) (s labels : List ℕ) (c : Refusal) (ec : outcome c ≡ checkSheet h s labels) where
