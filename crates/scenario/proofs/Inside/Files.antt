@@ -97,9 +97,6 @@ pub written-some : (n slots : ℕ) (l : List ℕ) → 4 ≤ length (scenarioByte
 unfolding scenarioBytes
 written-some n slots l = omega (arith, length-append markBytes (slotsBytes n slots l))
 
-pub mark-room : (n slots len : ℕ) (l : List ℕ) → length (scenarioBytes n slots l) ≤ len → 4 ≤ len
-mark-room n slots len l r = omega (arith, written-some n slots l)
-
 pub fits-mark : (n slots room : ℕ) (l : List ℕ) → room < 4 → false ≡ leb (length (scenarioBytes n slots l)) room
 fits-mark n slots room l b = sym (lt-leb (length (scenarioBytes n slots l)) room (omega (arith, written-some n slots l)))
 
