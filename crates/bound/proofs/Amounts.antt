@@ -1,6 +1,6 @@
 -- q, X and the sum of the amounts: they fit, and the sum never falls as the length grows. Assumes nothing.
 use Rattle.basis.specs.Prelude.{ℕ, _+_, _*_, _-_, _≤_, _<_, min, _≡_, refl, ap, _∙_, false, le-ltb, mul-le-mul-right, arith, Fits, w64}
-use Rattle.bound.proofs.Names.{mostProcessors, sum, sum-le, sum-most, sum-one-more, rowAt, LegalRow, Legal, Row, Sheet, widestRows, widestSeparation, slots, on, q, X, x, durationOf, amountOf, amounts, room, passes, Ready, Length, Above, Duration, Amount}
+use Rattle.bound.proofs.Names.{mostProcessors, sum, sum-grows, sum-le, sum-most, sum-one-more, rowAt, LegalRow, Legal, Row, Sheet, widestRows, widestSeparation, slots, on, q, X, x, durationOf, amountOf, amounts, room, passes, Ready, Length, Above, Duration, Amount}
 use Rattle.bound.proofs.Durations.{same-amount, number, number-of, most-amount}
 use Rattle.bound.proofs.Workload.{W-mono}
 
@@ -72,6 +72,15 @@ pub fails-where : (h : Sheet) (R : ℕ → Duration) (k : ℕ) (L : Duration) �
 unfolding passes
 fails-where h R k L m = le-ltb (amounts h R k L k .0) (room h k L .0) (rw room-by-q m)
 
+-- the sum over more rows is never less
+pub more-rows-add : (h : Sheet) (R : ℕ → Duration) (k : ℕ) (L : Duration) (n m : ℕ) → n ≤ m → amounts h R k L n .0 ≤ amounts h R k L m .0
+unfolding amounts
+more-rows-add h R k L n m l = sum-grows n m (λ i. amountOf h R k L i .0) l
+
+-- so a length fails where the sum of the first rows reaches X on q processors
+pub first-rows-fail : (h : Sheet) (R : ℕ → Duration) (k : ℕ) (L : Duration) (n : ℕ) → n ≤ k → X h k L .0 * q h k ≤ amounts h R k L n .0 → passes h R k L ≡ false
+first-rows-fail h R k L n l m = fails-where h R k L (omega (arith, more-rows-add h R k L n k l))
+
 -- ---- the rows above it
 
 module _ (h : Sheet) (R : ℕ → Duration) (k : ℕ) (r : Ready h R k) where
@@ -130,9 +139,6 @@ module _ (h : Sheet) (R : ℕ → Duration) (k : ℕ) (r : Ready h R k) where
 
     pub sum-more : (t : Amount) → t .0 ≡ s .0 + a .0 → t ≡ amounts h R k L (i + 1)
     sum-more t e = same-amount (e ∙ more)
-
-  pub sum-done : (L : Duration) (i : ℕ) (s : Amount) → s ≡ amounts h R k L i → i ≤ k → k ≤ i → s ≡ amounts h R k L k
-  sum-done L i s e a b = let t : i ≡ k = omega arith in rw t at e
 
   -- ---- a longer length has no smaller amounts
 

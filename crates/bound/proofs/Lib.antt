@@ -2,6 +2,7 @@ pub mod Durations
 pub mod Workload
 pub mod Amounts
 pub mod Paces
+pub mod Sums
 pub mod Steps
 pub mod Shares
 pub mod Carry

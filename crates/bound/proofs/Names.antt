@@ -15,7 +15,7 @@ pub use Rattle.bound.specs.Bound.{Answer, Word, allUnreached, answer, bo
 unfoldable pub use Rattle.bound.specs.Bound.{boundBy, boundsBy, holds, judge, least, resultOf, resultsTo}
 pub use Rattle.bound.specs.Inside.Parts.{onFine, parts, pieces}
 pub use Rattle.bound.specs.Inside.Ready.{Above, Length, Lent, Ready, RowsAbove, SoFar, Spans, heldIn}
-pub use Rattle.bound.specs.Inside.Skipping.{AllFail, Along, Paces, RowMeets, RowsMeet, Says, Shares, Skips, Starts, Steep, Stretches, amountAlong, way}
+pub use Rattle.bound.specs.Inside.Skipping.{Adds, AllFail, Along, Fills, Paces, RowMeets, RowsMeet, Says, Shares, Skips, Starts, Steep, Stretches, amountAlong, way}
 unfoldable pub use Rattle.bound.specs.Inside.Skipping.{carriedOf, joined, lasts, shareOf, stayOf}
 pub use Rattle.bound.specs.Lists.{boundNumber, resultsLong, wordNumber, words}
 unfoldable pub use Rattle.bound.specs.Lists.{boundsOn, judgedBytes, putResult, resultCell, resultsOn, wordAt}
@@ -29,6 +29,7 @@ pub use Rattle.bound.specs.declared.quantity.FineAmount.{FineAmount}
 pub use Rattle.bound.specs.declared.results.Judgement.{Judgement}
 pub use Rattle.bound.specs.declared.results.Result.{Result}
 pub use Rattle.bound.specs.declared.stretch.Stretch.{Stretch}
+pub use Rattle.bound.specs.declared.sum.Added.{Added}
 pub use Rattle.reader.specs.Lists.{labelsLong}
 unfoldable pub use Rattle.reader.specs.Lists.{intoLists, readInto}
 pub use Rattle.sheet.proofs.Legality.{legal-is}

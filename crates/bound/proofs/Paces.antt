@@ -63,9 +63,6 @@ module _ (h : Sheet) (R : ℕ → Duration) (k : ℕ) (r : Ready h R k) (L : Dur
               (omega (arith, now .grows d (omega arith), amounts-more h R k r L i, amounts-more h R k r (plus L (slots d)) i, amount-grows i d l (omega (arith, number stay-is))));
         })
 
-  pub paces-done : (i : ℕ) (p : Pace) → Paces h R k L i p → i ≤ k → k ≤ i → Paces h R k L k p
-  paces-done i p now a b = let e : i ≡ k = omega arith in rw e at now
-
 -- a pace with a row more, as the code makes it
 pub join-fits : (n g w : ℕ) (b : Bool) → n ≤ widestRows * mostProcessors → g ≤ mostProcessors → w ≡ pick b g 0 → Fits w64 (n + w)
 join-fits n g w true few small e = omega arith

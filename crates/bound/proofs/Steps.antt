@@ -1,8 +1,8 @@
 -- The step from a length that fails to the next that can pass: every length between fails. Assumes nothing.
-use Rattle.basis.specs.Prelude.{ℕ, _+_, _*_, _-_, _≤_, min, max, _≡_, sym, _∙_, Bool, false, ⊎-elim, mul-le-mul-right, mul-le-mul-left, arith, ltb-false, ltb, Fits, w64}
-use Rattle.bound.proofs.Names.{mostProcessors, lt-or-le, Sheet, widestRows, widestSeparation, slots, plus, q, X, amounts, room, passes, Ready, Length, Skips, Paces, Steep, Duration, Amount, Pace}
+use Rattle.basis.specs.Prelude.{ℕ, _+_, _*_, _-_, _≤_, min, max, _≡_, sym, _∙_, Bool, true, false, ⊎-elim, mul-le-mul-right, mul-le-mul-left, arith, ltb-false, ltb, Fits, w64}
+use Rattle.bound.proofs.Names.{mostProcessors, lt-or-le, Sheet, widestRows, widestSeparation, slots, plus, q, X, amounts, room, passes, Ready, Length, Skips, Adds, Fills, Steep, Duration, Amount, Pace, Added}
 use Rattle.bound.proofs.Durations.{number-of}
-use Rattle.bound.proofs.Amounts.{few-rows, amounts-mono, amounts-small, q-some, length-small, room-by-q, fails-where}
+use Rattle.bound.proofs.Amounts.{few-rows, amounts-mono, amounts-small, q-some, length-small, room-by-q, first-rows-fail}
 use Rattle.bound.proofs.Paces.{X-more}
 
 -- ---- what a pace allows
@@ -18,43 +18,60 @@ divides h k b e = omega (arith, q-some h k)
 
 -- ---- a length that passes, and one that does not
 
-pub trial-is : (h : Sheet) (R : ℕ → Duration) (k : ℕ) (L : Duration) (s a : Amount) (t u : Bool) → t ≡ ltb (s .0) (a .0) → s ≡ amounts h R k L k → a ≡ room h k L → t ≡ u → passes h R k L ≡ u
-unfolding passes
-trial-is h R k L s a t u et es ea e = rw (← es, ← ea) (sym et ∙ e)
+module _ (h : Sheet) (k : ℕ) (L : Duration) (d : Added) (s a : Amount) (t : Bool) (es : s ≡ d .sum) (ea : a ≡ room h k L) (et : t ≡ ltb (s .0) (a .0)) where
+  pub trial-passes : (R : ℕ → Duration) → passes h R k L ≡ ltb (d .sum .0) (room h k L .0) → t ≡ true → passes h R k L ≡ true
+  trial-passes R told e = told ∙ rw (← es, ← ea) (sym et ∙ e)
 
-module _ (h : Sheet) (R : ℕ → Duration) (k : ℕ) (r : Ready h R k) (L : Duration) (len : Length h k L) where
+  pub trial-fills : t ≡ false → Fills h k L d
+  trial-fills e = rw (← es, ← ea) (ltb-false (s .0) (a .0) (sym et ∙ e))
+
+module _ (h : Sheet) (R : ℕ → Duration) (k : ℕ) (r : Ready h R k) (L : Duration) (len : Length h k L) (d : Added) (adds : Adds h R k L d) where
   -- what it can spare fits
-  pub spare-fits : (s a o : Amount) → s ≡ amounts h R k L k → o .0 ≡ s .0 - a .0 → Fits w64 (256 * o .0 + 255)
-  spare-fits s a o e eo = omega (arith, number-of e, amounts-small h R k r L len k, few-rows h R k r)
+  pub spare-fits : (s a o : Amount) → s ≡ d .sum → o .0 ≡ s .0 - a .0 → Fits w64 (256 * o .0 + 255)
+  spare-fits s a o es eo = omega (arith, number-of es, number-of (adds .sum), adds .within, amounts-small h R k r L len (d .rows), few-rows h R k r)
 
   -- a length fails where the sum has grown by q for each slot more
-  fails-at : (d : ℕ) → X h k L .0 * q h k + d * q h k ≤ amounts h R k (plus L (slots d)) k .0 → passes h R k (plus L (slots d)) ≡ false
-  fails-at d m = fails-where h R k (plus L (slots d)) (rw (X-more h R k r L len d) (omega arith))
+  fails-at : (e : ℕ) → X h k L .0 * q h k + e * q h k ≤ amounts h R k (plus L (slots e)) (d .rows) .0 → passes h R k (plus L (slots e)) ≡ false
+  fails-at e m = first-rows-fail h R k (plus L (slots e)) (d .rows) (adds .within) (rw (X-more h R k r L len e) (omega arith))
 
-  module _ (no : passes h R k L ≡ false) (s a o : Amount) (b : ℕ) (es : s ≡ amounts h R k L k) (ea : a ≡ room h k L) (eo : o .0 ≡ s .0 - a .0) (eb : b ≡ q h k) where
-    over-is : amounts h R k L k .0 ≡ X h k L .0 * q h k + o .0
-    unfolding passes
-    over-is = omega (arith, number-of es, number-of ea, room-by-q h k L, ltb-false (amounts h R k L k .0) (room h k L .0) no)
+  module _ (full : Fills h k L d) (a o : Amount) (b : ℕ) (ea : a ≡ room h k L) (eo : o .0 ≡ d .sum .0 - a .0) (eb : b ≡ q h k) where
+    over-is : amounts h R k L (d .rows) .0 ≡ X h k L .0 * q h k + o .0
+    over-is = omega (arith, number-of (adds .sum), number-of ea, room-by-q h k L)
 
-    module _ (n : ℕ) (ln : n * b ≤ o .0) (p : Pace) (c : Paces h R k L k p) (t f : Duration) (st : Steep o b p t) (ef : f .0 ≡ max (t .0) n) where
+    module _ (n : ℕ) (ln : n * b ≤ o .0) (t f : Duration) (st : Steep o b (d .pace) t) (ef : f .0 ≡ max (t .0) n) where
       further-small : f .0 ≤ widestRows * (widestSeparation * mostProcessors)
       further-small =
-          omega (arith, over-is, amounts-small h R k r L len k, few-rows h R k r, c .stay, st .within-stay, mul-le-mul-left {m = 1} {n = b} n (omega (arith, q-some h k)))
+          omega (
+            arith,
+            over-is,
+            adds .within,
+            amounts-small h R k r L len (d .rows),
+            few-rows h R k r,
+            adds .pace .stay,
+            st .within-stay,
+            mul-le-mul-left {m = 1} {n = b} n (omega (arith, q-some h k)),
+          )
 
       -- the sum never falls, and some rows keep pace
-      by : (d : ℕ) → d ≤ f .0 → passes h R k (plus L (slots d)) ≡ false
-      by d m =
-          fails-at d
-          (⊎-elim (λ i. omega (arith, over-is, amounts-mono h R k r L (plus L (slots d)) k (omega arith) (omega arith), rw eb at ln, mul-le-mul-right {m = d} {n = n} (q h k) (omega arith)))
+      by : (e : ℕ) → e ≤ f .0 → passes h R k (plus L (slots e)) ≡ false
+      by e m =
+          fails-at e
+          (⊎-elim (λ i. omega (
+            arith,
+            over-is,
+            amounts-mono h R k r L (plus L (slots e)) (d .rows) (omega arith) (adds .within),
+            rw eb at ln,
+            mul-le-mul-right {m = e} {n = n} (q h k) (omega arith),
+          ))
           (λ i. omega (
             arith,
             over-is,
-            c .grows d (omega arith),
+            adds .pace .grows e (omega arith),
             rw eb at (st .within-over),
-            mul-le-mul-right (q h k - p .width) i,
-            mul-le-mul-left {m = q h k} {n = p .width + (q h k - p .width)} d (omega arith),
+            mul-le-mul-right (q h k - d .pace .width) i,
+            mul-le-mul-left {m = q h k} {n = d .pace .width + (q h k - d .pace .width)} e (omega arith),
           ))
-          (lt-or-le (t .0) d))
+          (lt-or-le (t .0) e))
 
       pub next-fits : Fits w64 (L .0 + f .0)
       next-fits = omega (arith, further-small, length-small h R k r L len)

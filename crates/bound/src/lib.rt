@@ -9,6 +9,7 @@ mod search;
 mod share;
 mod start;
 mod stretch;
+mod sum;
 mod test;
 
 pub use bytes::judge_bytes;

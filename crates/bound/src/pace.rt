@@ -3,19 +3,13 @@ ghost use mathlib.Core.Path.{_≡_};
 ghost use Prim.Native.Nat.{_*_, _≤_};
 ghost use Rattle.basis.specs.Limits.{mostProcessors};
 ghost use Rattle.basis.specs.Words.{pick};
-ghost use Rattle.sheet.specs.Lists.{sheetIn};
 ghost use Rattle.bound.specs.Quantities.{widestRows};
-ghost use Rattle.bound.specs.Inside.Ready.{heldIn, Lent, Ready, Length, Above};
-ghost use Rattle.bound.specs.Inside.Skipping.{stayOf, joined, Paces, Steep};
+ghost use Rattle.bound.specs.Inside.Ready.{Above};
+ghost use Rattle.bound.specs.Inside.Skipping.{stayOf, joined, Steep};
 use crate::quantity::Amount;
 use crate::quantity::Duration;
-use crate::row::row_inside;
-use crate::test::fewer;
-use crate::test::q_of;
 use crate::test::span_of;
-use crate::test::window_of;
 use crate::test::work_of;
-use basis::MOST_SEPARATION;
 use sheet::Row;
 
 // Rows whose durations grow by one in each of the next `stay` slots, and the processors that they take together.
@@ -25,7 +19,7 @@ pub struct Pace {
 }
 
 // The slots for which a row above, with this bound, keeps pace with the length.
-fn stay_of_row(row: Row, bound: Duration, length: Duration, X: Duration) -> Duration
+pub(crate) fn stay_of_row(row: Row, bound: Duration, length: Duration, X: Duration) -> Duration
     requires { ⌜ Above row bound length ⌝ }
     ensures { λ r. ⌜ r ≡ stayOf row bound length X ⌝ }
 {
@@ -47,7 +41,7 @@ fn taken(stays: bool, capped: u64) -> u64
 }
 
 // The pace with a row more.
-fn joined(pace: Pace, capped: u64, stay: Duration) -> Pace
+pub(crate) fn joined(pace: Pace, capped: u64, stay: Duration) -> Pace
     requires { ⌜ (pace .width ≤ widestRows * mostProcessors) × (capped ≤ mostProcessors) ⌝ }
     ensures { λ r. ⌜ r ≡ joined pace capped stay ⌝ }
 {
@@ -58,29 +52,6 @@ fn joined(pace: Pace, capped: u64, stay: Duration) -> Pace
         width,
         stay: pace.stay.lesser(shared),
     }
-}
-
-// The pace at which the sum of the amounts above row `k` grows from a length on.
-pub(crate) fn pace_above(sheet: &[u64], results: &[u64], k: usize, length: Duration) -> Pace
-    requires { ⌜ (Lent (now sheet) (now results)) × (Ready (sheetIn (now sheet)) (heldIn (now results)) k) × (Length (sheetIn (now sheet)) k length) ⌝ }
-    ensures { λ r. ⌜ Paces (sheetIn (now (sheet .entry))) (heldIn (now (results .entry))) k length k r ⌝ }
-{
-    let q = q_of(sheet, k);
-    let X = window_of(sheet, k, length);
-    let mut pace = Pace {
-        width: 0,
-        stay: Duration(MOST_SEPARATION),
-    };
-    let mut i: usize = 0;
-    while i < k {
-        let row = row_inside(sheet, i);
-        let bound = Duration(results[i * 2 + 1]);
-        let stay = stay_of_row(row, bound, length, X);
-        let capped = fewer(row.threads, q);
-        pace = joined(pace, capped, stay);
-        i += 1;
-    }
-    pace
 }
 
 // The slots for which a length so far over goes on failing at this pace.

@@ -2,6 +2,7 @@
 // the count of slots that `fills` divides it into.
 ghost use mathlib.Core.Path.{_≡_};
 ghost use Prim.Native.Nat.{_+_, _*_, _≤_, _<_};
+ghost use lib.Dec.{leb};
 ghost use mir.Val.{Fits};
 ghost use mir.Syntax.{w64};
 ghost use Rattle.basis.specs.Limits.{mostProcessors};
@@ -158,6 +159,13 @@ impl Amount {
         ensures { λ r. ⌜ r ≡ less self other ⌝ }
     {
         self.0 < other.0
+    }
+
+    // Whether it reaches another: it is no less.
+    pub(crate) fn reaches(self, other: Amount) -> bool
+        ensures { λ r. ⌜ r ≡ leb (other .0) (self .0) ⌝ }
+    {
+        other.0 <= self.0
     }
 
     // The same in 256ths.

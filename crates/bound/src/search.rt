@@ -1,16 +1,13 @@
 // The search for the smallest length that passes.
 ghost use mathlib.Core.Path.{_≡_};
-ghost use mathlib.Core.Bool.{false};
 ghost use Prim.Native.Nat.{_+_, _≤_, _<_};
 ghost use Rattle.sheet.specs.Lists.{sheetIn};
 ghost use Rattle.bound.specs.Quantities.{widestSeparation};
-ghost use Rattle.bound.specs.Test.{amounts, passes};
+ghost use Rattle.bound.specs.Test.{passes};
 ghost use Rattle.bound.specs.Bound.{word, boundBy};
 ghost use Rattle.bound.specs.Inside.Ready.{heldIn, Lent, Ready, Length};
-ghost use Rattle.bound.specs.Inside.Skipping.{Skips, Says};
-use crate::pace::pace_above;
+ghost use Rattle.bound.specs.Inside.Skipping.{Adds, Fills, Skips, Says};
 use crate::pace::steep;
-use crate::quantity::Amount;
 use crate::quantity::Duration;
 use crate::quantity::FineAmount;
 use crate::results::Result;
@@ -18,9 +15,11 @@ use crate::row::row_inside;
 use crate::share::no_room;
 use crate::start::first_length;
 use crate::stretch::all_fail;
+use crate::sum::Added;
+use crate::sum::rows_to_plan_by;
+use crate::sum::sum_above;
 use crate::test::q_of;
 use crate::test::room_of;
-use crate::test::sum_above;
 
 // What the trial of a length tells: it passes, or the next length that can, and what its sum can spare, a guide of which nothing is promised.
 pub enum Tried {
@@ -41,16 +40,17 @@ pub struct Pursuit {
     pub calm: u64,
 }
 
-// The first length after one that fails, of which this is the sum, that is not known to fail.
-fn next_length(sheet: &[u64], results: &[u64], k: usize, length: Duration, sum: Amount) -> Duration
-    requires { ⌜ (Lent (now sheet) (now results)) × (Ready (sheetIn (now sheet)) (heldIn (now results)) k) × (Length (sheetIn (now sheet)) k length) × (sum ≡ amounts (sheetIn (now sheet)) (heldIn (now results)) k length k) × (passes (sheetIn (now sheet)) (heldIn (now results)) k length ≡ false) ⌝ }
+// The first length after one that fails that is not known to fail, by rows whose sum reaches q × X.
+fn next_length(sheet: &[u64], results: &[u64], k: usize, length: Duration, added: Added) -> Duration
+    requires { ⌜ (Lent (now sheet) (now results)) × (Ready (sheetIn (now sheet)) (heldIn (now results)) k) × (Length (sheetIn (now sheet)) k length) × (Adds (sheetIn (now sheet)) (heldIn (now results)) k length added) × (Fills (sheetIn (now sheet)) k length added) ⌝ }
     ensures { λ r. ⌜ Skips (sheetIn (now (sheet .entry))) (heldIn (now (results .entry))) k length r ⌝ }
 {
     let q = q_of(sheet, k);
     let room = room_of(sheet, k, length);
+    let sum = added.sum;
+    let pace = added.pace;
     let over = sum.minus(room);
     let count = over.fills(q);
-    let pace = pace_above(sheet, results, k, length);
     let further = steep(over, q, pace).greater(Duration(count));
     length.plus(further).plus(Duration(1))
 }
@@ -60,12 +60,15 @@ fn try_length(sheet: &[u64], results: &[u64], k: usize, length: Duration) -> Tri
     requires { ⌜ (Lent (now sheet) (now results)) × (Ready (sheetIn (now sheet)) (heldIn (now results)) k) × (Length (sheetIn (now sheet)) k length) ⌝ }
     ensures { λ r. ⌜ Says (sheetIn (now (sheet .entry))) (heldIn (now (results .entry))) k length r ⌝ }
 {
-    let sum = sum_above(sheet, results, k, length);
+    let tested = sum_above(sheet, results, k, length);
     let room = room_of(sheet, k, length);
-    if sum.is_less(room) {
+    let reached = tested.sum;
+    if reached.is_less(room) {
         return Tried::Passes;
     }
-    let next = next_length(sheet, results, k, length, sum);
+    let added = rows_to_plan_by(sheet, results, k, length, tested);
+    let next = next_length(sheet, results, k, length, added);
+    let sum = added.sum;
     let over = sum.minus(room);
     Tried::Next(next, over.spare())
 }

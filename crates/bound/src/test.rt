@@ -1,16 +1,15 @@
-// The test of one length: q, X, then x, N, W, the duration and the amount of each row above, their sum, and whether it is less than q × X.
+// What the test of one length is made of: q, X, q × X, and x, N, W, the duration and the amount of each row above.
 ghost use mathlib.Core.Path.{_≡_};
 ghost use Prim.Native.Nat.{_≤_, _<_, min};
 ghost use Rattle.basis.specs.Limits.{mostProcessors};
 ghost use Rattle.sheet.specs.Legal.{Legal};
 ghost use Rattle.sheet.specs.Lists.{sheetIn};
 ghost use Rattle.bound.specs.Quantities.{widestSeparation, on};
-ghost use Rattle.bound.specs.Test.{q, X, x, W, durationOf, amounts, room};
-ghost use Rattle.bound.specs.Inside.Ready.{heldIn, Long, Lent, Ready, Length, Above, Spans};
+ghost use Rattle.bound.specs.Test.{q, X, x, W, durationOf, room};
+ghost use Rattle.bound.specs.Inside.Ready.{Long, Length, Above, Spans};
 use crate::quantity::Amount;
 use crate::quantity::Duration;
 use crate::row::row_inside;
-use crate::row::row_looked_at;
 use sheet::Row;
 use sheet::processors;
 
@@ -78,25 +77,6 @@ pub(crate) fn amount_above(
     let duration = W.lesser(X);
     let capped = fewer(row.threads, q);
     duration.on(capped)
-}
-
-// The sum of the amounts of the rows above row `k`, by their bounds.
-pub(crate) fn sum_above(sheet: &[u64], results: &[u64], k: usize, length: Duration) -> Amount
-    requires { ⌜ (Lent (now sheet) (now results)) × (Ready (sheetIn (now sheet)) (heldIn (now results)) k) × (Length (sheetIn (now sheet)) k length) ⌝ }
-    ensures { λ r. ⌜ r ≡ amounts (sheetIn (now (sheet .entry))) (heldIn (now (results .entry))) k length k ⌝ }
-{
-    let q = q_of(sheet, k);
-    let X = window_of(sheet, k, length);
-    let mut sum = Amount::none();
-    let mut i: usize = 0;
-    while i < k {
-        let row = row_looked_at(sheet, i);
-        let bound = Duration(results[i * 2 + 1]);
-        let amount = amount_above(row, bound, length, X, q);
-        sum = sum.plus(amount);
-        i += 1;
-    }
-    sum
 }
 
 // q × X, of row `k` and a length.

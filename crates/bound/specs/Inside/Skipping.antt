@@ -7,13 +7,14 @@ use Rattle.sheet.specs.declared.row.Row.{Row}
 use Rattle.sheet.specs.declared.row.Sheet.{Sheet}
 use Rattle.bound.specs.Quantities.{widestSeparation, slots, plus, minus, lesser, left, on}
 use Rattle.bound.specs.Inside.Parts.{fine, partOf, lesserFine}
-use Rattle.bound.specs.Test.{T, C, X, x, W, durationOf, amounts, passes}
+use Rattle.bound.specs.Test.{T, C, X, x, W, durationOf, amounts, room, passes}
 use Rattle.bound.specs.Inside.Ready.{Length, Above}
 use Rattle.bound.specs.declared.quantity.Duration.{Duration}
 use Rattle.bound.specs.declared.quantity.Amount.{Amount}
 use Rattle.bound.specs.declared.quantity.Fine.{Fine}
 use Rattle.bound.specs.declared.quantity.FineAmount.{FineAmount}
 use Rattle.bound.specs.declared.pace.Pace.{Pace}
+use Rattle.bound.specs.declared.sum.Added.{Added}
 use Rattle.bound.specs.declared.stretch.Stretch.{Stretch}
 use Rattle.bound.specs.declared.stretch.Ends.{Ends}
 use Rattle.bound.specs.declared.search.Tried.{Tried}
@@ -55,6 +56,16 @@ pub record Paces (h : Sheet) (R : ℕ → Duration) (k : ℕ) (L : Duration) (n 
   pub width : p .width ≤ n * mostProcessors
   pub stay : p .stay .0 ≤ widestSeparation
   pub grows : (d : ℕ) → d ≤ p .stay .0 → amounts h R k L n .0 + p .width * d ≤ amounts h R k (plus L (slots d)) n .0
+
+-- These rows are added, the first above row k: the sum of their amounts, and the pace at which it grows.
+pub record Adds (h : Sheet) (R : ℕ → Duration) (k : ℕ) (L : Duration) (a : Added) : Type 0 where
+  pub within : a .rows ≤ k
+  pub sum : a .sum ≡ amounts h R k L (a .rows)
+  pub pace : Paces h R k L (a .rows) (a .pace)
+
+-- The sum of rows that are added reaches q × X.
+abbrev pub Fills : Sheet → ℕ → Duration → Added → Type 0
+Fills h k L a = room h k L .0 ≤ a .sum .0
 
 -- So many slots are within a pace's stay, and what q processors take in them beyond the pace's width is within an amount.
 pub record Steep (over : Amount) (q : ℕ) (p : Pace) (r : Duration) : Type 0 where
