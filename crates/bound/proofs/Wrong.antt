@@ -7,7 +7,7 @@ use Rattle.basis.proofs.Faults.{apart, numberOf, bit}
 use Rattle.sheet.specs.Values.{noSheet}
 use Rattle.reader.specs.Form.{headBy, sheetBy}
 use Rattle.bound.proofs.FromBytes.{Found}
-use Rattle.bound.specs.Wrong.{withoutCap, shortX, insideOnly, orEqual, alwaysNone, alwaysDeadline, judgedOn, goesOn, refusedHolds, refusedBy16, listUntouched, pastLeft, roomIgnored, clearedOnRefusal, threeRows, afterNone, listF}
+use Rattle.bound.specs.Wrong.{withoutCap, shortX, insideOnly, orEqual, leftOneShort, sumBefore, rowNotAdded, yesWhereLeft, alwaysNone, alwaysDeadline, judgedOn, goesOn, refusedHolds, refusedBy16, listUntouched, pastLeft, roomIgnored, clearedOnRefusal, threeRows, afterNone, threeWide, listF}
 
 -- whether the sheet holds, as a number
 abbrev green : Answer → ℕ
@@ -42,6 +42,21 @@ inside-only-is-shut-out = apart green (boundsBy insideOnly threeRows) (boundsOf 
 pub or-equal-is-shut-out : NoneMeets (boundsBy orEqual sheetC) (boundsOf sheetC)
 unfolding allOf sum upto legalRow legalAt legal q X x W durationOf amountOf amounts room passes least boundBy judge resultsTo resultOf holds boundsBy orEqual
 or-equal-is-shut-out = apart green (boundsBy orEqual sheetC) (boundsOf sheetC) 1 0 refl refl (λ e. omega arith)
+
+-- the second row of sheet E would have bound 5
+pub left-one-short-is-shut-out : NoneMeets (boundsBy leftOneShort sheetE) (boundsOf sheetE)
+unfolding allOf sum upto legalRow legalAt legal q X x W durationOf amountOf amounts room passes least boundBy judge resultsTo resultOf holds boundsBy leftOneShort
+left-one-short-is-shut-out = apart (boundAt 1) (boundsBy leftOneShort sheetE) (boundsOf sheetE) 5 4 refl refl (λ e. omega arith)
+
+-- the second row of sheet A would have its budget
+pub row-not-added-is-shut-out : NoneMeets (boundsBy rowNotAdded sheetA) (boundsOf sheetA)
+unfolding allOf sum upto legalRow legalAt legal q X x W durationOf amountOf amounts room passes least boundBy judge resultsTo resultOf holds boundsBy sumBefore rowNotAdded
+row-not-added-is-shut-out = apart (boundAt 1) (boundsBy rowNotAdded sheetA) (boundsOf sheetA) 3 5 refl refl (λ e. omega arith)
+
+-- the third of three wide rows would have its budget
+pub yes-where-left-is-shut-out : NoneMeets (boundsBy yesWhereLeft threeWide) (boundsOf threeWide)
+unfolding allOf sum upto legalRow legalAt legal q X x W durationOf amountOf amounts room passes least boundBy judge resultsTo resultOf holds boundsBy yesWhereLeft
+yes-where-left-is-shut-out = apart (boundAt 2) (boundsBy yesWhereLeft threeWide) (boundsOf threeWide) 2 6 refl refl (λ e. omega arith)
 
 -- ---- `bounds`, without a test
 

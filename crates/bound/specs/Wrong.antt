@@ -1,5 +1,5 @@
 -- Wrong answers, each right but for one thing: what the promises of this crate shut out.
-use Rattle.basis.specs.Prelude.{ℕ, zero, suc, min, Bool, true, false, List, [], _∷_, leb, ltb}
+use Rattle.basis.specs.Prelude.{ℕ, zero, suc, _+_, _-_, min, Bool, true, false, List, [], _∷_, leb, ltb}
 use Rattle.basis.specs.Words.{pick}
 use Rattle.basis.specs.Upto.{upto}
 use Rattle.basis.specs.Refusals.{Outcome, accepted, refused}
@@ -7,10 +7,12 @@ use Rattle.sheet.specs.Legal.{rowAt}
 use Rattle.sheet.specs.Lists.{filled, sheetIn}
 use Rattle.sheet.specs.declared.row.Sheet.{Sheet}
 use Rattle.reader.specs.Lists.{readInto}
-use Rattle.bound.specs.Quantities.{minus, lesser, on, together, less}
+use Rattle.bound.specs.Quantities.{minus, lesser, on, noAmount, together, less}
 use Rattle.bound.specs.Test.{C, q, X, W, durationOf, amounts, room, Test, passes}
 use Rattle.bound.specs.Bound.{Word, bound, none, unreached, bounds, boundBy, allUnreached, holds, Answer, boundsOf}
 use Rattle.bound.specs.Lists.{resultsLong, resultCell}
+use Rattle.bound.specs.declared.quantity.Duration.{Duration}
+use Rattle.bound.specs.declared.quantity.Amount.{Amount}
 use Rattle.tables.specs.Tables.{row, sheetOf}
 
 -- ---- wrong tests
@@ -32,6 +34,23 @@ insideOnly h R k L = less (together k (λ i. on (lesser (W (rowAt h i) L) (X h k
 -- A sum that equals q × X let pass.
 unfoldable pub orEqual : Test
 orEqual h R k L = leb (amounts h R k L k .0) (room h k L .0)
+
+-- The sum left where it is one short of q × X.
+unfoldable pub leftOneShort : Test
+leftOneShort h R k L = pick (ltb 0 k) (ltb (amounts h R k L k .0 + 1) (room h k L .0)) (passes h R k L)
+
+-- The sum left with the row by which it reaches q × X not added: the longest of the first n rows' sums that does not reach it.
+unfoldable pub sumBefore : Sheet → (ℕ → Duration) → ℕ → Duration → ℕ → Amount
+sumBefore h R k L zero = noAmount
+sumBefore h R k L (suc n) = pick (less (amounts h R k L (suc n)) (room h k L)) (amounts h R k L (suc n)) (sumBefore h R k L n)
+
+-- Such a sum looked at.
+unfoldable pub rowNotAdded : Test
+rowNotAdded h R k L = less (sumBefore h R k L k) (room h k L)
+
+-- Yes where the sum is left before the last row.
+unfoldable pub yesWhereLeft : Test
+yesWhereLeft h R k L = pick (less (amounts h R k L (k - 1)) (room h k L)) (passes h R k L) true
 
 -- ---- wrong answers to a sheet
 
@@ -88,6 +107,10 @@ threeRows = sheetOf 1 (row 1 2 2 1 ∷ row 1 3 3 1 ∷ row 1 6 6 1 ∷ [])
 -- Sheet C with a third row.
 abbrev pub afterNone : Sheet
 afterNone = sheetOf 2 (row 2 2 2 1 ∷ row 1 4 4 3 ∷ row 1 9 9 1 ∷ [])
+
+-- Three rows on all processors.
+abbrev pub threeWide : Sheet
+threeWide = sheetOf 4 (row 4 9 9 2 ∷ row 4 9 9 2 ∷ row 4 9 9 2 ∷ [])
 
 -- Sheet F as a list.
 abbrev pub listF : List ℕ
