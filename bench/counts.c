@@ -1,4 +1,4 @@
-/* How many lengths each search tries: every length in turn, the paper's iteration, and the search that skips, with the stretches that it tries too.
+/* How many lengths each search tries: every length in turn, the paper's iteration, and the search that skips, with the stretches that it tries too and the rows that it looks at.
  * counts: the families.   counts climb SEED CLIMBS: the worst sheet that random climbs on the count come to, and the time that it takes here. */
 #include <stdio.h>
 #include <stdlib.h>
@@ -7,9 +7,12 @@
 
 #include "sheets.h"
 
+/* Whether a limit is raised. */
+enum { RAISED = MOST_SEPARATION > 1000000 || MOST_ROWS > 32 };
+
 static uint64_t count(const sheet_t *sheet, search_t *search) {
   uint64_t bounds[MOST_ROWS];
-  lengths_tried = stretches_tried = 0;
+  lengths_tried = stretches_tried = rows_looked_at = 0;
   plain_bounds(sheet, search, bounds);
   return lengths_tried + stretches_tried;
 }
@@ -24,15 +27,58 @@ static void show(const sheet_t *sheet) {
   printf("\n");
 }
 
-/* One line of the table; with raised limits only the search itself, which ends soon. */
-static void line(const char *name, sheet_t sheet) {
+/* How many lengths a search tries on some sheets together. */
+static uint64_t together(const sheet_t *sheets, size_t many, search_t *search) {
+  uint64_t lengths = 0, stretches = 0, rows = 0;
+  for (size_t i = 0; i < many; i++) {
+    count(&sheets[i], search);
+    lengths += lengths_tried;
+    stretches += stretches_tried;
+    rows += rows_looked_at;
+  }
+  lengths_tried = lengths;
+  stretches_tried = stretches;
+  rows_looked_at = rows;
+  return lengths;
+}
+
+/* One line of the table, on some sheets together; with raised limits only the search itself, which ends soon, and every length in turn on a single sheet only. */
+static void lines(const char *name, const sheet_t *sheets, size_t many) {
   printf("| %s | ", name);
-  if (MOST_SEPARATION > 1000000 || MOST_ROWS > 32)
-    printf("- | - | ");
+  if (RAISED || many > 1)
+    printf("- | ");
   else
-    printf("%llu | %llu | ", (unsigned long long)count(&sheet, walking_bound), (unsigned long long)count(&sheet, paper_bound));
-  count(&sheet, skipping_bound);
-  printf("%llu + %llu |\n", (unsigned long long)lengths_tried, (unsigned long long)stretches_tried);
+    printf("%llu | ", (unsigned long long)together(sheets, many, walking_bound));
+  if (RAISED)
+    printf("- | ");
+  else
+    printf("%llu | ", (unsigned long long)together(sheets, many, paper_bound));
+  together(sheets, many, skipping_bound);
+  printf("%llu + %llu | %llu |\n", (unsigned long long)lengths_tried, (unsigned long long)stretches_tried, (unsigned long long)rows_looked_at);
+}
+
+static void line(const char *name, sheet_t sheet) { lines(name, &sheet, 1); }
+
+/* So many rows on each of 64 sheets. */
+static void ordinary_line(const char *name, uint64_t rows, uint64_t longest, uint64_t load) {
+  enum { SHEETS = 64 };
+  static sheet_t sheets[SHEETS];
+  uint64_t seed = 20261115;
+  for (size_t i = 0; i < SHEETS; i++) sheets[i] = ordinary(&seed, rows, longest, load);
+  lines(name, sheets, SHEETS);
+}
+
+/* The ordinary sheets that the benchmark is timed on. */
+static void ordinary_lines(void) {
+  ordinary_line("64 ordinary sheets, 1 row, T to 1,000", 1, 1000, 40);
+  ordinary_line("64 ordinary sheets, 2 rows, T to 1,000", 2, 1000, 40);
+  ordinary_line("64 ordinary sheets, 4 rows, T to 1,000", 4, 1000, 40);
+  ordinary_line("64 ordinary sheets, 8 rows, T to 1,000", 8, 1000, 40);
+  ordinary_line("64 ordinary sheets, 12 rows, T to 1,000", 12, 1000, 40);
+  ordinary_line("64 ordinary sheets, 32 rows, T to 1,000", 32, 1000, 40);
+  ordinary_line("64 ordinary sheets, 12 rows, T to 1,000,000", 12, 1000000, 40);
+  ordinary_line("64 ordinary sheets, 32 rows, T to 1,000,000, load 30", 32, 1000000, 30);
+  ordinary_line("64 loaded sheets, 12 rows, T to 1,000", 12, 1000, 90);
 }
 
 static sheet_t any_sheet(uint64_t *seed, uint64_t most_rows) {
@@ -44,15 +90,19 @@ static sheet_t any_sheet(uint64_t *seed, uint64_t most_rows) {
   return sheet;
 }
 
-static sheet_t worst_of_random(uint64_t sheets) {
+/* Random sheets, together and the worst of them. */
+static void random_lines(void) {
+  enum { SHEETS = 3000 };
+  static sheet_t sheets[SHEETS];
   uint64_t seed = 20261115, most = 0;
-  sheet_t worst = {0};
-  for (uint64_t i = 0; i < sheets; i++) {
-    sheet_t sheet = any_sheet(&seed, 32);
-    uint64_t tried = count(&sheet, skipping_bound);
-    if (tried > most) most = tried, worst = sheet;
+  const sheet_t *worst = sheets;
+  for (size_t i = 0; i < SHEETS; i++) {
+    sheets[i] = any_sheet(&seed, 32);
+    uint64_t tried = count(&sheets[i], skipping_bound);
+    if (tried > most) most = tried, worst = &sheets[i];
   }
-  return worst;
+  lines("3,000 random sheets, together", sheets, SHEETS);
+  line("the worst of them", *worst);
 }
 
 /* A small change of a sheet that leaves it legal. */
@@ -147,10 +197,11 @@ int main(int arguments, char **words) {
     climb(strtoull(words[2], NULL, 10) * 7919 + 88172645463325252u, strtoull(words[3], NULL, 10));
     return 0;
   }
-  printf("| sheet (%d rows, T to %d) | every length | paper's iteration | the search |\n|---|---|---|---|\n", MOST_ROWS, MOST_SEPARATION);
+  printf("| sheet (%d rows, T to %d) | every length | paper's iteration | the search | rows looked at |\n|---|---|---|---|---|\n", MOST_ROWS, MOST_SEPARATION);
+  if (!RAISED) ordinary_lines();
   line("a long wide row above short ones", long_above_short(MOST_ROWS, MOST_SEPARATION));
   line("wide rows, budgets up by one", equal_wide(MOST_ROWS, MOST_SEPARATION));
-  line("worst of 3,000 random sheets", worst_of_random(3000));
+  random_lines();
   line("saturated", saturated(MOST_SEPARATION));
   line("five rows close to full", nearly_full(MOST_SEPARATION));
   line("climb 1: two short rows that nearly fill a processor", nearly_saturated(MOST_ROWS, MOST_SEPARATION));

@@ -1,6 +1,6 @@
 #include "plain.h"
 
-uint64_t lengths_tried, stretches_tried;
+uint64_t lengths_tried, stretches_tried, rows_looked_at;
 
 static uint64_t smaller(uint64_t a, uint64_t b) { return a < b ? a : b; }
 
@@ -56,22 +56,56 @@ static uint64_t work(const row_t *row, uint64_t span) {
   return jobs * row->budget + smaller(row->budget, span - jobs * row->separation);
 }
 
-static uint64_t sum_above(const sheet_t *sheet, const uint64_t *bounds, size_t k, uint64_t length, uint64_t q) {
-  uint64_t window = length - sheet->rows[k].budget + 1, sum = 0;
-  lengths_tried++;
-  for (size_t i = 0; i < k; i++) {
-    const row_t *row = &sheet->rows[i];
-    sum += smaller(work(row, length + bounds[i] - row->budget), window) * smaller(row->threads, q);
+/* The first rows above, which are added: the sum of their amounts, the threads of those that keep pace with the length and for how many slots they do, and how many rows they are. */
+typedef struct {
+  uint64_t sum, width, stay;
+  size_t rows;
+} added_t;
+
+static void add_next(const sheet_t *sheet, const uint64_t *bounds, uint64_t length, uint64_t window, uint64_t q, added_t *added) {
+  const row_t *row = &sheet->rows[added->rows];
+  uint64_t span = length + bounds[added->rows] - row->budget, jobs = span / row->separation, ran = span - jobs * row->separation;
+  uint64_t done = jobs * row->budget + smaller(row->budget, ran), capped = smaller(row->threads, q);
+  uint64_t keeps = (ran < row->budget ? row->budget - ran : 0) + (done > window ? done - window : 0);
+  added->sum += smaller(done, window) * capped;
+  if (keeps > 0) {
+    added->width += capped;
+    added->stay = smaller(added->stay, keeps);
   }
-  return sum;
+  added->rows++;
+}
+
+/* The test of a length: rows above are added from the top until their sum reaches the room. */
+static added_t test(const sheet_t *sheet, const uint64_t *bounds, size_t k, uint64_t length, uint64_t window, uint64_t q) {
+  added_t added = {0, 0, MOST_SEPARATION, 0};
+  lengths_tried++;
+  while (added.rows < k) {
+    add_next(sheet, bounds, length, window, q, &added);
+    if (added.sum >= q * window) break;
+  }
+  rows_looked_at += added.rows;
+  return added;
 }
 
 uint64_t walking_bound(const sheet_t *sheet, const uint64_t *bounds, size_t k) {
   const row_t *row = &sheet->rows[k];
   uint64_t q = sheet->processors - row->threads + 1;
-  for (uint64_t length = row->budget; length <= row->deadline; length++)
-    if (sum_above(sheet, bounds, k, length, q) < q * (length - row->budget + 1)) return length;
+  for (uint64_t length = row->budget; length <= row->deadline; length++) {
+    uint64_t window = length - row->budget + 1;
+    if (test(sheet, bounds, k, length, window, q).sum < q * window) return length;
+  }
   return 0;
+}
+
+static uint64_t sum_above(const sheet_t *sheet, const uint64_t *bounds, size_t k, uint64_t length, uint64_t q) {
+  uint64_t window = length - sheet->rows[k].budget + 1, sum = 0;
+  lengths_tried++;
+  rows_looked_at += k;
+  for (size_t i = 0; i < k; i++) {
+    const row_t *row = &sheet->rows[i];
+    sum += smaller(work(row, length + bounds[i] - row->budget), window) * smaller(row->threads, q);
+  }
+  return sum;
 }
 
 uint64_t paper_bound(const sheet_t *sheet, const uint64_t *bounds, size_t k) {
@@ -95,6 +129,7 @@ static bool reaches(uint64_t sum, uint64_t room) { return 256 * room < sum + 256
 /* No length up to the deadline passes where the shares of the rows above leave no room in it. */
 static bool no_room(const sheet_t *sheet, const uint64_t *bounds, size_t k, uint64_t q) {
   uint64_t length = sheet->rows[k].deadline, window = length - sheet->rows[k].budget + 1, sum = 0;
+  rows_looked_at += k;
   for (size_t i = 0; i < k; i++) {
     const row_t *row = &sheet->rows[i];
     sum += share(row, length + bounds[i] - row->budget, window) * smaller(row->threads, q);
@@ -106,6 +141,7 @@ static bool no_room(const sheet_t *sheet, const uint64_t *bounds, size_t k, uint
 static bool all_fail(const sheet_t *sheet, const uint64_t *bounds, size_t k, uint64_t from, uint64_t to, uint64_t q, uint64_t spare) {
   uint64_t early = from - sheet->rows[k].budget + 1, late = to - sheet->rows[k].budget + 1, now = 0, then = 0;
   stretches_tried++;
+  rows_looked_at += k;
   for (size_t i = 0; i < k; i++) {
     const row_t *row = &sheet->rows[i];
     uint64_t start = from + bounds[i] - row->budget, end = to + bounds[i] - row->budget, capped = smaller(row->threads, q), done = work(row, start);
@@ -125,18 +161,16 @@ static bool all_fail(const sheet_t *sheet, const uint64_t *bounds, size_t k, uin
   return reaches(now, q * early) && reaches(then, q * late);
 }
 
+/* The rows that the length after one that fails is planned by: those that the test added where they keep pace by themselves for as long as the window again, else all. */
+static void plan_by(const sheet_t *sheet, const uint64_t *bounds, size_t k, uint64_t length, uint64_t window, uint64_t q, added_t *added) {
+  if (added->width >= q && added->stay >= window) return;
+  rows_looked_at += k - added->rows;
+  while (added->rows < k) add_next(sheet, bounds, length, window, q, added);
+}
+
 /* The length after one that fails by so much: the rows that keep pace carry it on. */
-static uint64_t next_length(const sheet_t *sheet, const uint64_t *bounds, size_t k, uint64_t length, uint64_t q, uint64_t over) {
-  uint64_t window = length - sheet->rows[k].budget + 1, width = 0, stay = MOST_SEPARATION;
-  for (size_t i = 0; i < k; i++) {
-    const row_t *row = &sheet->rows[i];
-    uint64_t span = length + bounds[i] - row->budget, done = work(row, span), ran = span % row->separation;
-    uint64_t keeps = (ran < row->budget ? row->budget - ran : 0) + (done > window ? done - window : 0);
-    if (keeps == 0) continue;
-    width += smaller(row->threads, q);
-    stay = smaller(stay, keeps);
-  }
-  uint64_t level = over / q, steep = width < q ? smaller(stay, over / (q - width)) : stay;
+static uint64_t next_length(uint64_t length, uint64_t q, uint64_t over, const added_t *added) {
+  uint64_t level = over / q, steep = added->width < q ? smaller(added->stay, over / (q - added->width)) : added->stay;
   return length + (level > steep ? level : steep) + 1;
 }
 
@@ -144,6 +178,7 @@ static uint64_t next_length(const sheet_t *sheet, const uint64_t *bounds, size_t
 static uint64_t first_length(const sheet_t *sheet, const uint64_t *bounds, size_t k) {
   const row_t *row = &sheet->rows[k];
   uint64_t first = row->budget;
+  rows_looked_at += k;
   for (size_t j = 0; j < k; j++) {
     const row_t *above = &sheet->rows[j];
     uint64_t later = first;
@@ -159,13 +194,15 @@ uint64_t skipping_bound(const sheet_t *sheet, const uint64_t *bounds, size_t k) 
   const row_t *row = &sheet->rows[k];
   uint64_t q = sheet->processors - row->threads + 1, length = first_length(sheet, bounds, k), guess = 0;
   for (unsigned tried = 1; length <= row->deadline; tried++) {
-    uint64_t sum = sum_above(sheet, bounds, k, length, q), room = q * (length - row->budget + 1);
-    if (sum < room) return length;
-    uint64_t next = next_length(sheet, bounds, k, length, q, sum - room);
+    uint64_t window = length - row->budget + 1;
+    added_t added = test(sheet, bounds, k, length, window, q);
+    if (added.sum < q * window) return length;
+    plan_by(sheet, bounds, k, length, window, q, &added);
+    uint64_t over = added.sum - q * window, next = next_length(length, q, over, &added);
     if (tried == 5 && no_room(sheet, bounds, k, q)) return 0;
     if (tried > 8 && next <= row->deadline) {
       uint64_t twice = 2 * (next - length), reach = smaller(guess < twice ? twice : guess, row->deadline - length);
-      if (all_fail(sheet, bounds, k, length, length + reach, q, 256 * (sum - room) + 255)) {
+      if (all_fail(sheet, bounds, k, length, length + reach, q, 256 * over + 255)) {
         next = length + reach + 1;
         guess = 2 * reach;
       } else guess = reach / 2;

@@ -73,8 +73,8 @@ typedef uint64_t search_t(const sheet_t *sheet, const uint64_t *bounds, size_t k
 /* The paper's own iteration; the search that skips; every length one after another. */
 search_t paper_bound, skipping_bound, walking_bound;
 
-/* How many lengths the searches have tried, and how many stretches of them. */
-extern uint64_t lengths_tried, stretches_tried;
+/* How many lengths the searches have tried, how many stretches of them, and how many rows above they have looked at for all that they do. */
+extern uint64_t lengths_tried, stretches_tried, rows_looked_at;
 
 refusal_t plain_read(const uint8_t *bytes, size_t count, sheet_t *sheet);
 bool plain_bounds(const sheet_t *sheet, search_t *search, uint64_t *bounds);

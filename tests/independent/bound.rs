@@ -21,14 +21,33 @@ fn work((row, bound): &Above, length: u64) -> u64 {
     n * row.budget + row.budget.min(x - n * row.separation)
 }
 
-/// Whether this length passes for the row below those above.
+/// The sum at which the rows above are left: q times X.
+fn enough(room: u64) -> u64 {
+    match () {
+        _ if broken(Rule::EqualPasses) => room + 1,
+        _ if broken(Rule::StopsOneShort) => room - 1,
+        _ => room,
+    }
+}
+
+/// Whether this length passes for the row below those above: their amounts are added from the top, until the sum reaches q times X.
 fn passes(m: u64, above: &[Above], row: &Row, length: u64) -> bool {
     let q = m - row.threads + 1;
     let x = length - row.budget + if broken(Rule::ShortWindow) { 0 } else { 1 };
     let cap = if broken(Rule::NoCap) { m } else { q };
-    let amount = |higher: &Above| work(higher, length).min(x) * higher.0.threads.min(cap);
-    let sum: u64 = above.iter().map(amount).sum();
-    sum < q * x || (sum == q * x && broken(Rule::EqualPasses))
+    let enough = enough(q * x);
+    let mut sum = 0;
+    for (i, higher) in above.iter().enumerate() {
+        let amount = work(higher, length).min(x) * higher.0.threads.min(cap);
+        if broken(Rule::LateRowNotAdded) && sum + amount >= enough {
+            break;
+        }
+        sum += amount;
+        if sum >= enough {
+            return broken(Rule::YesWhereStopped) && i + 1 < above.len();
+        }
+    }
+    sum < enough.max(q * x)
 }
 
 /// Each row's result: from the top, each row below those with their bounds, until one has none.

@@ -17,6 +17,9 @@ pub enum Rule {
     ShortWindow,
     InsideOnly,
     EqualPasses,
+    StopsOneShort,
+    LateRowNotAdded,
+    YesWhereStopped,
     UnreachedIsNone,
     FreshSinceZero,
     FirstMisfitStops,
@@ -64,7 +67,7 @@ pub enum Rule {
 }
 
 /// Every rule with the kind of case that has to show it broken, and its name; a rule that two kinds stand on has a name for each.
-pub const RULES: [(Rule, Kind, &str); 57] = [
+pub const RULES: [(Rule, Kind, &str); 60] = [
     (Rule::ZeroLastGroup, Kind::Number, "zero-last-group"),
     (Rule::FourthGroup, Kind::Number, "fourth-group"),
     (Rule::MostRefused, Kind::UpTo, "most-refused"),
@@ -76,6 +79,9 @@ pub const RULES: [(Rule, Kind, &str); 57] = [
     (Rule::ShortWindow, Kind::Bounds, "short-window"),
     (Rule::InsideOnly, Kind::Bounds, "inside-only"),
     (Rule::EqualPasses, Kind::Bounds, "equal-passes"),
+    (Rule::StopsOneShort, Kind::Bounds, "stops-one-short"),
+    (Rule::LateRowNotAdded, Kind::Bounds, "late-row-not-added"),
+    (Rule::YesWhereStopped, Kind::Bounds, "yes-where-stopped"),
     (Rule::UnreachedIsNone, Kind::Bounds, "unreached-is-none"),
     (Rule::FreshSinceZero, Kind::Fresh, "fresh-since-zero"),
     (Rule::FirstMisfitStops, Kind::Slot, "first-misfit-stops"),

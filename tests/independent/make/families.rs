@@ -9,13 +9,14 @@ use crate::sheet::{Row, Sheet, MOST_ROWS};
 /// A family: its name, how many sheets of it, and a sheet of it.
 type Family = (&'static str, u64, fn(&mut Dice) -> Sheet);
 
-const FAMILIES: [Family; 6] = [
+const FAMILIES: [Family; 7] = [
     ("bounds, layered rows", 15_000, layered),
     ("bounds, a long wide row above many", 8_000, long_wide),
     ("bounds, equal wide rows", 8_000, equal),
     ("bounds, small periods under a long deadline", 12_000, small_periods),
     ("bounds, saturated sheets", 12_000, saturated),
     ("bounds, rows as wide as all processors", 6_000, full_width),
+    ("bounds, sums at q times X", 12_000, at_room),
 ];
 
 /// Every family, and sheets with deadlines at their bounds.
@@ -122,6 +123,24 @@ fn full_width(dice: &mut Dice) -> Sheet {
         row.threads = sheet.processors;
     }
     sheet
+}
+
+/// Rows that always run, whose threads come to q of the widest rows below, to one less or to one more: the sum reaches q times X before its last row, or stays just short of it.
+fn at_room(dice: &mut Dice) -> Sheet {
+    let processors = dice.range(2, 12);
+    let widest = dice.range(1, processors);
+    let (mut left, mut rows) = ((processors - widest + dice.range(0, 2)).min(processors), Vec::new());
+    while left > 0 {
+        let (threads, separation) = (dice.range(1, left), dice.range(1, 3));
+        rows.push(Row { threads, separation, deadline: separation, budget: separation });
+        left -= threads;
+    }
+    for _ in 0..dice.range(1, 8) {
+        let threads = if dice.one_in(2) { widest } else { dice.range(1, widest) };
+        let separation = dice.range(20, 400);
+        rows.push(Row { threads, separation, deadline: separation, budget: dice.range(1, 1 + separation / 6) });
+    }
+    Sheet { processors, rows }
 }
 
 /// A sheet with every deadline at its bound, and with one a slot shorter.
