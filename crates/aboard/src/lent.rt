@@ -18,7 +18,7 @@ pub fn slot_in(state: &mut State, sheet: Sheet, releases: &[u64], codes: &mut [u
 }
 
 // What the box's loop begins with: the fresh state, what its checks say, and how many slots it is to do.
-#[derive(Drop)]
+#[derive(Clone, Copy)]
 struct Begun {
     refusal: Refusal,
     state: State,

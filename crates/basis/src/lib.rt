@@ -1,4 +1,6 @@
 // What every crate shares: the limits of a sheet, refusals, the mark that a file begins with, and what is written into a lent buffer.
+#![tactic(auto)]
+
 mod limits;
 mod mark;
 mod refusal;

@@ -5,7 +5,7 @@ ghost use Rattle.basis.specs.Lent.{stored_at};
 use crate::refusal::Refusal;
 
 // What a writer answers: accepted with the number of bytes, or refused with none.
-#[derive(Drop)]
+#[derive(Clone, Copy)]
 pub struct Written {
     pub refusal: Refusal,
     pub length: usize,

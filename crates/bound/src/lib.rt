@@ -1,4 +1,6 @@
 // The bound of each row of a sheet.
+#![tactic(auto)]
+
 mod bytes;
 mod judge;
 mod pace;

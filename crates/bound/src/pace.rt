@@ -11,7 +11,7 @@ use crate::test::{span_of, work_of};
 use sheet::Row;
 
 // Rows whose durations grow by one in each of the next `stay` slots, and the processors that they take together.
-#[derive(Drop)]
+#[derive(Clone, Copy)]
 pub struct Pace {
     pub width: u64,
     pub stay: Duration,

@@ -9,19 +9,19 @@ ghost use Rattle.bound.specs.Quantities.{widest_separation, plus, minus, lesser,
 ghost use Rattle.bound.specs.Inside.Parts.{fine, part_of, lesser_fine, pieces, on_fine, fine_amount, plus_fine, minus_fine, reaches};
 
 // Slots.
-#[derive(Drop)]
+#[derive(Clone, Copy)]
 pub struct Duration(pub(crate) u64);
 
 // Slots times processors.
-#[derive(Drop)]
+#[derive(Clone, Copy)]
 pub struct Amount(u64);
 
 // 256ths of slots.
-#[derive(Drop)]
+#[derive(Clone, Copy)]
 pub struct Fine(u64);
 
 // 256ths of slots times processors.
-#[derive(Drop)]
+#[derive(Clone, Copy)]
 pub struct FineAmount(u64);
 
 impl Duration {

@@ -11,7 +11,7 @@ use basis::{MOST_ROWS, Refusal};
 use sheet::{SHEET_LONG, Sheet};
 
 // The result of a row.
-#[derive(Drop)]
+#[derive(Clone, Copy)]
 pub enum Result {
     Unreached,
     // The bound, in slots.
@@ -20,13 +20,13 @@ pub enum Result {
 }
 
 // A place of the array of results.
-#[derive(Drop)]
+#[derive(Clone, Copy)]
 pub struct Judged {
     pub result: Result,
 }
 
 // What `bounds` answers: refused, with nothing reached, or whether the sheet holds and a result for each row.
-#[derive(Drop)]
+#[derive(Clone, Copy)]
 pub struct Results {
     pub refusal: Refusal,
     pub holds: bool,
@@ -34,7 +34,7 @@ pub struct Results {
 }
 
 // What `bounds_on` answers beside the list: refused, or whether the sheet holds.
-#[derive(Drop)]
+#[derive(Clone, Copy)]
 pub struct Judgement {
     pub refusal: Refusal,
     pub holds: bool,

@@ -18,7 +18,7 @@ use crate::sum::{Added, rows_to_plan_by, sum_above};
 use crate::test::{q_of, room_of};
 
 // What the trial of a length tells: it passes, or the next length that can, and what its sum can spare, a guide of which nothing is promised.
-#[derive(Drop)]
+#[derive(Clone, Copy)]
 pub enum Tried {
     Passes,
     Next(Duration, FineAmount),
@@ -31,7 +31,7 @@ const CALM: u64 = 8;
 const ASKED: u64 = 4;
 
 // Where the search is: the length to try, the slots to guess next, and how many trials are left before it guesses.
-#[derive(Drop)]
+#[derive(Clone, Copy)]
 pub struct Pursuit {
     pub length: Duration,
     pub guess: Duration,

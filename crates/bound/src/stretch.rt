@@ -13,7 +13,7 @@ use crate::test::{amount_above, q_of, room_of, span_of, window_of};
 use sheet::Row;
 
 // Two lengths, and X of each.
-#[derive(Drop)]
+#[derive(Clone, Copy)]
 pub struct Stretch {
     pub from: Duration,
     pub to: Duration,
@@ -22,7 +22,7 @@ pub struct Stretch {
 }
 
 // Amounts at the two ends of a stretch, and what may still be lost at the first: a guide to a choice, of which nothing is promised.
-#[derive(Drop)]
+#[derive(Clone, Copy)]
 pub struct Ends {
     pub now: FineAmount,
     pub then: FineAmount,

@@ -14,7 +14,7 @@ use crate::test::{amount_above, fewer, q_of, room_of, window_of};
 use basis::MOST_SEPARATION;
 
 // The first rows above a row, which are added: the sum of their amounts, the pace at which it grows, and how many they are.
-#[derive(Drop)]
+#[derive(Clone, Copy)]
 pub struct Added {
     pub sum: Amount,
     pub pace: Pace,

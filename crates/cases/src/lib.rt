@@ -1,1 +1,3 @@
 // The starred cases as one list: laws only, and no code.
+#![tactic(auto)]
+

@@ -1,4 +1,6 @@
 // The exact text of a verdict and of the reference, and the buffers for it.
+#![tactic(auto)]
+
 mod board;
 mod line;
 mod report;

@@ -11,7 +11,7 @@ ghost use Rattle.page.specs.Pages.{said};
 use page::{put, put_bytes, put_number};
 
 // Where the labels of the rows come from.
-#[derive(Drop)]
+#[derive(Clone, Copy)]
 pub enum Labels {
     // The bytes are a sheet: its own labels.
     Own,

@@ -1,4 +1,6 @@
 // What other programs link: each function takes any numbers and any lists, and no list may overlap another that is written.
+#![tactic(auto)]
+
 mod boxes;
 mod machines;
 mod numerals;

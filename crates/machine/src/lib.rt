@@ -1,4 +1,6 @@
 // The slot machine on lent lists: the fresh state, one slot, a run of slots, and the margin of a row.
+#![tactic(auto)]
+
 mod inplace;
 mod margins;
 mod places;

@@ -15,7 +15,7 @@ use records::Job;
 use sheet::Row;
 
 // What is told of a row's margin.
-#[derive(Drop)]
+#[derive(Clone, Copy)]
 pub enum Margin {
     // A row without a job has none.
     NoJob,

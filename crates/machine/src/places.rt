@@ -17,7 +17,7 @@ pub const RECORD_WIDE: usize = 2;
 pub const STATE_LONG: usize = MOST_ROWS * RECORD_WIDE;
 
 // What a run in place answers: the slots done, and the first refusal if there is one.
-#[derive(Drop)]
+#[derive(Clone, Copy)]
 pub struct Done {
     pub done: u64,
     pub refusal: Refusal,

@@ -1,4 +1,6 @@
 // Numbers in groups of seven bits, the lowest first.
+#![tactic(auto)]
+
 mod number;
 mod writing;
 

@@ -4,7 +4,7 @@ ghost use Rattle.numbers.specs.Numbers.{step, number, up_to};
 
 use basis::MOST_GROUPS;
 
-#[derive(Drop)]
+#[derive(Clone, Copy)]
 pub enum Number {
     // The value, and the place after it.
     Is(u64, usize),

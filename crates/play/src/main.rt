@@ -1,4 +1,6 @@
 // Plays a scenario on a sheet, both named: prints a line for each slot, and what came of it. A file that cannot be opened or read is said on standard error.
+#![tactic(auto)]
+
 mod pass;
 mod turn;
 mod window;
@@ -18,7 +20,7 @@ use sheet::SHEET_LONG;
 use watch::File;
 
 // A file that is open for reading, where fd is not negative, and how long its name is.
-#[derive(Drop)]
+#[derive(Clone, Copy)]
 struct Named {
     fd: i32,
     long: usize,

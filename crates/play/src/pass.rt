@@ -10,7 +10,7 @@ use basis::MOST_ROWS;
 use libc::STDOUT_FILENO;
 
 // What going through the file comes to: why it ended, at which place, and after how many slots.
-#[derive(Drop)]
+#[derive(Clone, Copy)]
 pub struct Pass {
     pub end: End,
     pub place: u64,

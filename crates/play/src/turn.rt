@@ -11,7 +11,7 @@ use scenario::MARK;
 const MARK_LONG: usize = 4;
 
 // Why no further slot was read.
-#[derive(Drop)]
+#[derive(Clone, Copy)]
 pub enum End {
     // The file ends after a whole slot.
     Whole,
@@ -24,7 +24,7 @@ pub enum End {
 }
 
 // What reading on gives: a slot's entries, or why there are none, and the window after it.
-#[derive(Drop)]
+#[derive(Clone, Copy)]
 pub struct Turn {
     pub more: bool,
     pub end: End,

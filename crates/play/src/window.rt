@@ -6,7 +6,7 @@ ghost use Rattle.play.specs.Windows.{InBuffer, Filled, Ahead, unread_window};
 use scenario::SLOT_REACH;
 
 // The part of a file that stands in the buffer.
-#[derive(Drop)]
+#[derive(Clone, Copy)]
 pub struct Window {
     // The place in the file of the buffer's first byte.
     pub offset: u64,

@@ -10,7 +10,7 @@ use numbers::Number;
 pub const MARK: [u8; 4] = *b"GSH\x01";
 
 // What reading it gives: processors, rows and the place after them, or a refusal's number and place.
-#[derive(Drop)]
+#[derive(Clone, Copy)]
 pub enum HeadRead {
     Is(u64, u64, usize),
     Refused(u64, usize),

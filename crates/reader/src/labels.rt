@@ -44,7 +44,7 @@ pub fn label(bytes: &[u8], row: usize) -> &[u8]
 }
 
 // A part for each row that a sheet may have.
-#[derive(Drop)]
+#[derive(Clone, Copy)]
 pub struct Parts {
     pub parts: [Part; MOST_ROWS],
 }

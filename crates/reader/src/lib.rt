@@ -1,4 +1,6 @@
 // The reader of a sheet's bytes: left to right, once, and the first fault decides.
+#![tactic(auto)]
+
 mod head;
 mod into;
 mod labels;

@@ -9,35 +9,35 @@ use numbers::Number;
 use sheet::Row;
 
 // What passing over some bytes gives: the place after them, or a refusal's number and place.
-#[derive(Drop)]
+#[derive(Clone, Copy)]
 pub enum Passed {
     To(usize),
     Refused(u64, usize),
 }
 
 // A part of a sheet's bytes: where it starts, and how long it is.
-#[derive(Drop)]
+#[derive(Clone, Copy)]
 pub struct Part {
     pub start: usize,
     pub long: usize,
 }
 
 // What reading a label gives: where it lies and the place after it, or a refusal's number and place.
-#[derive(Drop)]
+#[derive(Clone, Copy)]
 pub enum LabelRead {
     Is(Part, usize),
     Refused(u64, usize),
 }
 
 // What reading the numbers of a row gives: the row and the place after it, or a refusal's number and place.
-#[derive(Drop)]
+#[derive(Clone, Copy)]
 pub enum RowRead {
     Is(Row, usize),
     Refused(u64, usize),
 }
 
 // What reading a row with its label gives: the row, where its label lies, and the place after both, or a refusal's number and place.
-#[derive(Drop)]
+#[derive(Clone, Copy)]
 pub enum EntryRead {
     Is(Row, Part, usize),
     Refused(u64, usize),

@@ -7,7 +7,7 @@ use basis::Refusal;
 use sheet::{SHEET_LONG, Sheet};
 
 // What the reader answers: accepted with the sheet, or refused with a sheet of zeros beside it.
-#[derive(Drop)]
+#[derive(Clone, Copy)]
 pub struct Reading {
     pub refusal: Refusal,
     pub sheet: Sheet,

@@ -1,4 +1,6 @@
 // The record of a row: whether it is legal, whether its row may be released, and the five steps of its job in a slot.
+#![tactic(auto)]
+
 mod record;
 mod release;
 mod steps;

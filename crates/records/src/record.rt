@@ -5,14 +5,14 @@ ghost use Rattle.records.specs.Records.{legal_record};
 use sheet::Row;
 
 // What a row has to do: the slots that remain of its job, and the slots since its release.
-#[derive(Drop)]
+#[derive(Clone, Copy)]
 pub struct Job {
     pub remaining: u64,
     pub since: u64,
 }
 
 // The record of a row: its job.
-#[derive(Drop)]
+#[derive(Clone, Copy)]
 pub struct RowState {
     pub job: Job,
 }

@@ -7,7 +7,7 @@ use crate::record::Job;
 use sheet::Row;
 
 // What placing a row makes, and what its whole slot makes: the processors that it leaves free, its job, and its code.
-#[derive(Drop)]
+#[derive(Clone, Copy)]
 pub struct Placed {
     pub free: u64,
     pub after: Job,
@@ -15,7 +15,7 @@ pub struct Placed {
 }
 
 // What ageing a row makes: its job, and its code.
-#[derive(Drop)]
+#[derive(Clone, Copy)]
 pub struct Aged {
     pub after: Job,
     pub code: u8,

@@ -1,4 +1,6 @@
 // Prints the text of the reference: sheets A to E. It reads nothing.
+#![tactic(auto)]
+
 use libc::STDOUT_FILENO;
 
 // Prints.

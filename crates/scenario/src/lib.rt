@@ -1,4 +1,6 @@
 // A scenario file: its reader, slot by slot and whole, and its writer.
+#![tactic(auto)]
+
 mod reader;
 mod slot;
 mod writer;

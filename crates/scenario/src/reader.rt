@@ -16,7 +16,7 @@ use numbers::Number;
 pub const MARK: [u8; 4] = *b"GSC\x01";
 
 // What the reader answers: accepted with the number of slots, or refused with none.
-#[derive(Drop)]
+#[derive(Clone, Copy)]
 pub struct ScenarioRead {
     pub refusal: Refusal,
     pub slots: u64,

@@ -15,7 +15,7 @@ use numbers::Number;
 pub const SLOT_REACH: usize = (MOST_ROWS + 1) * 2 * (MOST_GROUPS as usize);
 
 // What reading a slot gives: accepted with the place after it and an entry for each row, or refused with zeros beside it.
-#[derive(Drop)]
+#[derive(Clone, Copy)]
 pub struct SlotRead {
     pub refusal: Refusal,
     pub next: usize,

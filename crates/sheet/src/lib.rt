@@ -1,4 +1,6 @@
 // A sheet: its rows, the check of its ranges, and the list of plain numbers that hands it over: processors, rows n, and then of each row threads, separation, deadline and budget.
+#![tactic(auto)]
+
 mod fields;
 mod legal;
 mod reading;

@@ -1,7 +1,7 @@
 // A row of a sheet, and a sheet by value.
 use basis::MOST_ROWS;
 
-#[derive(Drop)]
+#[derive(Clone, Copy)]
 pub struct Row {
     pub threads: u64,
     pub separation: u64,
@@ -17,7 +17,7 @@ pub const NO_ROW: Row = Row {
     budget: 0,
 };
 
-#[derive(Drop)]
+#[derive(Clone, Copy)]
 pub struct Sheet {
     pub processors: u64,
     pub count: u64,

@@ -1,4 +1,6 @@
 // The state of a box by value: a fresh one, one slot, a run of slots, and the margin of a row.
+#![tactic(auto)]
+
 mod lists;
 mod margins;
 mod runs;

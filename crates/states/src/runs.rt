@@ -12,7 +12,7 @@ use machine::{check_run_in, run_on};
 use sheet::Sheet;
 
 // What a run answers: the slots done, the first refusal if there is one, and the state after those slots.
-#[derive(Drop)]
+#[derive(Clone, Copy)]
 pub struct Ran {
     pub done: u64,
     pub refusal: Refusal,

@@ -13,7 +13,7 @@ use machine::check_slot_in;
 use sheet::Sheet;
 
 // What a slot answers: accepted with the next state, or refused with the state as it came.
-#[derive(Drop)]
+#[derive(Clone, Copy)]
 pub struct Slotted {
     pub refusal: Refusal,
     pub state: State,

@@ -10,7 +10,7 @@ use machine::{STATE_LONG, fresh_on};
 use sheet::Sheet;
 
 // What `fresh` answers: accepted with the state, or refused with all records zero.
-#[derive(Drop)]
+#[derive(Clone, Copy)]
 pub struct Started {
     pub refusal: Refusal,
     pub state: State,

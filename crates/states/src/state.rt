@@ -3,7 +3,7 @@ use basis::MOST_ROWS;
 use records::RowState;
 
 // A record for each row.
-#[derive(Drop)]
+#[derive(Clone, Copy)]
 pub struct State {
     pub rows: [RowState; MOST_ROWS],
 }

@@ -1,4 +1,6 @@
 // Sheets A to F as fixed tables.
+#![tactic(auto)]
+
 mod fixed;
 
 pub use fixed::fixed_sheet;

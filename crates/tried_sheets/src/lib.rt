@@ -1,2 +1,4 @@
 // Right programs on sheets read and judged that stand on promises alone: wrong ones are tried in their place.
+#![tactic(auto)]
+
 mod right;

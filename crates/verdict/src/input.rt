@@ -4,7 +4,7 @@ ghost use Rattle.verdict.specs.Input.{InBuffer};
 use libc::STDIN_FILENO;
 
 // What came of it.
-#[derive(Drop)]
+#[derive(Clone, Copy)]
 pub enum Input {
     Failed,
     // How many bytes stand at the start of the buffer.

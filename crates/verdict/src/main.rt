@@ -1,4 +1,6 @@
 // Reads a sheet from standard input and prints the text of its verdict. Where a read fails it prints no verdict, and says so on standard error.
+#![tactic(auto)]
+
 mod input;
 
 use crate::input::{Input, read_input};

@@ -7,7 +7,7 @@ use crate::codes::put_refused_by;
 use page::{put, put_bytes, put_number};
 
 // The files that a run is of.
-#[derive(Drop)]
+#[derive(Clone, Copy)]
 pub enum File {
     Sheet,
     Scenario,

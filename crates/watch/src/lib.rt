@@ -1,4 +1,6 @@
 // The text of a run: a line for each slot, the last line, and the line of a refused file.
+#![tactic(auto)]
+
 mod codes;
 mod ends;
 mod play;

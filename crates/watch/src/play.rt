@@ -8,7 +8,7 @@ use crate::codes::{put_refused_slot, put_slot};
 use basis::{MOST_ROWS, Refusal};
 
 // What playing a slot answers: the refusal, and how many bytes its line has.
-#[derive(Drop)]
+#[derive(Clone, Copy)]
 pub struct Played {
     pub refusal: Refusal,
     pub long: usize,
