@@ -1,0 +1,11 @@
+-- `put_bytes` meets its promise: the bytes so far are stored. Assumes nothing.
+use Rattle.basis.specs.Prelude.{rules, ◌+◌, ◌-◌, ◌<◌, ◌≡◌, sym, length, drop, sets}
+use Rattle.basis.proofs.Inside.Stores.{sets_out, put_none, put_more, put_full, put_whole}
+use Rattle.basis.proofs.stored.put_bytes.Given as goal
+
+abbrev pub invariant-loop-i : goal.invariant-loop-i
+invariant-loop-i l =
+    (l.at < length l.initial.buffer) × (l.room ≡ length l.initial.buffer - l.at) × (length l.buffer ≡ length l.initial.buffer) × (sets l.initial.buffer l.at l.bytes ≡ sets l.buffer (l.at + l.i) (drop l.i l.bytes))
+
+abbrev pub decreases-loop-i : goal.decreases-loop-i
+decreases-loop-i l = length l.bytes - l.i

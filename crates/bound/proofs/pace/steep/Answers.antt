@@ -1,0 +1,10 @@
+-- `steep` stays within the pace and the amount. Assumes nothing.
+use Rattle.basis.specs.Prelude.{rules}
+use Rattle.bound.proofs.Steps.{steep_whole, steep_part}
+use Rattle.bound.proofs.pace.steep.Goals as goal
+
+pub returns-then-q-width : goal.returns-then-q-width
+returns-then-q-width c = search steep_whole
+
+pub returns : goal.returns
+returns c = search steep_part

@@ -1,0 +1,17 @@
+-- `results_of` has the result of every row: the loop has those of the first i. Assumes nothing.
+use Rattle.basis.specs.Prelude.{rules, ◌≤◌, ◌-◌, ◌≡◌, refl, map}
+use Rattle.bound.proofs.Names.{most_rows, upto, word_in, all_unreached, word_at}
+use Rattle.bound.proofs.Inside.Rows.{rows_more, rows_done}
+use Rattle.bound.proofs.results.results_of.Goals as goal
+
+pub loop-i-init : goal.loop-i-init
+unfolding upto
+loop-i-init c = (search rules, refl)
+
+pub loop-i-preserved : goal.loop-i-preserved
+unfolding upto
+loop-i-preserved c = (search rules, search rows_more)
+
+pub returns : goal.returns
+unfolding upto
+returns c = search rows_done

@@ -1,0 +1,26 @@
+-- `bound_of` is the smallest length that passes: the smallest from this length on is the smallest of all. Assumes nothing.
+use Rattle.basis.specs.Prelude.{rules, ◌≤◌, ◌-◌, ◌+◌, le_of_lt, ◌≡◌}
+use Rattle.bound.proofs.Names.{row_at, sheet_in, passes, least, passes_at, bound_by, held_in}
+use Rattle.bound.proofs.Inside.Lengths.{search_starts, length_of_row, search_less, told_next, search_found, search_more, search_ends}
+use Rattle.bound.proofs.search.bound_of.Goals as goal
+
+pub loop-at-init : goal.loop-at-init
+loop-at-init c = (search rules, search search_starts)
+
+pub try_length-tried-requires : goal.try_length-tried-requires
+try_length-tried-requires c = (search rules, search rules, search length_of_row)
+
+pub returns-in_default : goal.returns-in_default
+returns-in_default c = search search_found
+
+pub further-at-requires : goal.further-at-requires
+further-at-requires c = (search rules, search rules, search length_of_row, search told_next)
+
+pub loop-at-smaller : goal.loop-at-smaller
+loop-at-smaller c = search (search_less, le_of_lt)
+
+pub loop-at-preserved : goal.loop-at-preserved
+loop-at-preserved c = (search rules, search search_more)
+
+pub returns : goal.returns
+returns c = search search_ends

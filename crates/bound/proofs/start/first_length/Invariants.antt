@@ -1,0 +1,11 @@
+-- `first_length` is a length before which none passes: the latest that the rows above give. Assumes nothing.
+use Rattle.basis.specs.Prelude.{rules, ◌≤◌, ◌-◌}
+use Rattle.bound.proofs.Names.{sheet_in, held_in, Starts}
+use Rattle.bound.proofs.Carry.{start_at_budget, above_budget, threads_small, carried_starts, start_later}
+use Rattle.bound.proofs.start.first_length.Given as goal
+
+abbrev pub invariant-loop-j : goal.invariant-loop-j
+invariant-loop-j l = (l.j ≤ l.k) × (Starts (sheet_in l.sheet) (held_in l.results) l.k l.first)
+
+abbrev pub decreases-loop-j : goal.decreases-loop-j
+decreases-loop-j l = l.k - l.j

@@ -1,0 +1,11 @@
+-- `sum_above` adds rows until their sum reaches q × X, and its yes or no is the test's. Assumes nothing.
+use Rattle.basis.specs.Prelude.{rules, ◌-◌}
+use Rattle.bound.proofs.Names.{sheet_in, held_in, Adds}
+use Rattle.bound.proofs.Sums.{adds_none, reached_tells, all_tell}
+use Rattle.bound.proofs.sum.sum_above.Given as goal
+
+abbrev pub invariant-loop-added : goal.invariant-loop-added
+invariant-loop-added l = Adds (sheet_in l.sheet) (held_in l.results) l.k l.length l.added
+
+abbrev pub decreases-loop-added : goal.decreases-loop-added
+decreases-loop-added l = l.k - l.added.rows

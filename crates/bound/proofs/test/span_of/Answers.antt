@@ -1,0 +1,7 @@
+-- `span_of` is x. Assumes nothing.
+use Rattle.basis.specs.Prelude.{rules}
+use Rattle.bound.proofs.Durations.{span_is}
+use Rattle.bound.proofs.test.span_of.Goals as goal
+
+pub returns : goal.returns
+returns c = search span_is

@@ -1,9 +1,0 @@
--- `put_refused_by` meets its promise. Assumes nothing.
-use Rattle.basis.specs.Prelude.{needs}
-use Rattle.dashboard.proofs.Names.{refused_by, two_said}
-use Rattle.dashboard.proofs.line.put_refused_by as this
-
-pub put_refused_by_spec : {M : Type 1} → this.Statement.statement M
-unfolding refused_by
-put_refused_by_spec =
-    this.Tie.close (this.Tie.spec (λ c. search needs) (λ c κs. search needs) (λ c κs. search needs) (λ c. search needs) (λ c. search two_said))

@@ -1,0 +1,10 @@
+-- `cell_of` meets its promise. Assumes nothing.
+use Rattle.basis.specs.Prelude.{rules}
+use Rattle.exports.proofs.Inside.BoxAnswers.{even_cell, odd_cell}
+use Rattle.exports.proofs.boxes.cell_of.Goals as goal
+
+pub returns-then-at-eq0 : goal.returns-then-at-eq0
+returns-then-at-eq0 c = search even_cell
+
+pub returns : goal.returns
+returns c = search odd_cell

@@ -1,0 +1,16 @@
+-- `write_number` meets its promise. The invariant: what is still to be written, over what is stored, is the whole. Assumes nothing.
+use Rattle.basis.specs.Prelude.{rules, ◌≡◌, length}
+use Rattle.numbers.proofs.Inside.Writing.{Measured, measured_none, measured_last, measured_more, measured_all, Stored, stored_none, stored_last, stored_more, stored_all}
+use Rattle.numbers.proofs.writing.write_number.Goals as goal
+
+pub loop-left-init : goal.loop-left-init
+loop-left-init c = (measured_none _, search rules, stored_none _ _ _)
+
+pub returns-then-v-lt128 : goal.returns-then-v-lt128
+returns-then-v-lt128 c = (search measured_last, search rules, search stored_last)
+
+pub loop-left-preserved : goal.loop-left-preserved
+loop-left-preserved c = (search measured_more, search rules, search stored_more)
+
+pub returns : goal.returns
+returns c = (search measured_all, search rules, search stored_all)

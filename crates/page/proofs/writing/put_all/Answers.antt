@@ -1,0 +1,21 @@
+-- `put_all` meets its promise. The invariant: what is said so far is the bytes passed. Assumes nothing.
+use Rattle.basis.specs.Prelude.{rules, ◌+◌, ◌-◌, ◌≤◌, ◌≡◌, refl, length, take}
+use Rattle.page.specs.Pages.{said}
+use Rattle.page.proofs.Inside.Pages.{byte_inside, byte_put, all_said}
+use Rattle.page.proofs.writing.put_all.Goals as goal
+
+pub loop-i-init : goal.loop-i-init
+unfolding said
+loop-i-init c = (search rules, search rules, search rules, refl)
+
+pub bounds-text-next : goal.bounds-text-next
+unfolding said
+bounds-text-next c = search byte_inside
+
+pub loop-i-preserved : goal.loop-i-preserved
+unfolding said
+loop-i-preserved c = (search rules, search rules, search rules, search byte_put)
+
+pub returns : goal.returns
+unfolding said
+returns c = search all_said

@@ -1,0 +1,11 @@
+-- `read_plain` meets its promise: what is left of the label decides. Assumes nothing.
+use Rattle.basis.specs.Prelude.{rules, ◌-◌, ◌≤◌, ◌≡◌, refl}
+use Rattle.reader.proofs.Names.{map_step, plain, nothing}
+use Rattle.reader.proofs.Inside.Plain.{plain_low, plain_high, plain_more, plain_all}
+use Rattle.reader.proofs.row.read_plain.Given as goal
+
+abbrev pub invariant-loop-i : goal.invariant-loop-i
+invariant-loop-i l = (l.i ≤ l.end) × (map_step nothing (plain (l.end - l.at) l.bytes l.at) ≡ map_step nothing (plain (l.end - l.i) l.bytes l.i))
+
+abbrev pub decreases-loop-i : goal.decreases-loop-i
+decreases-loop-i l = l.end - l.i

@@ -1,0 +1,17 @@
+-- `put_codes` meets its promise. The invariant: what is said so far is the codes passed. Assumes nothing.
+use Rattle.basis.specs.Prelude.{rules, ◌-◌, ◌≤◌, ◌≡◌, refl, length, take}
+use Rattle.watch.proofs.Names.{codes_text, said}
+use Rattle.watch.proofs.Inside.Lines.{code_said, codes_said}
+use Rattle.watch.proofs.codes.put_codes.Goals as goal
+
+pub loop-i-init : goal.loop-i-init
+unfolding said codes_text
+loop-i-init c = (search rules, search rules, refl)
+
+pub loop-i-preserved : goal.loop-i-preserved
+unfolding said codes_text
+loop-i-preserved c = (search rules, search rules, search code_said)
+
+pub returns : goal.returns
+unfolding said codes_text
+returns c = search codes_said
