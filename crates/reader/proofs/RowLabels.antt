@@ -67,5 +67,5 @@ module _ (s : Bor (List ℕ)) (i : ℕ) (p : Part) (e : p ≡ label_in s.now i) 
   pub part_ends : length s.now < 2 ^ 64 → Fits w64 (p.start + p.long)
   part_ends b = record { fits = omega (arith, part_fits) }
 
-  pub part_shown : ((s.ptr.0, p.start + s.ptr.1), take (p.start + p.long - p.start) (drop p.start s.now)) ≡ part s (label_in s.now i)
+  pub part_shown : ((s.ref_ptr.0, p.start + s.ref_ptr.1), take (p.start + p.long - p.start) (drop p.start s.now)) ≡ part s (label_in s.now i)
   part_shown = rw add-sub_cancel_left (ap (part s) e)

@@ -101,19 +101,19 @@ module _ (s : Bor (List ℕ)) (e : s.now ≡ two_pumps) where
   pub first_label_shown_is_shut_out : NoAnswer shown (part s (first_label s.now 1)) (part s (label_in s.now 1))
   unfolding first_label
   first_label_shown_is_shut_out r f g =
-      let z : (label_in s.now 0).start + s.ptr.1 ≡ (label_in s.now 1).start + s.ptr.1 = ap (λ (x : (ℕ × ℕ) × List ℕ). x.0.1) (sym f ∙ g) in
+      let z : (label_in s.now 0).start + s.ref_ptr.1 ≡ (label_in s.now 1).start + s.ref_ptr.1 = ap (λ (x : (ℕ × ℕ) × List ℕ). x.0.1) (sym f ∙ g) in
       absurd (omega (arith, ap (λ (p : Part). p.start) first, ap (λ (p : Part). p.start) second))
 
   pub after_its_end_is_shut_out : NoAnswer shown (part s (after_its_end s.now 0)) (part s (label_in s.now 0))
   unfolding after_its_end
   after_its_end_is_shut_out r f g =
-      let z : (label_in s.now 0).start + (label_in s.now 0).long + s.ptr.1 ≡ (label_in s.now 0).start + s.ptr.1 = ap (λ (x : (ℕ × ℕ) × List ℕ). x.0.1) (sym f ∙ g) in
+      let z : (label_in s.now 0).start + (label_in s.now 0).long + s.ref_ptr.1 ≡ (label_in s.now 0).start + s.ref_ptr.1 = ap (λ (x : (ℕ × ℕ) × List ℕ). x.0.1) (sym f ∙ g) in
       absurd (omega (arith, ap (λ (p : Part). p.long) first))
 
   -- a copy: the same bytes in another block
   pub copied_is_shut_out : (i : ℕ) → NoAnswer shown (copied s (label_in s.now i)) (part s (label_in s.now i))
   unfolding copied
-  copied_is_shut_out i r f g = let z : s.ptr.0 + 1 ≡ s.ptr.0 = ap (λ (x : (ℕ × ℕ) × List ℕ). x.0.0) (sym f ∙ g) in absurd (omega arith)
+  copied_is_shut_out i r f g = let z : s.ref_ptr.0 + 1 ≡ s.ref_ptr.0 = ap (λ (x : (ℕ × ℕ) × List ℕ). x.0.0) (sym f ∙ g) in absurd (omega arith)
 
 -- `label_parts`
 pub first_for_all_is_shut_out : NoAnswer (λ (p : Parts). p.parts) (first_for_all two_pumps) (labels_in two_pumps)

@@ -57,8 +57,8 @@ labels_in s = upto most_rows (label_in s) no_parts
 
 -- What a lent part shows: where in memory it starts, and its bytes.
 abbrev pub shown : Bor (List ℕ) → (ℕ × ℕ) × List ℕ
-shown r = (r.ptr, r.now)
+shown r = (r.ref_ptr, r.now)
 
 -- A part of the lent bytes: so many bytes after their own start, and the bytes there.
 abbrev pub part : Bor (List ℕ) → Part → (ℕ × ℕ) × List ℕ
-part s p = ((s.ptr.0, p.start + s.ptr.1), take p.long (drop p.start s.now))
+part s p = ((s.ref_ptr.0, p.start + s.ref_ptr.1), take p.long (drop p.start s.now))

@@ -146,7 +146,7 @@ after_its_end s i = record { start = (label_in s i).start + (label_in s i).long;
 
 -- A copy of a label: the same bytes in another block of memory.
 unfoldable pub copied : Bor (List ℕ) → Part → (ℕ × ℕ) × List ℕ
-copied s p = ((s.ptr.0 + 1, p.start + s.ptr.1), take p.long (drop p.start s.now))
+copied s p = ((s.ref_ptr.0 + 1, p.start + s.ref_ptr.1), take p.long (drop p.start s.now))
 
 -- The first row's label for every row.
 unfoldable pub first_for_all : List ℕ → List Part

@@ -1,5 +1,5 @@
 -- A label of an accepted sheet: where its bytes are, and what the function that looks for it has shown. Assumes nothing.
-use Rattle.basis.specs.Prelude.{needs, ℕ, zero, suc, ◌+◌, ◌≤◌, ◌<◌, ◌≡◌, refl, sym, ap, ap₂, subst, ◌∙◌, true, List, [], ◌∷◌, map, arith, not-suc-le-zero, le_of_suc-le-suc, length, get_or, take, drop, get_or-map}
+use Rattle.basis.specs.Prelude.{rules, ℕ, zero, suc, ◌+◌, ◌≤◌, ◌<◌, ◌≡◌, refl, sym, ap, ap₂, subst, ◌∙◌, true, List, [], ◌∷◌, map, arith, not-suc-le-zero, le_of_suc-le-suc, length, get_or, take, drop, get_or-map}
 use Rattle.reader.proofs.Names.{longest_label, most_separation, ok, bounded, LegalRow, enough, end, after_ok, ok_same, enough_ok, end_ok, end_stays, up_to, no_row, Entry, Held, entry_row, entry_label, is_plain, label_by, label, entry_by, entry, entries_by, entries, body_by, Head, head, sheet_by, sheet, label_head, row_from, row_after}
 use Rattle.reader.proofs.Inside.Plain.{plain_ok}
 
@@ -47,7 +47,7 @@ rowed m s at x n e =
     let Tb = bounded most_separation 7 8 s b T c e₅ in
     let Db = bounded T 7 8 s c D d e₇ in
     let Cb = bounded D 7 8 s d C f e₉ in
-    subst (λ (y : Entry). Rowed m s at y n) same (record { from = a; labelled = e₁; legal = search needs; long = omega arith; inside = omega arith })
+    subst (λ (y : Entry). Rowed m s at y n) same (record { from = a; labelled = e₁; legal = search rules; long = omega arith; inside = omega arith })
 
 -- an entry that is not there
 abbrev no_entry : Entry
