@@ -85,7 +85,7 @@ fifteen_first long a = fifteen_by a.outcome
   where
     fifteen_by : Outcome → Answer
     fifteen_by accepted = a
-    fifteen_by (refused number place) = pick (ltb (length a.lent) long) (nothing_by (refused 15 0) a.lent) a
+    fifteen_by (refused _ _) = pick (ltb (length a.lent) long) (nothing_by (refused 15 0) a.lent) a
 
 -- The place after what was written is cleared.
 unfoldable pub past_cleared : ℕ → Answer → Answer

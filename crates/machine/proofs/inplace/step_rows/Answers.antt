@@ -13,21 +13,21 @@ processors_in-free-requires c = search rules
 pub loop-i-init : goal.loop-i-init
 unfolding upto put_to free_at given
 loop-i-init c = (
-      search rules,
-      search rules,
-      search legal_in_fits,
-      search legal_sheet_long,
-      search kept_long,
-      search rules,
-      search rules,
-      search rules,
-      search rules,
-      refl,
-      refl,
-      search rules,
-      refl,
-      refl,
-    )
+  search rules,
+  search rules,
+  search legal_in_fits,
+  search legal_sheet_long,
+  search kept_long,
+  search rules,
+  search rules,
+  search rules,
+  search rules,
+  refl,
+  refl,
+  search rules,
+  refl,
+  refl,
+)
 
 pub offset_bounds-releases-i : goal.offset_bounds-releases-i
 unfolding upto put_to free_at given
@@ -40,21 +40,21 @@ step_row-stepped-requires c = (search rules, search rules, search rules)
 pub loop-i-preserved : goal.loop-i-preserved
 unfolding upto put_to free_at given
 loop-i-preserved c = (
-      search rules,
-      search rules,
-      search rules,
-      search rules,
-      search rules,
-      search rules,
-      search rules,
-      search rules,
-      search rules,
-      search rules,
-      search rules,
-      search free_moves,
-      search list_moves,
-      search codes_move,
-    )
+  search rules,
+  search rules,
+  search rules,
+  search rules,
+  search rules,
+  search rules,
+  search rules,
+  search rules,
+  search rules,
+  search rules,
+  search rules,
+  search free_moves,
+  search list_moves,
+  search codes_move,
+)
 
 pub shape_of-list : goal.shape_of-list
 unfolding upto put_to free_at given
