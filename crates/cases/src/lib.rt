@@ -1,3 +1,2 @@
 // The starred cases as one list: laws only, and no code.
 #![tactic(auto)]
-
