@@ -1,2 +1,1 @@
 pub mod BoxLoop
-pub mod Walks

@@ -1,6 +1,7 @@
 -- The box's own loop: what it begins with, a slot on parts of the list and the buffer, and the end of its course. Assumes nothing.
 use Rattle.basis.specs.Prelude.{ℕ, ◌+◌, ◌*◌, ◌-◌, ◌/◌, ◌≤◌, ◌<◌, ◌^◌, ◌≡◌, refl, sym, ap, ap₂, subst, ◌∙◌, true, false, List, ◌++◌, append-nil, length, take, drop, length-drop, drop_of_length-le, take_all, arith}
-use Rattle.aboard.proofs.Names.{put_mid, Outcome, accepted, refused, outcome, is_accepted, handed, Refusal, Accepted, Refused, Sheet, State, Begun, check_run, held, started, FreshAnswer, SlotAnswer, RunAnswer, slot_answer, run_answer, fresh, slot, entries_of, slot_at, course, run, slotted_in, beginning_of, beginning, run_list, run_buffer}
+use Rattle.aboard.proofs.Names.{Outcome, accepted, refused, outcome, is_accepted, handed, Refusal, Accepted, Refused, Sheet, State, Begun, check_run, held, started, FreshAnswer, SlotAnswer, RunAnswer, slot_answer, run_answer, fresh, slot, entries_of, slot_at, course, run, slotted_in, beginning_of, beginning, run_list, run_buffer}
+use borrow.Rule.Slice.PartMut.{put_mid}
 use Rattle.machine.specs.States as states
 use Rattle.states.specs.declared.start.Started.{Started}
 use Rattle.machine.proofs.SlotsDone.{run_not_begun}
@@ -66,6 +67,14 @@ place_of n j slots rel cs now l a b e f g =
     let p : j * n + n ≤ length rel = room_for n j slots (length rel) l a in
     let q : j * n + n ≤ length cs = room_for n j slots (length cs) l b in
     record { in_list = p; in_buffer = omega arith; in_codes = omega arith; small_place = omega arith; small_count = omega arith; small_rest = omega arith }
+
+-- slot j of a run that has begun has room in the list and in the buffer
+module _ (h : Sheet) (rel cs : List ℕ) (b : Begun) (e : beginning_of b ≡ beginning h rel (length cs)) (j : ℕ) (l : j < b.slots) where
+  pub slot_in_list : j * h.count + h.count ≤ length rel
+  slot_in_list = room_for h.count j b.slots (length rel) l (begins h rel cs b e).in_list
+
+  pub slot_in_buffer : j * h.count + h.count ≤ length cs
+  slot_in_buffer = room_for h.count j b.slots (length cs) l (begins h rel cs b e).in_buffer
 
 -- a slot of the loop, on its own entries and on the buffer from its place on, is slot j of the list
 pub slot_at_is : (h : Sheet) (t : State) (rel cs : List ℕ) (j : ℕ) (list : List ℕ) → list ≡ entries_of h.count j rel
