@@ -4,17 +4,9 @@ use Rattle.basis.proofs.Inside.Tests.{tests}
 use Rattle.bound.specs.Lists.{word_at}
 use Rattle.bound.proofs.results.judged_at.Goals as goal
 
-pub offset_bounds-results-k : goal.offset_bounds-results-k
-unfolding word_at
-offset_bounds-results-k c = search rules
-
 pub returns-then-word-eq0 : goal.returns-then-word-eq0
 unfolding word_at
 returns-then-word-eq0 c = search tests
-
-pub offset_bounds-results-k-then-word-eq1 : goal.offset_bounds-results-k-then-word-eq1
-unfolding word_at
-offset_bounds-results-k-then-word-eq1 c = search rules
 
 pub returns-then-word-eq1 : goal.returns-then-word-eq1
 unfolding word_at

@@ -8,14 +8,6 @@ pub loop-i-init : goal.loop-i-init
 unfolding upto
 loop-i-init c = (search rules, refl)
 
-pub judged_at-requires : goal.judged_at-requires
-unfolding upto
-judged_at-requires c = search rules
-
-pub offset_bounds-rows-i : goal.offset_bounds-rows-i
-unfolding upto
-offset_bounds-rows-i c = search rules
-
 pub loop-i-preserved : goal.loop-i-preserved
 unfolding upto
 loop-i-preserved c = (search rules, search rows_more)

@@ -16,10 +16,6 @@ pub loop-i-preserved : goal.loop-i-preserved
 unfolding said lines
 loop-i-preserved c = (search rules, search rules, search one_line)
 
-pub shape_of-text : goal.shape_of-text
-unfolding said lines
-shape_of-text c = search rules
-
 pub returns : goal.returns
 unfolding said lines
 returns c = search all_lines

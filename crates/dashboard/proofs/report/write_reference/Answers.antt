@@ -8,17 +8,9 @@ pub loop-i-init : goal.loop-i-init
 unfolding said sections
 loop-i-init c = (search rules, search rules, refl)
 
-pub put_section-next-requires : goal.put_section-next-requires
-unfolding said sections
-put_section-next-requires c = search rules
-
 pub loop-i-preserved : goal.loop-i-preserved
 unfolding said sections
 loop-i-preserved c = (search rules, search rules, search one_section)
-
-pub shape_of-text : goal.shape_of-text
-unfolding said sections
-shape_of-text c = search rules
 
 pub returns : goal.returns
 unfolding said sections

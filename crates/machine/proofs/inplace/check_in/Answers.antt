@@ -9,18 +9,6 @@ pub returns-then-release-eq0 : goal.returns-then-release-eq0
 unfolding check_row
 returns-then-release-eq0 c = search tests
 
-pub row_inside-row-requires : goal.row_inside-row-requires
-unfolding check_row
-row_inside-row-requires c = search rules
-
-pub record_in-s-requires : goal.record_in-s-requires
-unfolding check_row
-record_in-s-requires c = search rules
-
-pub check_row-requires : goal.check_row-requires
-unfolding check_row
-check_row-requires c = search rules
-
 pub returns : goal.returns
 unfolding check_row
 returns c = search check_in_there

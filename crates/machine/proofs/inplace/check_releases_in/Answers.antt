@@ -10,25 +10,13 @@ pub loop-i-init : goal.loop-i-init
 unfolding first_of
 loop-i-init c = (search rules, search rules, search legal_in_fits, search legal_sheet_long, search kept_long, search rules, search rules, search rules, refl)
 
-pub offset_bounds-releases-i : goal.offset_bounds-releases-i
-unfolding first_of
-offset_bounds-releases-i c = search rules
-
 pub check_in-refusal-requires : goal.check_in-refusal-requires
 unfolding first_of
 check_in-refusal-requires c = (search rules, search rules, search rules)
 
-pub enum_known-refusal : goal.enum_known-refusal
-unfolding first_of
-enum_known-refusal c = search rules
-
 pub returns-in-Refused : goal.returns-in-Refused
 unfolding first_of
 returns-in-Refused c = search check_in_found
-
-pub enum_told-1 : goal.enum_told-1
-unfolding first_of
-enum_told-1 c = search rules
 
 pub loop-i-preserved : goal.loop-i-preserved
 unfolding first_of

@@ -6,10 +6,6 @@ use Rattle.machine.proofs.LegalLists.{kept_long}
 use Rattle.machine.proofs.SlotsInPlace.{free_moves, list_moves, codes_move, moves_done, codes_done}
 use Rattle.machine.proofs.inplace.step_rows.Goals as goal
 
-pub processors_in-free-requires : goal.processors_in-free-requires
-unfolding upto put_to free_at given
-processors_in-free-requires c = search rules
-
 pub loop-i-init : goal.loop-i-init
 unfolding upto put_to free_at given
 loop-i-init c = (
@@ -28,10 +24,6 @@ loop-i-init c = (
   refl,
   refl,
 )
-
-pub offset_bounds-releases-i : goal.offset_bounds-releases-i
-unfolding upto put_to free_at given
-offset_bounds-releases-i c = search rules
 
 pub step_row-stepped-requires : goal.step_row-stepped-requires
 unfolding upto put_to free_at given
@@ -55,14 +47,6 @@ loop-i-preserved c = (
   search list_moves,
   search codes_move,
 )
-
-pub shape_of-list : goal.shape_of-list
-unfolding upto put_to free_at given
-shape_of-list c = search rules
-
-pub shape_of-codes : goal.shape_of-codes
-unfolding upto put_to free_at given
-shape_of-codes c = search rules
 
 pub returns : goal.returns
 unfolding upto put_to free_at given

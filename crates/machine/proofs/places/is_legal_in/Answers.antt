@@ -24,10 +24,6 @@ pub record_in-s-requires : goal.record_in-s-requires
 unfolding all_of
 record_in-s-requires c = (search rules, search rules)
 
-pub is_legal_record-fine-requires : goal.is_legal_record-fine-requires
-unfolding all_of
-is_legal_record-fine-requires c = search rules
-
 pub loop-i-preserved : goal.loop-i-preserved
 unfolding all_of
 loop-i-preserved c = (search rules, search rules, search rules, search rules, search rules, search rules, search rules, search legal_in_more)
@@ -35,10 +31,6 @@ loop-i-preserved c = (search rules, search rules, search rules, search rules, se
 pub returns-else-fine : goal.returns-else-fine
 unfolding all_of
 returns-else-fine c = search legal_in_fails
-
-pub is_zero_from-requires : goal.is_zero_from-requires
-unfolding all_of
-is_zero_from-requires c = search rules
 
 pub returns : goal.returns
 unfolding all_of

@@ -3,10 +3,6 @@ use Rattle.basis.specs.Prelude.{rules}
 use Rattle.sheet.specs.Lists.{sheet_in}
 use Rattle.machine.proofs.sheets.processors_in.Goals as goal
 
-pub number_at-requires : goal.number_at-requires
-unfolding sheet_in
-number_at-requires c = search rules
-
 pub returns : goal.returns
 unfolding sheet_in
 returns c = search rules

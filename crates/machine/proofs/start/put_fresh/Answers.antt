@@ -22,10 +22,6 @@ pub loop-i-preserved : goal.loop-i-preserved
 unfolding put_to
 loop-i-preserved c = (search rules, search rules, search rules, search rules, search rules, search fresh_more)
 
-pub shape_of-list : goal.shape_of-list
-unfolding put_to
-shape_of-list c = search rules
-
 pub returns : goal.returns
 unfolding put_to
 returns c = search moves_done

@@ -4,10 +4,6 @@ use Rattle.basis.proofs.Inside.Tests.{tests}
 use Rattle.page.specs.Pages.{put_one, said}
 use Rattle.page.proofs.writing.put.Goals as goal
 
-pub shape_of-text-then-at-text : goal.shape_of-text-then-at-text
-unfolding said put_one
-shape_of-text-then-at-text c = search rules
-
 pub returns-then-at-text : goal.returns-then-at-text
 unfolding said put_one
 returns-then-at-text c = search tests

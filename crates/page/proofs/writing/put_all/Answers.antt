@@ -16,10 +16,6 @@ pub loop-i-preserved : goal.loop-i-preserved
 unfolding said
 loop-i-preserved c = (search rules, search rules, search rules, search byte_put)
 
-pub shape_of-text : goal.shape_of-text
-unfolding said
-shape_of-text c = search rules
-
 pub returns : goal.returns
 unfolding said
 returns c = search all_said

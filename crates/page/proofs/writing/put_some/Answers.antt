@@ -8,17 +8,9 @@ pub loop-i-init : goal.loop-i-init
 unfolding said
 loop-i-init c = (search rules, search rules, refl)
 
-pub put-next-requires : goal.put-next-requires
-unfolding said
-put-next-requires c = search rules
-
 pub loop-i-preserved : goal.loop-i-preserved
 unfolding said
 loop-i-preserved c = (search rules, search rules, search byte_said)
-
-pub shape_of-text : goal.shape_of-text
-unfolding said
-shape_of-text c = search rules
 
 pub returns : goal.returns
 unfolding said

@@ -13,22 +13,6 @@ pub returns-then-labels-places : goal.returns-then-labels-places
 unfolding handed_over
 returns-then-labels-places c = search tests
 
-pub copy-requires : goal.copy-requires
-unfolding handed_over
-copy-requires c = search rules
-
-pub copy-requires-2 : goal.copy-requires-2
-unfolding handed_over
-copy-requires-2 c = search rules
-
-pub shape_of-list : goal.shape_of-list
-unfolding handed_over
-shape_of-list c = search rules
-
-pub shape_of-labels : goal.shape_of-labels
-unfolding handed_over
-shape_of-labels c = search rules
-
 pub returns : goal.returns
 unfolding handed_over
 returns c = search both_handed_over

@@ -4,21 +4,9 @@ use Rattle.reader.proofs.Names.{most_rows, upto, upto_none, upto_whole, label_in
 use Rattle.reader.proofs.Inside.ZeroLists.{part_was_read, one_part_more}
 use Rattle.reader.proofs.labels.label_parts.Goals as goal
 
-pub read_into-requires : goal.read_into-requires
-unfolding labels_in
-read_into-requires c = search rules
-
 pub loop-i-init : goal.loop-i-init
 unfolding labels_in
 loop-i-init c = (search rules, search upto_none, λ k h. search part_was_read)
-
-pub part_in-requires : goal.part_in-requires
-unfolding labels_in
-part_in-requires c = search rules
-
-pub offset_bounds-parts-i : goal.offset_bounds-parts-i
-unfolding labels_in
-offset_bounds-parts-i c = search rules
 
 pub loop-i-preserved : goal.loop-i-preserved
 unfolding labels_in

@@ -12,14 +12,6 @@ pub loop-i-init : goal.loop-i-init
 unfolding entries_by map_step parts_in upto
 loop-i-init c = (search rules, refl, search head_put, refl)
 
-pub read_entry-requires : goal.read_entry-requires
-unfolding entries_by map_step parts_in upto
-read_entry-requires c = search rules
-
-pub enum_known-number : goal.enum_known-number
-unfolding entries_by map_step parts_in upto
-enum_known-number c = search rules
-
 pub shape_of-list-in-Refused : goal.shape_of-list-in-Refused
 unfolding entries_by map_step parts_in upto
 shape_of-list-in-Refused c = search list_long
@@ -31,10 +23,6 @@ shape_of-labels-in-Refused c = search parts_long
 pub returns-in-Refused : goal.returns-in-Refused
 unfolding entries_by map_step parts_in upto
 returns-in-Refused c = (search row_refused, tt)
-
-pub enum_known-row : goal.enum_known-row
-unfolding entries_by map_step parts_in upto
-enum_known-row c = search rules
 
 pub put_row-requires : goal.put_row-requires
 unfolding entries_by map_step parts_in upto

@@ -8,33 +8,9 @@ pub loop-i-init : goal.loop-i-init
 unfolding first_of
 loop-i-init c = (search rules, search rules, search row_none, search rules, search rules, refl)
 
-pub budget_in-budget-requires : goal.budget_in-budget-requires
-unfolding first_of
-budget_in-budget-requires c = search rules
-
-pub offset_bounds-releases-i : goal.offset_bounds-releases-i
-unfolding first_of
-offset_bounds-releases-i c = search rules
-
-pub check_entry-refusal-requires : goal.check_entry-refusal-requires
-unfolding first_of
-check_entry-refusal-requires c = search rules
-
-pub enum_known-refusal : goal.enum_known-refusal
-unfolding first_of
-enum_known-refusal c = search rules
-
 pub returns-in-Refused : goal.returns-in-Refused
 unfolding first_of
 returns-in-Refused c = search entry_over
-
-pub enum_told-1 : goal.enum_told-1
-unfolding first_of
-enum_told-1 c = search rules
-
-pub row_after-place-requires : goal.row_after-place-requires
-unfolding first_of
-row_after-place-requires c = search rules
 
 pub loop-i-preserved : goal.loop-i-preserved
 unfolding first_of

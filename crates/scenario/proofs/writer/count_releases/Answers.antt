@@ -8,14 +8,6 @@ pub loop-i-init : goal.loop-i-init
 unfolding releases_in
 loop-i-init c = (search rules, search rules, search rules, refl)
 
-pub offset_bounds-slot-i : goal.offset_bounds-slot-i
-unfolding releases_in
-offset_bounds-slot-i c = search rules
-
-pub one_release-count-requires : goal.one_release-count-requires
-unfolding releases_in
-one_release-count-requires c = search rules
-
 pub loop-i-preserved : goal.loop-i-preserved
 unfolding releases_in
 loop-i-preserved c = (search rules, search rules, search rules, search count_one)

@@ -8,14 +8,6 @@ pub loop-i-init : goal.loop-i-init
 unfolding releases_bytes
 loop-i-init c = (search rules, search rules, search rules, refl)
 
-pub offset_bounds-slot-i : goal.offset_bounds-slot-i
-unfolding releases_bytes
-offset_bounds-slot-i c = search rules
-
-pub entry_length-long-requires : goal.entry_length-long-requires
-unfolding releases_bytes
-entry_length-long-requires c = search rules
-
 pub loop-i-preserved : goal.loop-i-preserved
 unfolding releases_bytes
 loop-i-preserved c = (search rules, search rules, search rules, search long_one)

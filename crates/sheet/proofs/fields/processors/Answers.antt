@@ -3,10 +3,6 @@ use Rattle.basis.specs.Prelude.{rules}
 use Rattle.sheet.proofs.Names.{sheet_in}
 use Rattle.sheet.proofs.fields.processors.Goals as goal
 
-pub number_at-requires : goal.number_at-requires
-unfolding sheet_in
-number_at-requires c = search rules
-
 pub returns : goal.returns
 unfolding sheet_in
 returns c = search rules

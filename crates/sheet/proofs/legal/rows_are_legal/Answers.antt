@@ -12,10 +12,6 @@ pub row_inside-row-requires : goal.row_inside-row-requires
 unfolding all_of
 row_inside-row-requires c = (search rules, search rules)
 
-pub is_legal_row-fine-requires : goal.is_legal_row-fine-requires
-unfolding all_of
-is_legal_row-fine-requires c = search rules
-
 pub loop-i-preserved : goal.loop-i-preserved
 unfolding all_of
 loop-i-preserved c = (search rules, search rules, search rules, search rows_legal_more)

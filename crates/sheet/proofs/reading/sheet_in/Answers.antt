@@ -8,25 +8,9 @@ pub loop-i-init : goal.loop-i-init
 unfolding upto
 loop-i-init c = (search rules, refl)
 
-pub row_in-requires : goal.row_in-requires
-unfolding upto
-row_in-requires c = search rules
-
-pub offset_bounds-rows-i : goal.offset_bounds-rows-i
-unfolding upto
-offset_bounds-rows-i c = search rules
-
 pub loop-i-preserved : goal.loop-i-preserved
 unfolding upto
 loop-i-preserved c = (search rules, search rows_more)
-
-pub number_at-requires : goal.number_at-requires
-unfolding upto
-number_at-requires c = search rules
-
-pub number_at-requires-2 : goal.number_at-requires-2
-unfolding upto
-number_at-requires-2 c = search rules
 
 pub returns : goal.returns
 unfolding upto

@@ -15,10 +15,6 @@ pub returns-then-at-ge-SHEET_LONG : goal.returns-then-at-ge-SHEET_LONG
 unfolding cell_by
 returns-then-at-ge-SHEET_LONG c = search tests
 
-pub row_cell-requires : goal.row_cell-requires
-unfolding cell_by
-row_cell-requires c = search rules
-
 pub returns : goal.returns
 unfolding cell_by
 returns c = search tests

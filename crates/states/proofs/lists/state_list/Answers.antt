@@ -8,18 +8,6 @@ pub loop-i-init : goal.loop-i-init
 unfolding put_to
 loop-i-init c = (search rules, search rules, refl, refl)
 
-pub offset_bounds-state-i : goal.offset_bounds-state-i
-unfolding put_to
-offset_bounds-state-i c = search rules
-
-pub offset_bounds-list-at : goal.offset_bounds-list-at
-unfolding put_to
-offset_bounds-list-at c = search rules
-
-pub offset_bounds-list-at-in-loop-i : goal.offset_bounds-list-at-in-loop-i
-unfolding put_to
-offset_bounds-list-at-in-loop-i c = search rules
-
 pub loop-i-preserved : goal.loop-i-preserved
 unfolding put_to
 loop-i-preserved c = (search rules, search both_stored, search list_more, search rules)

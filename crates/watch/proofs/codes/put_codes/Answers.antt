@@ -8,17 +8,9 @@ pub loop-i-init : goal.loop-i-init
 unfolding said codes_text
 loop-i-init c = (search rules, search rules, refl)
 
-pub put_code-next-requires : goal.put_code-next-requires
-unfolding said codes_text
-put_code-next-requires c = search rules
-
 pub loop-i-preserved : goal.loop-i-preserved
 unfolding said codes_text
 loop-i-preserved c = (search rules, search rules, search code_said)
-
-pub shape_of-text : goal.shape_of-text
-unfolding said codes_text
-shape_of-text c = search rules
 
 pub returns : goal.returns
 unfolding said codes_text

@@ -8,14 +8,6 @@ pub loop-i-init : goal.loop-i-init
 unfolding first_of
 loop-i-init c = (search rules, search rules, refl)
 
-pub part_of-part-requires : goal.part_of-part-requires
-unfolding first_of
-part_of-part-requires c = search rules
-
-pub label_lies-fine-requires : goal.label_lies-fine-requires
-unfolding first_of
-label_lies-fine-requires c = search rules
-
 pub loop-i-preserved : goal.loop-i-preserved
 unfolding first_of
 loop-i-preserved c = (search rules, search rules, search labels_more)

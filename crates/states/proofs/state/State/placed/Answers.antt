@@ -8,29 +8,9 @@ pub loop-i-init : goal.loop-i-init
 unfolding upto free_at
 loop-i-init c = (search rules, search rules, search rules, refl, refl, refl, refl)
 
-pub offset_bounds-sheet-i : goal.offset_bounds-sheet-i
-unfolding upto free_at
-offset_bounds-sheet-i c = search rules
-
-pub offset_bounds-state-i : goal.offset_bounds-state-i
-unfolding upto free_at
-offset_bounds-state-i c = search rules
-
-pub placed-placed-requires : goal.placed-placed-requires
-unfolding upto free_at
-placed-placed-requires c = search rules
-
-pub offset_bounds-state-i-in-loop-i : goal.offset_bounds-state-i-in-loop-i
-unfolding upto free_at
-offset_bounds-state-i-in-loop-i c = search rules
-
 pub loop-i-preserved : goal.loop-i-preserved
 unfolding upto free_at
 loop-i-preserved c = (search rules, search rules, search rules, search rules, search placed_free, search placed_rows, search placed_codes_lem)
-
-pub shape_of-codes : goal.shape_of-codes
-unfolding upto free_at
-shape_of-codes c = search rules
 
 pub returns : goal.returns
 unfolding upto free_at

@@ -8,22 +8,6 @@ pub loop-i-init : goal.loop-i-init
 unfolding upto
 loop-i-init c = (search rules, search rules, search rules, refl)
 
-pub offset_bounds-state-i : goal.offset_bounds-state-i
-unfolding upto
-offset_bounds-state-i c = search rules
-
-pub offset_bounds-releases-i : goal.offset_bounds-releases-i
-unfolding upto
-offset_bounds-releases-i c = search rules
-
-pub released-after-requires : goal.released-after-requires
-unfolding upto
-released-after-requires c = search rules
-
-pub offset_bounds-state-i-in-loop-i : goal.offset_bounds-state-i-in-loop-i
-unfolding upto
-offset_bounds-state-i-in-loop-i c = search rules
-
 pub loop-i-preserved : goal.loop-i-preserved
 unfolding upto
 loop-i-preserved c = (search rules, search rules, search rules, search released_more)
