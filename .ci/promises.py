@@ -12,13 +12,26 @@ import re
 import sys
 
 PAGE = "docs/PROMISES.md"
-SHUT_OUT = ("-is-shut-out", "-is-shut-out")
+SHUT_OUT = "_is_shut_out"
 NAME = r"[^\s(){};,.]+"
 
 
+def words(text):
+    """(word, owner) of each word of a text, with dots and brackets apart. The owner of what stands right behind a dot is the word right before the dot, or nothing but a mark where that is
+    no word; what stands behind no dot has none."""
+    out, end = [], None
+    for found in re.finditer(NAME, text):
+        at, owner = found.start(), None
+        if at > 0 and text[at - 1] == ".":
+            owner = out[-1][0] if end == at - 1 else ""
+        out.append((found.group(), owner))
+        end = found.end()
+    return out
+
+
 def spaced(text):
-    """The words of a text, with dots and brackets apart."""
-    return re.findall(NAME, text)
+    """The words of a text that are names of their own, and no fields of another."""
+    return [word for word, owner in words(text) if owner is None]
 
 
 class Sources:
@@ -113,28 +126,28 @@ class Theory:
         return name in self.data or self.signature(name) is not None
 
 
-def imports(text, words="use"):
+def imports(text, keyword="use"):
     """(name, (file, name there)) of each name that a text imports, or passes on, from the specs or proofs of a crate."""
-    for crate, path, what in re.findall(r"^\s*(?:ghost |pub |unfoldable |abbrev )*" + words + r" Rattle·(\w+)(?:·\w+)?\.((?:specs|proofs)[\w.]*?)(\.\{[^}]*\}| as [\w-]+)", text, re.M):
+    for crate, path, what in re.findall(r"^\s*(?:ghost |pub |unfoldable |abbrev )*" + keyword + r" Rattle\.(\w+)\.((?:specs|proofs)[\w.]*?)(\.\{[^}]*\}| as [\w-]+)", text, re.M):
         file = f"crates/{crate}/{path.replace('.', '/')}.antt"
         if what.startswith(" as "):
             yield what[4:], (file, None)
         else:
             for name in what[2:-1].split(","):
-                yield name.strip(), (file, name.strip())
+                there, _, here = name.strip().partition(" as ")
+                yield here.strip() or there, (file, there)
 
 
 def named(text, name, scope):
     """How often a text names this definition, and the file that it is imported from."""
-    words, count, file = spaced(text), 0, None
-    for at, word in enumerate(words):
+    count, file = 0, None
+    for word, owner in words(text):
         if word != name:
             continue
-        before = words[at - 1] if at else None
-        if name in scope and scope[name][1] == name:
+        if owner is None and name in scope and scope[name][1] == name:
             count, file = count + 1, scope[name][0]
-        elif before in scope and scope[before][1] is None:
-            count, file = count + 1, scope[before][0]
+        elif owner in scope and scope[owner][1] is None:
+            count, file = count + 1, scope[owner][0]
     return count, file
 
 
@@ -172,10 +185,11 @@ def public_functions(sources, crate):
 
 
 def crates(sources):
+    """The crates that crates.txt names: the first word of each line."""
     for line in sources.text("crates.txt").splitlines():
         line = line.split("#")[0].strip()
         if line:
-            yield line.split(":")[0].strip()
+            yield line.split(":")[0].split()[0]
 
 
 def tables(sources):

@@ -34,7 +34,8 @@ use std::sync::atomic::{AtomicBool, Ordering::Relaxed};
 const SEED: u64 = 20_240_229;
 
 const USAGE: &str = "check STARTER PROBE FOLDER [--seed N] [--times K] [--break RULE], rules, or hand CASES ANSWERS
-  STARTER starts a program, PROBE answers cases, FOLDER has verdict, reference and play; --times makes so many times the random cases;
+  STARTER starts a program, PROBE answers cases, FOLDER has the programs verdict, reference and play, each as NAME/out/NAME;
+  --times makes so many times the random cases;
   --break breaks one rule of this program and asks only what has to show it; rules prints their names;
   hand writes the cases worked by hand and their answers, in the bytes of the wire
 status: 0 where nothing differs, 1 at a difference, another where it cannot be told";

@@ -9,12 +9,17 @@ use crate::probe::{hex, show, start, Choice};
 use crate::table::Table;
 use crate::text::{reference, verdict};
 use std::io::Write;
-use std::path::Path;
+use std::path::{Path, PathBuf};
 use std::process::Command;
 use std::sync::atomic::{AtomicBool, Ordering::Relaxed};
 
 /// The most bytes that the verdict program reads.
 const MOST_INPUT: usize = 871;
+
+/// Where a program of this name stands in the folder of crates.
+fn built(folder: &Path, name: &str) -> PathBuf {
+    folder.join(name).join("out").join(name)
+}
 
 /// What a program prints on this input.
 fn printed(starter: &Path, program: &Path, input: &[u8]) -> Vec<u8> {
@@ -71,7 +76,7 @@ pub fn check(starter: &Path, folder: &Path, choice: Choice, table: &mut Table, d
     let wants = |kind: Kind| choice.only.is_none_or(|only| only == kind) && !differs.load(Relaxed);
     if wants(Kind::VerdictProgram) {
         let inputs = texts::inputs(&mut Dice(choice.seed), 290 * choice.times);
-        let program = folder.join("verdict");
+        let program = built(folder, "verdict");
         let (first, second) = inputs.split_at(inputs.len() / 2);
         std::thread::scope(|scope| {
             for half in [first, second] {
@@ -81,12 +86,12 @@ pub fn check(starter: &Path, folder: &Path, choice: Choice, table: &mut Table, d
         table.count_runs("the verdict program", inputs.len() as u64);
     }
     if wants(Kind::ReferenceProgram) {
-        compare(starter, &folder.join("reference"), &[vec![]], |_| reference(), differs);
+        compare(starter, &built(folder, "reference"), &[vec![]], |_| reference(), differs);
         table.count_runs("the reference program", 1);
     }
     if wants(Kind::PlayProgram) {
         let pairs = scenarios::pairs(&mut Dice(choice.seed), 260 * choice.times);
-        let program = folder.join("play");
+        let program = built(folder, "play");
         let room = std::env::temp_dir().join(format!("giachimu-{}", std::process::id()));
         let (first, second) = pairs.split_at(pairs.len() / 2);
         let (one, two) = (room.join("one"), room.join("two"));
