@@ -298,7 +298,7 @@ class Page:
             end = signature.rsplit("→", 1)[-1]
             if count < 2 or its != file:
                 self.fault(f"{full}: the type of {law} does not name {name} of {file} for two answers")
-            elif "≡" not in end or name in spaced(end):
+            elif "≡" not in end or name in re.findall(NAME, end):
                 self.fault(f"{full}: the law {law} does not end in the equality of two answers")
             return
         self.fault(f"{full}: no file beside it has the law {law}")
