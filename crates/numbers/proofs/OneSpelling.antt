@@ -1,5 +1,5 @@
 -- A value has one spelling: what `groups` accepts is what `spelt` writes, and `groups` accepts that. Assumes nothing.
-use Rattle.basis.specs.Prelude.{ℕ, zero, suc, ◌+◌, ◌-◌, ◌*◌, ◌/◌, ◌%◌, ◌^◌, ◌≤◌, ◌<◌, ◌≡◌, sym, ap, ap₂, ◌∙◌, ◌⊎◌, ⊎_elim, List, [], ◌∷◌, ◌++◌, append_assoc, arith, add-one, pow-succ', zero-lt-suc, one-le-pow, length, get_or, length-append, slice, slice-cons, slice_empty, get_or-append_seam, lt-ltb, le-ltb}
+use Rattle.basis.specs.Prelude.{ℕ, zero, suc, ◌+◌, ◌-◌, ◌*◌, ◌/◌, ◌%◌, ◌^◌, ◌≤◌, ◌<◌, ◌≡◌, sym, ap, ap₂, ◌∙◌, ⊎_elim, List, [], ◌∷◌, ◌++◌, append_assoc, arith, add-one, pow-succ', zero-lt-suc, one-le-pow, length, get_or, length-append, slice, slice-cons, slice_empty, get_or-append_seam, lt-ltb, le-ltb}
 use Rattle.numbers.proofs.Names.{Bytes, Step, ok, after, most_groups, groups, spelt, number, spell, never_ok, lt_or_le}
 use Rattle.numbers.proofs.Inside.Groups.{one_less, over, last, more, by_group}
 

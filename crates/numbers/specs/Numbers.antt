@@ -2,7 +2,7 @@
 use Rattle.basis.specs.Prelude.{ℕ, zero, suc, ◌+◌, ◌-◌, ◌*◌, ◌/◌, ◌%◌, List, [], ◌∷◌, length, ltb, leb, eqb}
 use Rattle.basis.specs.Limits.{most_groups}
 use Rattle.basis.specs.Words.{pick}
-use Rattle.basis.specs.Readers.{Step, ok, refuse, Reader, ◌>>=◌, ◌>>◌, give, refuse_at, here, byte}
+use Rattle.basis.specs.Readers.{Step, ok, refuse, Reader, ◌>>=◌, give, refuse_at, here, byte}
 use Rattle.numbers.specs.declared.number.Number.{Number}
 use Rattle.numbers.specs.declared.number.Number.TheVariants.{Is, Refused}
 

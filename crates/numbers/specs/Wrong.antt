@@ -2,7 +2,7 @@
 use Rattle.basis.specs.Prelude.{ℕ, zero, suc, ◌+◌, ◌-◌, ◌*◌, ◌/◌, ◌%◌, List, [], ◌∷◌, length, set, sets, ltb, leb, eqb}
 use Rattle.basis.specs.Limits.{most_groups}
 use Rattle.basis.specs.Words.{pick}
-use Rattle.basis.specs.Readers.{Step, ok, refuse, Reader, ◌>>=◌, ◌>>◌, give, refuse_at, here, byte}
+use Rattle.basis.specs.Readers.{Step, ok, refuse, Reader, ◌>>=◌, give, refuse_at, here, byte}
 use Rattle.numbers.specs.Numbers.{groups, number, spell, width}
 
 -- The groups weighed in the other order, those before weighing so much.

@@ -1,6 +1,6 @@
 -- An accepted sheet is legal: every range of the table holds of what is handed over, and rows past n are zero. Assumes nothing.
 use Rattle.basis.specs.Prelude.{ℕ, ◌+◌, ◌-◌, ◌<◌, ◌≡◌, refl, ap, ◌∙◌, true, ⊎_elim, List, map, arith, length, get_or, length-map, get_or-append, get_or-eq_default, get_or-replicate, length-replicate, get_or-append-add}
-use Rattle.reader.proofs.Names.{most_processors, most_rows, accepted, refused, Step, ok, refuse, lt_or_le, bounded, Held, entry_row, entries, sheet, no_row, row_at, legal, ZeroPast, LegalRow, Legal, no_rows, padded, no_sheet, sheet_held, reading_of, reading, Row}
+use Rattle.reader.proofs.Names.{most_processors, most_rows, accepted, refused, Step, ok, refuse, lt_or_le, bounded, Held, entry_row, sheet, no_row, row_at, legal, ZeroPast, LegalRow, Legal, no_rows, padded, no_sheet, sheet_held, reading_of, reading, Row}
 use Rattle.reader.proofs.Inside.LabelPlaces.{whole, entries_legal}
 use Rattle.reader.proofs.Inside.Heads.{headed}
 use Rattle.sheet.proofs.Legality.{legal_says}

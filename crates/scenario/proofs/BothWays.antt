@@ -1,5 +1,5 @@
 -- Both ways, over the promises: a list that is written and read is the list again, a file that is read and written is its very bytes, and so each list has one file and each accepted file one list. Assumes nothing.
-use Rattle.basis.specs.Prelude.{ℕ, ◌+◌, ◌*◌, ◌/◌, ◌≤◌, ◌%◌, ◌<◌, ◌≡◌, refl, sym, ap, ◌∙◌, Bool, true, mul-div_cancel, mul-mod_left, List, false, arith, length, get_or, take, ltb, div-add-mod', leb, sets, le-ltb, ltb-false, eq-eqb, leb-true}
+use Rattle.basis.specs.Prelude.{ℕ, ◌*◌, ◌/◌, ◌≤◌, ◌%◌, ◌≡◌, refl, sym, ap, ◌∙◌, Bool, true, mul-div_cancel, mul-mod_left, List, false, arith, length, get_or, take, ltb, div-add-mod', leb, sets, le-ltb, ltb-false, eq-eqb, leb-true}
 use Rattle.scenario.proofs.Names.{put_where_room, written_whole, wrote, first_at, Bytes, Step, ok, refuse, accepted, refused, first_of, pick, Answer, answer, filled_by, nothing_by, written_by, check_list, check_whole, over_at, over_budget, read_scenario, write_scenario, Held, budget_at, scenario, file_of, scenario_bytes, legal_is, legal, Sheet}
 use Rattle.basis.proofs.Inside.FirstRefusal.{all_accepted_lem}
 use Rattle.basis.proofs.Inside.Stores.{sets_front}

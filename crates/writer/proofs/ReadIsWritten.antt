@@ -1,5 +1,5 @@
 -- What is read is what would be written: its very bytes. And it can be written: so a sheet's numbers and labels have one file. Assumes nothing.
-use Rattle.basis.specs.Prelude.{ℕ, zero, suc, ◌+◌, ◌≤◌, ◌<◌, ◌≡◌, sym, ap, ap₂, subst, ◌∙◌, true, List, [], ◌∷◌, ◌++◌, arith, length, take, drop}
+use Rattle.basis.specs.Prelude.{ℕ, zero, suc, ◌+◌, ◌≤◌, ◌≡◌, sym, ap, ap₂, subst, ◌∙◌, true, List, ◌++◌, arith, length, take, drop}
 use Rattle.writer.proofs.Names.{longest_label, most_processors, most_rows, most_separation, Each, Bytes, ok, after_ok, ok_same, enough, enough_ok, marked, marked_ok, bounded, Covers, covers_all, covers_as, covers_mark, covers_none, covers_part, covers_then, covers_up_to, spell, up_to, Entry, Held, Head, mark_bytes, entries, entry, head, label, sheet, entries_by, entry_by, head_by, label_by, is_label, GoodEntry, Good, label_bytes, entries_bytes, entry_bytes, head_bytes, row_bytes, sheet_bytes}
 use Rattle.reader.proofs.Inside.Plain.{plain_ok}
 use Rattle.reader.proofs.Inside.LabelPlaces.{rowed, whole}

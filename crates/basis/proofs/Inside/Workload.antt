@@ -1,5 +1,5 @@
 -- Laws of the workload: it never falls; a slot more, a period more, a job that runs; and within a period the straight line that it is never below. Assumes nothing.
-use Rattle.basis.specs.Prelude.{◌≡◌, ap, subst, ◌⊎◌, ⊎_elim, ℕ, zero, suc, ◌+◌, ◌*◌, ◌-◌, ◌/◌, ◌%◌, ◌≤◌, ◌<◌, min, add-zero, add-suc, add-sub_of_le, mod-lt, div-add-mod', eq-or-lt_of_le, le_of_lt, mul-le-mul_left, arith}
+use Rattle.basis.specs.Prelude.{◌≡◌, ap, subst, ⊎_elim, ℕ, zero, suc, ◌+◌, ◌*◌, ◌-◌, ◌/◌, ◌%◌, ◌≤◌, ◌<◌, min, add-zero, add-suc, add-sub_of_le, mod-lt, div-add-mod', eq-or-lt_of_le, le_of_lt, mul-le-mul_left, arith}
 use lib.Arith.{digits_div, digits_mod}
 use Rattle.basis.specs.Workload.{ω}
 use Rattle.basis.proofs.Inside.Words.{lt_or_le}

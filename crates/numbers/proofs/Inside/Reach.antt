@@ -1,6 +1,6 @@
 -- A number is tame: it takes no more bytes than its limit, its refusals are 2 and 3 and the two of its range, and no other byte counts. Assumes nothing.
 use Rattle.basis.specs.Prelude.{ℕ, zero, suc, ◌+◌, ◌-◌, ◌*◌, ◌≤◌, arith, ltb, eqb, leb}
-use Rattle.numbers.proofs.Names.{most_groups, ◌>>=◌, byte, groups, number, up_to_by, up_to, width}
+use Rattle.numbers.proofs.Names.{most_groups, byte, groups, number, up_to_by, up_to, width}
 use Rattle.basis.proofs.Tame.{Tame, tame_give, tame_more, tame_here, tame_refuse, tame_pick, tame_then, tame_byte}
 use Rattle.numbers.proofs.Inside.Bounds.{spelt_grows, bounded}
 

@@ -1,5 +1,5 @@
 -- What is read into lists of zeros that have room for every row. Assumes nothing.
-use Rattle.basis.specs.Prelude.{ℕ, ◌+◌, ◌*◌, ◌-◌, ◌≤◌, ◌<◌, ◌≡◌, refl, sym, ap, ap₂, ◌∙◌, List, arith, length, set, length-append, length-map, length-replicate, le-leb}
+use Rattle.basis.specs.Prelude.{ℕ, ◌+◌, ◌*◌, ◌≤◌, ◌<◌, ◌≡◌, refl, sym, ap, ap₂, ◌∙◌, List, arith, length, set, length-append, length-map, length-replicate, le-leb}
 use Rattle.reader.proofs.Names.{most_rows, upto, Step, ok, refuse, Outcome, accepted, refused, first_cell, second_cell, pair_zero, upto_set, no_row, no_sheet, number_at, filled, sheet_in, sheet_cell, sheet_long, Sheet, whole_sheet_comes_back, Held, sheet, sheet_held, reading_of, reading, nowhere, rows_read, label_in, no_parts, labels_long, label_cell, into_lists, read_into, part_in, Part}
 use Rattle.sheet.proofs.Inside.Cells.{cell_past, no_sheet_cell}
 use Rattle.sheet.proofs.Inside.FilledLists.{zeros, zeros_long, filled_read, zeros_filled}

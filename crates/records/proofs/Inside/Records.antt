@@ -1,5 +1,5 @@
 -- What each step of a slot does to a row's job, as facts. Assumes nothing.
-use Rattle.basis.specs.Prelude.{ℕ, ◌+◌, ◌-◌, ◌≤◌, ◌<◌, ◌≡◌, refl, sym, ◌∙◌, Bool, true, false, ltb, eqb, ◌⊎◌, ⊎_elim, arith, lt-ltb, le-ltb, eq-eqb, ne_eqb, ltb-false}
+use Rattle.basis.specs.Prelude.{ℕ, ◌+◌, ◌-◌, ◌≤◌, ◌<◌, ◌≡◌, refl, sym, ◌∙◌, Bool, true, false, ltb, eqb, ⊎_elim, arith, lt-ltb, le-ltb, eq-eqb, ne_eqb, ltb-false}
 use Rattle.records.proofs.Names.{pick, both, accepted, refused, Row, Job, RowState, Aged, has_job, released, worked, older, aged, missed, ended, code_at_end, check_row, aged_row}
 use Rattle.basis.proofs.Inside.Words.{lt_or_le}
 

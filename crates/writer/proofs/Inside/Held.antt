@@ -1,5 +1,5 @@
 -- What the writer accepts can be written; and lists that a sheet was read into hold what was read. Assumes nothing.
-use Rattle.basis.specs.Prelude.{ℕ, ◌+◌, ◌≤◌, ◌<◌, ◌≡◌, refl, ap, ◌∙◌, true, List, [], ◌∷◌, ◌++◌, arith, length, get_or, get_or-map}
+use Rattle.basis.specs.Prelude.{ℕ, ◌<◌, ◌≡◌, refl, ap, ◌∙◌, true, List, [], arith, length, get_or, get_or-map}
 use Rattle.writer.proofs.Names.{accepted, ok, Entry, Held, sheet, part_in, row_at, Sheet, sheet_in, entry_of, held_by, part_of, first_rows, legal_is, legal, check_sheet, GoodEntry, Good}
 use Rattle.sheet.specs.Legal.{no_row}
 use Rattle.sheet.proofs.RoundTrip.{processors_come_back, row_comes_back}

@@ -1,5 +1,5 @@
 -- The functions that write: each part is stored after the one before it. Assumes nothing.
-use Rattle.basis.specs.Prelude.{ℕ, ◌+◌, ◌-◌, ◌*◌, ◌^◌, ◌≤◌, ◌<◌, ◌≡◌, refl, sym, ap, ap₂, ◌∙◌, Bool, true, false, leb, leb-true, List, [], ◌∷◌, ◌++◌, arith, add-zero, zero-add, length, length-append, take, drop, sets, w64, Fits}
+use Rattle.basis.specs.Prelude.{ℕ, ◌+◌, ◌-◌, ◌^◌, ◌≤◌, ◌<◌, ◌≡◌, refl, sym, ap, ap₂, ◌∙◌, Bool, true, false, leb, leb-true, List, ◌++◌, arith, add-zero, zero-add, length, length-append, take, drop, sets, w64, Fits}
 use Rattle.writer.proofs.Names.{written_whole, answer, nothing_by, written_by, Outcome, outcome, refused, Refusal, Accepted, Refused, sheet_length, write_sheet, sets_after, first_at, first_of, most_rows, longest_label, accepted, spell, width, Entry, mark_bytes, part_in, Part, row_at, Row, Sheet, part_of, entry_of, held_by, first_rows, label_at, check_sheet, sheet_bytes, label_bytes, row_bytes, entry_bytes, entries_bytes, head_bytes}
 use Rattle.writer.proofs.Inside.Checks.{label_inside, label_long, label_short, checked_few, checked_labels}
 use Rattle.writer.proofs.Inside.Lengths.{row_measured, head_measured, row_bytes_long, head_bytes_long, long_sheet}

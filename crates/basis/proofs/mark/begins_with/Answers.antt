@@ -1,6 +1,5 @@
 -- `begins_with` meets its promise: what is left of both lists after i bytes decides. Assumes nothing.
-use Rattle.basis.specs.Prelude.{rules, ◌-◌, ◌≡◌, refl, length, drop}
-use Rattle.basis.specs.Readers.{begins}
+use Rattle.basis.specs.Prelude.{refl}
 use Rattle.basis.proofs.Marks.{begins_short, begins_differ, begins_more, begins_whole}
 use Rattle.basis.proofs.mark.begins_with.Goals as goal
 

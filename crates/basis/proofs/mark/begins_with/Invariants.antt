@@ -1,7 +1,6 @@
 -- `begins_with` meets its promise: what is left of both lists after i bytes decides. Assumes nothing.
-use Rattle.basis.specs.Prelude.{rules, ◌-◌, ◌≡◌, refl, length, drop}
+use Rattle.basis.specs.Prelude.{◌-◌, ◌≡◌, length, drop}
 use Rattle.basis.specs.Readers.{begins}
-use Rattle.basis.proofs.Marks.{begins_short, begins_differ, begins_more, begins_whole}
 use Rattle.basis.proofs.mark.begins_with.Given as goal
 
 abbrev pub invariant-loop-i : goal.invariant-loop-i

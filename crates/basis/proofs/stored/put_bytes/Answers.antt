@@ -1,5 +1,5 @@
 -- `put_bytes` meets its promise: the bytes so far are stored. Assumes nothing.
-use Rattle.basis.specs.Prelude.{rules, ◌+◌, ◌-◌, ◌<◌, ◌≡◌, sym, length, drop, sets}
+use Rattle.basis.specs.Prelude.{rules, sym}
 use Rattle.basis.proofs.Inside.Stores.{sets_out, put_none, put_more, put_full, put_whole}
 use Rattle.basis.proofs.stored.put_bytes.Goals as goal
 

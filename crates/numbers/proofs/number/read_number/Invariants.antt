@@ -1,7 +1,7 @@
 -- `read_number` meets its promise: the loop has a value of the groups so far, to which the groups that are left are added. Assumes nothing.
-use Rattle.basis.specs.Prelude.{rules, arith, ◌-◌, ◌*◌, ◌^◌, ◌≤◌, ◌<◌, get_or, ◌≡◌}
+use Rattle.basis.specs.Prelude.{◌*◌, ◌^◌, ◌≤◌, ◌<◌, ◌≡◌}
 use Rattle.numbers.proofs.Names.{most_groups, groups, number}
-use Rattle.numbers.proofs.Inside.Groups.{scaled, scaled_none, number_ends, number_over, number_low, number_last, number_more, room_more, digit_room, digit_fits}
+use Rattle.numbers.proofs.Inside.Groups.{scaled}
 use Rattle.numbers.proofs.number.read_number.Given as goal
 
 abbrev pub invariant-loop-left : goal.invariant-loop-left

@@ -1,5 +1,5 @@
 -- `read_up_to` meets its promise: a number, then the tests of its range. Assumes nothing.
-use Rattle.basis.specs.Prelude.{rules, sym, ap, ◌∙◌, eq-eqb, ne_eqb, le-leb, lt-leb}
+use Rattle.basis.specs.Prelude.{sym, ap, ◌∙◌, eq-eqb, ne_eqb, le-leb, lt-leb}
 use Rattle.numbers.specs.Numbers.{step, up_to_by}
 use Rattle.numbers.proofs.number.read_up_to.Goals as goal
 

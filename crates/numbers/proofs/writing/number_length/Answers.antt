@@ -1,6 +1,6 @@
 -- `number_length` meets its promise. The invariant: the groups passed, and those of what is left, are the width. Assumes nothing.
 use Rattle.basis.specs.Prelude.{rules}
-use Rattle.numbers.proofs.Inside.Writing.{Measured, measured_none, measured_last, measured_more, measured_all}
+use Rattle.numbers.proofs.Inside.Writing.{measured_none, measured_last, measured_more, measured_all}
 use Rattle.numbers.proofs.writing.number_length.Goals as goal
 
 pub loop-left-init : goal.loop-left-init

@@ -1,5 +1,5 @@
 -- `put` meets its promise: there is room, or a store there would change nothing. Assumes nothing.
-use Rattle.basis.specs.Prelude.{rules, sym, arith, set_out}
+use Rattle.basis.specs.Prelude.{sym, arith, set_out}
 use Rattle.numbers.proofs.writing.put.Goals as goal
 
 pub returns-then-bytes-at : goal.returns-then-bytes-at

@@ -1,6 +1,6 @@
 -- `write_number` meets its promise. The invariant: what is still to be written, over what is stored, is the whole. Assumes nothing.
-use Rattle.basis.specs.Prelude.{rules, ◌≡◌, length}
-use Rattle.numbers.proofs.Inside.Writing.{Measured, measured_none, measured_last, measured_more, measured_all, Stored, stored_none, stored_last, stored_more, stored_all}
+use Rattle.basis.specs.Prelude.{◌≡◌, length}
+use Rattle.numbers.proofs.Inside.Writing.{Measured, Stored}
 use Rattle.numbers.proofs.writing.write_number.Given as goal
 
 abbrev pub invariant-loop-left : goal.invariant-loop-left

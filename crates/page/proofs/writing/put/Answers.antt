@@ -1,5 +1,4 @@
 -- `put` meets its promise: there is room, or there is none. Assumes nothing.
-use Rattle.basis.specs.Prelude.{rules}
 use Rattle.basis.proofs.Inside.Tests.{tests}
 use Rattle.page.specs.Pages.{put_one, said}
 use Rattle.page.proofs.writing.put.Goals as goal

@@ -1,7 +1,6 @@
 -- `put_all` meets its promise. The invariant: what is said so far is the bytes passed. Assumes nothing.
-use Rattle.basis.specs.Prelude.{rules, ◌+◌, ◌-◌, ◌≤◌, ◌≡◌, refl, length, take}
+use Rattle.basis.specs.Prelude.{◌+◌, ◌-◌, ◌≤◌, ◌≡◌, length, take}
 use Rattle.page.specs.Pages.{said}
-use Rattle.page.proofs.Inside.Pages.{byte_inside, byte_put, all_said}
 use Rattle.page.proofs.writing.put_all.Given as goal
 
 abbrev pub invariant-loop-i : goal.invariant-loop-i

@@ -1,5 +1,4 @@
 -- `put_number` meets its promise. Assumes nothing.
-use Rattle.basis.specs.Prelude.{rules}
 use Rattle.page.proofs.Digits.{digit_said}
 use Rattle.page.proofs.writing.put_number.Goals as goal
 

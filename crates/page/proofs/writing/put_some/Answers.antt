@@ -1,5 +1,5 @@
 -- `put_some` meets its promise. The invariant: what is said so far is the bytes passed. Assumes nothing.
-use Rattle.basis.specs.Prelude.{rules, ◌-◌, ◌≤◌, ◌≡◌, refl, length, take}
+use Rattle.basis.specs.Prelude.{rules, refl}
 use Rattle.page.specs.Pages.{said}
 use Rattle.page.proofs.Inside.Pages.{byte_said, all_said}
 use Rattle.page.proofs.writing.put_some.Goals as goal

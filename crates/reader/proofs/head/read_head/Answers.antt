@@ -1,5 +1,4 @@
 -- `read_head` meets its promise: each way out is a law of `head`. Assumes nothing.
-use Rattle.basis.specs.Prelude.{rules}
 use Rattle.reader.proofs.Inside.Heads.{head_unmarked, head_no_processors, head_no_count, head_whole}
 use Rattle.reader.proofs.head.read_head.Goals as goal
 

@@ -1,6 +1,6 @@
 -- `copy` meets its promise: the first i numbers are copied. Assumes nothing.
-use Rattle.basis.specs.Prelude.{rules, ◌-◌, ◌≤◌, ◌≡◌}
-use Rattle.reader.proofs.Names.{upto, upto_none, upto_set, upto_long, upto_room, upto_whole, number_at}
+use Rattle.basis.specs.Prelude.{rules}
+use Rattle.reader.proofs.Names.{upto_none, upto_set, upto_long, upto_room, upto_whole}
 use Rattle.reader.proofs.into.copy.Goals as goal
 
 pub loop-i-init : goal.loop-i-init

@@ -1,5 +1,4 @@
 -- `hand_over` meets its promise: each way out is a law. Assumes nothing.
-use Rattle.basis.specs.Prelude.{rules}
 use Rattle.reader.proofs.Inside.Handover.{both_handed_over}
 use Rattle.basis.proofs.Inside.Tests.{tests}
 use Rattle.reader.proofs.Names.{handed_over}

@@ -1,5 +1,4 @@
 -- `read_body` meets its promise: the rows, nothing after them, and both lists handed over. Assumes nothing.
-use Rattle.basis.specs.Prelude.{rules}
 use Rattle.reader.proofs.Inside.Handover.{few_rows, own_inside, parts_inside, rows_refused, bytes_over, whole_read}
 use Rattle.reader.proofs.into.read_body.Goals as goal
 

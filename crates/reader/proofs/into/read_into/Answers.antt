@@ -1,5 +1,4 @@
 -- `read_into` meets its promise: what stands before the rows, then the rows. Assumes nothing.
-use Rattle.basis.specs.Prelude.{rules}
 use Rattle.reader.proofs.Inside.Handover.{head_refused, head_told}
 use Rattle.reader.proofs.into.read_into.Goals as goal
 

@@ -1,5 +1,4 @@
 -- `label_part` meets its promise: the part in its own list, and none past the rows. Assumes nothing.
-use Rattle.basis.specs.Prelude.{rules}
 use Rattle.reader.proofs.Inside.ZeroLists.{part_was_read, no_part}
 use Rattle.reader.proofs.labels.label_part.Goals as goal
 

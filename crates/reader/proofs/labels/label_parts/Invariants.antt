@@ -1,7 +1,6 @@
 -- `label_parts` meets its promise: each part of its own list. Assumes nothing.
-use Rattle.basis.specs.Prelude.{rules, ◌-◌, ◌≤◌, ◌<◌, ℕ, ◌≡◌}
-use Rattle.reader.proofs.Names.{most_rows, upto, upto_none, upto_whole, label_in, labels_in, no_parts, part_in}
-use Rattle.reader.proofs.Inside.ZeroLists.{part_was_read, one_part_more}
+use Rattle.basis.specs.Prelude.{◌-◌, ◌≤◌, ◌<◌, ℕ, ◌≡◌}
+use Rattle.reader.proofs.Names.{most_rows, upto, label_in, no_parts, part_in}
 use Rattle.reader.proofs.labels.label_parts.Given as goal
 
 abbrev pub invariant-loop-i : goal.invariant-loop-i

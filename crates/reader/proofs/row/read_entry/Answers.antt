@@ -1,5 +1,4 @@
 -- `read_entry` meets its promise: a label, then the numbers. Assumes nothing.
-use Rattle.basis.specs.Prelude.{rules}
 use Rattle.reader.proofs.Inside.Entries.{entry_no_label, entry_no_numbers, whole_entry, entry_part}
 use Rattle.reader.proofs.row.read_entry.Goals as goal
 

@@ -1,5 +1,4 @@
 -- `read_label` meets its promise: each way out is a law of `label`. Assumes nothing.
-use Rattle.basis.specs.Prelude.{rules}
 use Rattle.reader.proofs.Inside.LabelReader.{label_no_length, label_ends, label_lies_at, label_too_long, label_bad_byte, label_whole}
 use Rattle.reader.proofs.row.read_label.Goals as goal
 

@@ -1,5 +1,4 @@
 -- `read_numbers` meets its promise: each way out is a law. Assumes nothing.
-use Rattle.basis.specs.Prelude.{rules}
 use Rattle.reader.proofs.Inside.Entries.{no_threads, no_separation, no_deadline, no_budget, whole_row}
 use Rattle.reader.proofs.row.read_numbers.Goals as goal
 

@@ -1,6 +1,5 @@
 -- `read_plain` meets its promise: what is left of the label decides. Assumes nothing.
-use Rattle.basis.specs.Prelude.{rules, ◌-◌, ◌≤◌, ◌≡◌, refl}
-use Rattle.reader.proofs.Names.{map_step, plain, nothing}
+use Rattle.basis.specs.Prelude.{rules, refl}
 use Rattle.reader.proofs.Inside.Plain.{plain_low, plain_high, plain_more, plain_all}
 use Rattle.reader.proofs.row.read_plain.Goals as goal
 

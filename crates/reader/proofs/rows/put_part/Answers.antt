@@ -1,5 +1,5 @@
 -- `put_part` meets its promise. Assumes nothing.
-use Rattle.basis.specs.Prelude.{rules, refl, arith, length-set}
+use Rattle.basis.specs.Prelude.{refl, arith, length-set}
 use Rattle.reader.proofs.Names.{put_part}
 use Rattle.reader.proofs.rows.put_part.Goals as goal
 

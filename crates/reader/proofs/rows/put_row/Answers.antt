@@ -1,5 +1,5 @@
 -- `put_row` meets its promise. Assumes nothing.
-use Rattle.basis.specs.Prelude.{rules, refl, arith, length-set}
+use Rattle.basis.specs.Prelude.{refl, arith, length-set}
 use Rattle.reader.proofs.Names.{put_row}
 use Rattle.reader.proofs.rows.put_row.Goals as goal
 

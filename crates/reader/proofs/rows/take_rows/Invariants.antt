@@ -1,7 +1,6 @@
 -- `take_rows` meets its promise. The invariant: the rows passed are accepted, and stand in the lists with their labels. Assumes nothing.
-use Rattle.basis.specs.Prelude.{rules, ◌-◌, ◌≤◌, ◌≡◌, refl, arith, length-set}
-use Rattle.reader.proofs.Names.{ok, upto, map_step, entries_by, entries, nothing, rows_in, parts_in}
-use Rattle.reader.proofs.Inside.RowLoop.{head_put, row_refused, one_passed, row_put, part_put, all_passed, rows_put, parts_put, list_long, parts_long, row_room, part_room}
+use Rattle.basis.specs.Prelude.{◌-◌, ◌≤◌, ◌≡◌}
+use Rattle.reader.proofs.Names.{ok, map_step, entries, nothing, rows_in, parts_in}
 use Rattle.reader.proofs.rows.take_rows.Given as goal
 
 abbrev pub invariant-loop-i : goal.invariant-loop-i

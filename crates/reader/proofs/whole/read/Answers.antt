@@ -1,5 +1,4 @@
 -- `read` meets its promise: the sheet of its own list. Assumes nothing.
-use Rattle.basis.specs.Prelude.{rules}
 use Rattle.reader.proofs.Inside.ZeroLists.{sheet_was_read}
 use Rattle.reader.proofs.whole.read.Goals as goal
 

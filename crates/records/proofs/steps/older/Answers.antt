@@ -1,5 +1,4 @@
 -- `older` meets its promise. Assumes nothing.
-use Rattle.basis.specs.Prelude.{rules}
 use Rattle.records.proofs.Names.{tests, older}
 use Rattle.records.proofs.steps.older.Goals as goal
 

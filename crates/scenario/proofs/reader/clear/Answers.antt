@@ -1,6 +1,5 @@
 -- `clear` meets its promise. The invariant: the entries so far are zero. Assumes nothing.
-use Rattle.basis.specs.Prelude.{rules, ◌-◌, ◌≤◌, ◌≡◌, ◌++◌, length, drop}
-use Rattle.scenario.proofs.Names.{no_releases}
+use Rattle.basis.specs.Prelude.{rules}
 use Rattle.scenario.proofs.Inside.Filling.{clear_none, clear_one, clear_all}
 use Rattle.scenario.proofs.reader.clear.Goals as goal
 

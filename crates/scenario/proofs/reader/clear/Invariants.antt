@@ -1,7 +1,6 @@
 -- `clear` meets its promise. The invariant: the entries so far are zero. Assumes nothing.
-use Rattle.basis.specs.Prelude.{rules, ◌-◌, ◌≤◌, ◌≡◌, ◌++◌, length, drop}
+use Rattle.basis.specs.Prelude.{◌-◌, ◌≤◌, ◌≡◌, ◌++◌, length, drop}
 use Rattle.scenario.proofs.Names.{no_releases}
-use Rattle.scenario.proofs.Inside.Filling.{clear_none, clear_one, clear_all}
 use Rattle.scenario.proofs.reader.clear.Given as goal
 
 abbrev pub invariant-loop-i : goal.invariant-loop-i

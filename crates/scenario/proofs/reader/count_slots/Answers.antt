@@ -1,7 +1,6 @@
 -- `count_slots` meets its promise. The invariant: what is still to be counted, and the count, is the whole. Assumes nothing.
-use Rattle.basis.specs.Prelude.{rules, ◌≡◌, ◌-◌, ◌≤◌, length}
-use Rattle.scenario.proofs.Names.{most_rows, sheet_in}
-use Rattle.scenario.proofs.Inside.Counting.{Counting, none_counted, all_counted_lem, count_no, count_less, count_more}
+use Rattle.basis.specs.Prelude.{rules}
+use Rattle.scenario.proofs.Inside.Counting.{none_counted, all_counted_lem, count_no, count_less, count_more}
 use Rattle.scenario.proofs.reader.count_slots.Goals as goal
 
 pub loop-next-init : goal.loop-next-init

@@ -1,7 +1,7 @@
 -- `count_slots` meets its promise. The invariant: what is still to be counted, and the count, is the whole. Assumes nothing.
-use Rattle.basis.specs.Prelude.{rules, ◌≡◌, ◌-◌, ◌≤◌, length}
+use Rattle.basis.specs.Prelude.{◌≡◌, ◌-◌, ◌≤◌, length}
 use Rattle.scenario.proofs.Names.{most_rows, sheet_in}
-use Rattle.scenario.proofs.Inside.Counting.{Counting, none_counted, all_counted_lem, count_no, count_less, count_more}
+use Rattle.scenario.proofs.Inside.Counting.{Counting}
 use Rattle.scenario.proofs.reader.count_slots.Given as goal
 
 abbrev pub invariant-loop-next : goal.invariant-loop-next

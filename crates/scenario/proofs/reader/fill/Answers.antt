@@ -1,7 +1,6 @@
 -- `fill` meets its promise. The invariant: the slots so far stand there, and zeros for those still to be read. Assumes nothing.
-use Rattle.basis.specs.Prelude.{rules, ◌-◌, ◌≤◌, ◌≡◌, length}
-use Rattle.scenario.proofs.Names.{most_rows, sheet_in}
-use Rattle.scenario.proofs.Inside.Filling.{Filling, none_filled, all_filled, slot_room, lent_room, fill_never, fill_less, fill_more}
+use Rattle.basis.specs.Prelude.{rules}
+use Rattle.scenario.proofs.Inside.Filling.{none_filled, all_filled, slot_room, lent_room, fill_never, fill_less, fill_more}
 use Rattle.scenario.proofs.reader.fill.Goals as goal
 
 pub loop-next-init : goal.loop-next-init

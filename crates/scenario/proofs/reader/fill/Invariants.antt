@@ -1,7 +1,7 @@
 -- `fill` meets its promise. The invariant: the slots so far stand there, and zeros for those still to be read. Assumes nothing.
-use Rattle.basis.specs.Prelude.{rules, ◌-◌, ◌≤◌, ◌≡◌, length}
+use Rattle.basis.specs.Prelude.{◌-◌, ◌≤◌, ◌≡◌, length}
 use Rattle.scenario.proofs.Names.{most_rows, sheet_in}
-use Rattle.scenario.proofs.Inside.Filling.{Filling, none_filled, all_filled, slot_room, lent_room, fill_never, fill_less, fill_more}
+use Rattle.scenario.proofs.Inside.Filling.{Filling}
 use Rattle.scenario.proofs.reader.fill.Given as goal
 
 abbrev pub invariant-loop-next : goal.invariant-loop-next

@@ -1,5 +1,4 @@
 -- `budget_in` meets its promise: the fourth number of the row. Assumes nothing.
-use Rattle.basis.specs.Prelude.{rules}
 use Rattle.scenario.proofs.Inside.Slotwise.{budget_handed}
 use Rattle.scenario.proofs.slot.budget_in.Goals as goal
 

@@ -1,7 +1,6 @@
 -- `read_releases` meets its promise. The invariant: what is still to be read, into the entries so far, is the whole. Assumes nothing.
-use Rattle.basis.specs.Prelude.{rules, ◌≡◌, ◌≤◌, length}
-use Rattle.scenario.proofs.Names.{most_rows, sheet_in}
-use Rattle.scenario.proofs.Inside.Slotwise.{Reading, begun, all_read, row_few, row_there, row_scaled, row_next, no_row, no_amount_lem, one_more}
+use Rattle.basis.specs.Prelude.{rules}
+use Rattle.scenario.proofs.Inside.Slotwise.{begun, all_read, row_few, row_there, row_scaled, row_next, no_row, no_amount_lem, one_more}
 use Rattle.scenario.proofs.slot.read_releases.Goals as goal
 
 pub loop-left-init : goal.loop-left-init

@@ -1,5 +1,4 @@
 -- `read_row` meets its promise. Assumes nothing.
-use Rattle.basis.specs.Prelude.{rules}
 use Rattle.scenario.proofs.Inside.Slotwise.{row_none, row_past, row_again, row_read}
 use Rattle.scenario.proofs.slot.read_row.Goals as goal
 

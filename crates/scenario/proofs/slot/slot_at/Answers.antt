@@ -1,5 +1,4 @@
 -- `slot_at` meets its promise. Assumes nothing.
-use Rattle.basis.specs.Prelude.{rules}
 use Rattle.scenario.proofs.Inside.Slotwise.{slot_none, slot_some}
 use Rattle.scenario.proofs.slot.slot_at.Goals as goal
 

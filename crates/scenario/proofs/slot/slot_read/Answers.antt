@@ -1,5 +1,4 @@
 -- `slot_read` meets its promise. Assumes nothing.
-use Rattle.basis.specs.Prelude.{rules}
 use Rattle.scenario.proofs.Inside.Slotwise.{handed_no, handed_ok}
 use Rattle.scenario.proofs.slot.slot_read.Goals as goal
 

@@ -1,6 +1,6 @@
 -- `check_entries` meets its promise: none of the entries so far is over. Assumes nothing.
-use Rattle.basis.specs.Prelude.{rules, ◌-◌, ◌%◌, ◌≤◌, ◌<◌, ◌≡◌, refl, length}
-use Rattle.scenario.proofs.Names.{most_rows, sheet_in, accepted, first_of, over_at}
+use Rattle.basis.specs.Prelude.{rules, refl}
+use Rattle.scenario.proofs.Names.{first_of}
 use Rattle.scenario.proofs.Inside.Checks.{entry_over, entry_fine, entries_fine, row_none, row_of_next}
 use Rattle.scenario.proofs.writer.check_entries.Goals as goal
 

@@ -1,5 +1,4 @@
 -- `check_whole` meets its promise. Assumes nothing.
-use Rattle.basis.specs.Prelude.{rules}
 use Rattle.scenario.proofs.Inside.Checks.{list_uneven, list_even}
 use Rattle.scenario.proofs.writer.check_whole.Goals as goal
 

@@ -1,6 +1,6 @@
 -- `count_releases` meets its promise: the entries so far are counted. Assumes nothing.
-use Rattle.basis.specs.Prelude.{rules, ◌-◌, ◌≤◌, ◌≡◌, refl, length, take}
-use Rattle.scenario.proofs.Names.{most_rows, releases_in}
+use Rattle.basis.specs.Prelude.{rules, refl}
+use Rattle.scenario.proofs.Names.{releases_in}
 use Rattle.scenario.proofs.Inside.Lengths.{count_one, count_whole}
 use Rattle.scenario.proofs.writer.count_releases.Goals as goal
 

@@ -1,7 +1,6 @@
 -- `count_releases` meets its promise: the entries so far are counted. Assumes nothing.
-use Rattle.basis.specs.Prelude.{rules, ◌-◌, ◌≤◌, ◌≡◌, refl, length, take}
+use Rattle.basis.specs.Prelude.{◌-◌, ◌≤◌, ◌≡◌, length, take}
 use Rattle.scenario.proofs.Names.{most_rows, releases_in}
-use Rattle.scenario.proofs.Inside.Lengths.{count_one, count_whole}
 use Rattle.scenario.proofs.writer.count_releases.Given as goal
 
 abbrev pub invariant-loop-i : goal.invariant-loop-i

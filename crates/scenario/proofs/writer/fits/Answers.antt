@@ -1,6 +1,5 @@
 -- `fits` meets its promise: the room that is left, and the slots so far, are the whole room. Assumes nothing.
-use Rattle.basis.specs.Prelude.{rules, ◌+◌, ◌-◌, ◌*◌, ◌≤◌, ◌≡◌, length}
-use Rattle.scenario.proofs.Names.{most_rows, scenario_bytes}
+use Rattle.basis.specs.Prelude.{rules}
 use Rattle.scenario.proofs.Inside.Files.{slot_inside, fits_not, fits_more, fits_mark, fits_none, fits_all}
 use Rattle.scenario.proofs.writer.fits.Goals as goal
 

@@ -1,6 +1,6 @@
 -- `releases_length` meets its promise: the entries so far are measured. Assumes nothing.
-use Rattle.basis.specs.Prelude.{rules, ◌-◌, ◌*◌, ◌≤◌, ◌≡◌, refl, length, take}
-use Rattle.scenario.proofs.Names.{most_rows, releases_bytes}
+use Rattle.basis.specs.Prelude.{rules, refl}
+use Rattle.scenario.proofs.Names.{releases_bytes}
 use Rattle.scenario.proofs.Inside.Lengths.{long_one, long_whole}
 use Rattle.scenario.proofs.writer.releases_length.Goals as goal
 

@@ -1,7 +1,6 @@
 -- `releases_length` meets its promise: the entries so far are measured. Assumes nothing.
-use Rattle.basis.specs.Prelude.{rules, ◌-◌, ◌*◌, ◌≤◌, ◌≡◌, refl, length, take}
+use Rattle.basis.specs.Prelude.{◌-◌, ◌*◌, ◌≤◌, ◌≡◌, length, take}
 use Rattle.scenario.proofs.Names.{most_rows, releases_bytes}
-use Rattle.scenario.proofs.Inside.Lengths.{long_one, long_whole}
 use Rattle.scenario.proofs.writer.releases_length.Given as goal
 
 abbrev pub invariant-loop-i : goal.invariant-loop-i

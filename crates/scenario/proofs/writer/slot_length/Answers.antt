@@ -1,5 +1,4 @@
 -- `slot_length` meets its promise. Assumes nothing.
-use Rattle.basis.specs.Prelude.{rules}
 use Rattle.scenario.proofs.Inside.Lengths.{slot_long}
 use Rattle.scenario.proofs.writer.slot_length.Goals as goal
 

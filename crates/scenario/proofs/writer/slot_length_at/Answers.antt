@@ -1,5 +1,4 @@
 -- `slot_length_at` meets its promise. Assumes nothing.
-use Rattle.basis.specs.Prelude.{rules}
 use Rattle.scenario.proofs.Inside.Files.{part_few, part_length}
 use Rattle.scenario.proofs.writer.slot_length_at.Goals as goal
 

@@ -1,6 +1,5 @@
 -- `write_releases` meets its promise: the entries so far are stored. Assumes nothing.
-use Rattle.basis.specs.Prelude.{rules, ◌+◌, ◌-◌, ◌≤◌, ◌≡◌, length, take, sets}
-use Rattle.scenario.proofs.Names.{most_rows, releases_bytes}
+use Rattle.basis.specs.Prelude.{rules}
 use Rattle.scenario.proofs.Inside.Stores.{next_none, stored_none, next_room, next_more, next_all, stored_more, stored_all}
 use Rattle.scenario.proofs.writer.write_releases.Goals as goal
 

@@ -1,7 +1,6 @@
 -- `write_releases` meets its promise: the entries so far are stored. Assumes nothing.
-use Rattle.basis.specs.Prelude.{rules, ◌+◌, ◌-◌, ◌≤◌, ◌≡◌, length, take, sets}
+use Rattle.basis.specs.Prelude.{◌+◌, ◌-◌, ◌≤◌, ◌≡◌, length, take, sets}
 use Rattle.scenario.proofs.Names.{most_rows, releases_bytes}
-use Rattle.scenario.proofs.Inside.Stores.{next_none, stored_none, next_room, next_more, next_all, stored_more, stored_all}
 use Rattle.scenario.proofs.writer.write_releases.Given as goal
 
 abbrev pub invariant-loop-i : goal.invariant-loop-i

@@ -1,5 +1,4 @@
 -- `write_scenario` meets its promise. Assumes nothing.
-use Rattle.basis.specs.Prelude.{rules}
 use Rattle.scenario.proofs.Inside.Files.{write_refused, count_some, count_few, list_whole, write_rest}
 use Rattle.scenario.proofs.writer.write_scenario.Goals as goal
 

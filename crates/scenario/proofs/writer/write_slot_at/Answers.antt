@@ -1,5 +1,4 @@
 -- `write_slot_at` meets its promise. Assumes nothing.
-use Rattle.basis.specs.Prelude.{rules}
 use Rattle.scenario.proofs.Inside.Files.{part_few, part_room, part_next, part_stored}
 use Rattle.scenario.proofs.writer.write_slot_at.Goals as goal
 

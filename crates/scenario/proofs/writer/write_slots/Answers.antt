@@ -1,6 +1,5 @@
 -- `write_slots` meets its promise: the slots so far are stored. Assumes nothing.
-use Rattle.basis.specs.Prelude.{rules, ◌-◌, ◌*◌, ◌≤◌, ◌≡◌, length, sets}
-use Rattle.scenario.proofs.Names.{most_rows, slots_bytes, scenario_bytes}
+use Rattle.basis.specs.Prelude.{rules}
 use Rattle.scenario.proofs.Inside.Files.{slot_inside, next_slot_room, next_slot, wrote_slot, written_none, wrote_none, wrote_length, wrote_all}
 use Rattle.scenario.proofs.writer.write_slots.Goals as goal
 

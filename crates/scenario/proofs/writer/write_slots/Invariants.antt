@@ -1,7 +1,6 @@
 -- `write_slots` meets its promise: the slots so far are stored. Assumes nothing.
-use Rattle.basis.specs.Prelude.{rules, ◌-◌, ◌*◌, ◌≤◌, ◌≡◌, length, sets}
+use Rattle.basis.specs.Prelude.{◌-◌, ◌*◌, ◌≤◌, ◌≡◌, length, sets}
 use Rattle.scenario.proofs.Names.{most_rows, slots_bytes, scenario_bytes}
-use Rattle.scenario.proofs.Inside.Files.{slot_inside, next_slot_room, next_slot, wrote_slot, written_none, wrote_none, wrote_length, wrote_all}
 use Rattle.scenario.proofs.writer.write_slots.Given as goal
 
 abbrev pub invariant-loop-j : goal.invariant-loop-j

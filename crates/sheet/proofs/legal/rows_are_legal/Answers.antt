@@ -1,6 +1,6 @@
 -- `rows_are_legal` says whether all rows are: the loop has found the first i so. Assumes nothing.
-use Rattle.basis.specs.Prelude.{rules, ◌≤◌, ◌-◌, ◌≡◌, refl, true, length}
-use Rattle.sheet.proofs.Names.{most_rows, all_of, sheet_in, sheet_long, legal_rows}
+use Rattle.basis.specs.Prelude.{rules, refl}
+use Rattle.sheet.proofs.Names.{all_of}
 use Rattle.sheet.proofs.Ranges.{rows_legal_more, rows_legal_fails, rows_legal_done}
 use Rattle.sheet.proofs.legal.rows_are_legal.Goals as goal
 

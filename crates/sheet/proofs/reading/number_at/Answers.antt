@@ -1,5 +1,4 @@
 -- `number_at` meets its promise. Assumes nothing.
-use Rattle.basis.specs.Prelude.{rules}
 use Rattle.sheet.proofs.Inside.ListRows.{number_past}
 use Rattle.sheet.proofs.reading.number_at.Goals as goal
 

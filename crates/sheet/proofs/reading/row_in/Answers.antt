@@ -1,5 +1,4 @@
 -- `row_in` meets its promise. Assumes nothing.
-use Rattle.basis.specs.Prelude.{rules}
 use Rattle.sheet.proofs.Inside.ListRows.{row_read}
 use Rattle.sheet.proofs.reading.row_in.Goals as goal
 

@@ -1,6 +1,6 @@
 -- `sheet_in` meets its promise: the rows so far are those of the list. Assumes nothing.
-use Rattle.basis.specs.Prelude.{rules, ◌≤◌, ◌-◌, ◌≡◌, refl}
-use Rattle.sheet.proofs.Names.{most_rows, upto, no_rows, row_in}
+use Rattle.basis.specs.Prelude.{rules, refl}
+use Rattle.sheet.proofs.Names.{upto}
 use Rattle.sheet.proofs.Inside.ListRows.{rows_more, sheet_read}
 use Rattle.sheet.proofs.reading.sheet_in.Goals as goal
 

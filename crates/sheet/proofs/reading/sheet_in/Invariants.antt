@@ -1,7 +1,6 @@
 -- `sheet_in` meets its promise: the rows so far are those of the list. Assumes nothing.
-use Rattle.basis.specs.Prelude.{rules, ◌≤◌, ◌-◌, ◌≡◌, refl}
+use Rattle.basis.specs.Prelude.{◌≤◌, ◌-◌, ◌≡◌}
 use Rattle.sheet.proofs.Names.{most_rows, upto, no_rows, row_in}
-use Rattle.sheet.proofs.Inside.ListRows.{rows_more, sheet_read}
 use Rattle.sheet.proofs.reading.sheet_in.Given as goal
 
 abbrev pub invariant-loop-i : goal.invariant-loop-i

@@ -1,5 +1,4 @@
 -- `cell_by` meets its promise. Assumes nothing.
-use Rattle.basis.specs.Prelude.{rules}
 use Rattle.sheet.proofs.Names.{tests, cell_by}
 use Rattle.sheet.proofs.writing.cell_by.Goals as goal
 

@@ -1,6 +1,5 @@
 -- `clear_from` meets its promise: from the place on, those so far are zero. Assumes nothing.
-use Rattle.basis.specs.Prelude.{rules, ◌≤◌, ◌-◌, ◌≡◌, length}
-use Rattle.sheet.proofs.Names.{upto, cleared_cell}
+use Rattle.basis.specs.Prelude.{rules}
 use Rattle.sheet.proofs.Inside.ClearedLists.{clear_none, clear_more, clear_done}
 use Rattle.sheet.proofs.writing.clear_from.Goals as goal
 

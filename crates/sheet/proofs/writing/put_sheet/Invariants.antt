@@ -1,8 +1,6 @@
 -- `put_sheet` meets its promise: the places so far are filled. Assumes nothing.
-use Rattle.basis.specs.Prelude.{rules, ◌≤◌, ◌-◌, ◌≡◌, length}
-use Rattle.sheet.proofs.Names.{upto, upto_none, upto_set, sheet_cell}
-use Rattle.sheet.proofs.Inside.FilledLists.{fill_done}
-use Rattle.sheet.proofs.Inside.Cells.{unmapped, row_there, cell_found}
+use Rattle.basis.specs.Prelude.{◌≤◌, ◌-◌, ◌≡◌, length}
+use Rattle.sheet.proofs.Names.{upto, sheet_cell}
 use Rattle.sheet.proofs.writing.put_sheet.Given as goal
 
 abbrev pub invariant-loop-i : goal.invariant-loop-i

@@ -1,5 +1,4 @@
 -- `fixed_sheet` meets its promise: each way out is a sheet of the list. Assumes nothing.
-use Rattle.basis.specs.Prelude.{rules}
 use Rattle.tables.proofs.Inside.SheetNumbers.{by_number, past_six}
 use Rattle.tables.proofs.fixed.fixed_sheet.Goals as goal
 

@@ -1,7 +1,6 @@
 -- `check_labels` meets its promise: none of the rows so far is refused. Assumes nothing.
-use Rattle.basis.specs.Prelude.{rules, ◌-◌, ◌≤◌, ◌≡◌, refl}
+use Rattle.basis.specs.Prelude.{◌-◌, ◌≤◌, ◌≡◌}
 use Rattle.writer.proofs.Names.{most_rows, accepted, first_of, label_at}
-use Rattle.writer.proofs.Inside.Checks.{labels_more, labels_refused, labels_fine}
 use Rattle.writer.proofs.checking.check_labels.Given as goal
 
 abbrev pub invariant-loop-i : goal.invariant-loop-i

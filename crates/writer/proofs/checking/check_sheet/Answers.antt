@@ -1,5 +1,4 @@
 -- `check_sheet` meets its promise. Assumes nothing.
-use Rattle.basis.specs.Prelude.{rules}
 use Rattle.writer.proofs.Inside.Checks.{few_rows, sheet_illegal, sheet_legal}
 use Rattle.writer.proofs.checking.check_sheet.Goals as goal
 

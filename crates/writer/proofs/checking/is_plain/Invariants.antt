@@ -1,7 +1,6 @@
 -- `is_plain` meets its promise: the bytes so far are such. Assumes nothing.
-use Rattle.basis.specs.Prelude.{rules, ◌-◌, ◌≤◌, ◌≡◌, refl, true, length}
+use Rattle.basis.specs.Prelude.{◌-◌, ◌≤◌, ◌≡◌, true, length}
 use Rattle.writer.proofs.Names.{all_of, plain_at}
-use Rattle.writer.proofs.Inside.Checks.{plain_low, plain_high, plain_more, plain_whole}
 use Rattle.writer.proofs.checking.is_plain.Given as goal
 
 abbrev pub invariant-loop-i : goal.invariant-loop-i

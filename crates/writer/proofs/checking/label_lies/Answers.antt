@@ -1,5 +1,4 @@
 -- `label_lies` meets its promise. Assumes nothing.
-use Rattle.basis.specs.Prelude.{rules}
 use Rattle.writer.proofs.Inside.Checks.{lies_none, lies_long, lies_short_bytes, lies_past, lies_by_bytes}
 use Rattle.writer.proofs.checking.label_lies.Goals as goal
 

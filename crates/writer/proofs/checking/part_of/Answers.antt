@@ -1,5 +1,4 @@
 -- `part_of` meets its promise. Assumes nothing.
-use Rattle.basis.specs.Prelude.{rules}
 use Rattle.writer.proofs.Inside.Checks.{part_read}
 use Rattle.writer.proofs.checking.part_of.Goals as goal
 

@@ -1,6 +1,5 @@
 -- `fits` meets its promise: the room that is left, and the rows so far, are the whole room. Assumes nothing.
-use Rattle.basis.specs.Prelude.{rules, ◌+◌, ◌-◌, ◌≤◌, ◌≡◌}
-use Rattle.writer.proofs.Names.{most_rows, sum, sheet_in, head_long, long_at}
+use Rattle.basis.specs.Prelude.{rules}
 use Rattle.writer.proofs.Inside.Lengths.{fits_longest, head_is, fits_no_head, fits_none, fits_no_label, fits_no_row, fits_more, fits_all}
 use Rattle.writer.proofs.measuring.fits.Goals as goal
 

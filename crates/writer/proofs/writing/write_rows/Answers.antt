@@ -1,6 +1,5 @@
 -- `write_rows` meets its promise: the rows so far are stored. Assumes nothing.
-use Rattle.basis.specs.Prelude.{rules, ◌+◌, ◌-◌, ◌*◌, ◌≤◌, ◌≡◌, length, sets}
-use Rattle.writer.proofs.Names.{most_rows, most_head, most_entry, accepted, first_of, sheet_in, entry_of, first_rows, label_at, entries_bytes}
+use Rattle.basis.specs.Prelude.{rules}
 use Rattle.writer.proofs.Inside.Stored.{rows_none, rows_not_stored, row_is_fine, rows_next, rows_stored, rows_all, rows_stored_all}
 use Rattle.writer.proofs.writing.write_rows.Goals as goal
 

@@ -1,5 +1,4 @@
 -- `write_sheet` meets its promise. Assumes nothing.
-use Rattle.basis.specs.Prelude.{rules}
 use Rattle.writer.proofs.Inside.Stored.{sheet_refused, sheet_fine}
 use Rattle.writer.proofs.writing.write_sheet.Goals as goal
 

@@ -1,5 +1,4 @@
 -- `aged` meets its promise. Assumes nothing.
-use Rattle.basis.specs.Prelude.{rules}
 use Rattle.records.proofs.Inside.Records.{age_at, age_else}
 use Rattle.records.proofs.record.Job.aged.Goals as goal
 

@@ -1,5 +1,4 @@
 -- `placed` meets its promise. Assumes nothing.
-use Rattle.basis.specs.Prelude.{rules}
 use Rattle.records.proofs.Names.{tests, fits, free_below, worked, placed_row}
 use Rattle.records.proofs.record.Job.placed.Goals as goal
 
