@@ -58,8 +58,8 @@ unfoldable pub same_sections : ℕ → List ℕ
 same_sections zero = []
 same_sections (suc n) = same_sections n ++ same_section n
 
-unfoldable pub sheet_aEach_time : List ℕ
-sheet_aEach_time = same_sections fixed_count
+unfoldable pub sheet_a_each_time : List ℕ
+sheet_a_each_time = same_sections fixed_count
 
 -- The reference ends before sheet E.
 unfoldable pub sheet_left_out : List ℕ
@@ -81,11 +81,11 @@ unfoldable pub text_too_small : List ℕ
 text_too_small = replicate 1024 0
 
 -- Sheet C with labels roll and trim, whose second row has no bound, and the same with a blank for its last byte.
-abbrev pub sheet_cBytes : List ℕ
-sheet_cBytes = roll_and_trim ++ (0x03 ∷ [])
+abbrev pub sheet_c_bytes : List ℕ
+sheet_c_bytes = roll_and_trim ++ (0x03 ∷ [])
 
-abbrev pub blank_cBytes : List ℕ
-blank_cBytes = roll_and_trim ++ (0x00 ∷ [])
+abbrev pub blank_c_bytes : List ℕ
+blank_c_bytes = roll_and_trim ++ (0x00 ∷ [])
 
 -- A buffer of forty bytes, in which the text of sheet C is whole, and one of four hundred, in which the reference is.
 abbrev pub forty : List ℕ

@@ -2,7 +2,7 @@
 use Rattle.basis.specs.Prelude.{ℕ, refl, List, get_or}
 use Rattle.exports.proofs.Names.{all_of, first_of, upto, pair_cell, NoneMeets, values_apart, groups, up_to_by, legal, legal_at, legal_row, filled, row_in, sheet_in, row_cell, list_cell, fixed_sheet, legal_job, is_zero_job, released, fits, free_below, worked, older, aged, missed, ended, code_of, check_row, fresh_state, legal_state, free_at, check_releases, check_state, check_room, check_slot, check_run, fresh, given, next_state, next_codes, slot, slot_at, onward, course, run, fields_in, step_told, number_on, up_to_on, fixed_in, box_of, box_on}
 use Rattle.machine.specs.States as states
-use Rattle.exports.specs.WrongFurther.{NumberTold, swapped, not_told, zeros_written, eight_and_seven, sheet_aAlways, list_cut_off, BoxTold, all_counted, state_kept, two_groups, zero_last, sevens, two_places, list_c, too_soon, four_places}
+use Rattle.exports.specs.WrongFurther.{NumberTold, swapped, not_told, zeros_written, eight_and_seven, sheet_a_always, list_cut_off, BoxTold, all_counted, state_kept, two_groups, zero_last, sevens, two_places, list_c, too_soon, four_places}
 
 -- value and place swapped: 80 01 would be 2
 pub swapped_is_shut_out : NoneMeets (swapped (number_on two_groups 0 sevens)) (number_on two_groups 0 sevens)
@@ -25,8 +25,8 @@ unfolding eight_and_seven up_to_on step_told up_to_by groups
 eight_and_seven_is_shut_out = values_apart _ _ (λ (r : NumberTold). r.0.0) refl
 
 -- sheet A for every number: sheet C is on two processors
-pub sheet_a_always_is_shut_out : NoneMeets (sheet_aAlways 2 list_c) (fixed_in 2 list_c)
-unfolding sheet_aAlways fixed_in fields_in fixed_sheet filled upto list_cell row_cell
+pub sheet_a_always_is_shut_out : NoneMeets (sheet_a_always 2 list_c) (fixed_in 2 list_c)
+unfolding sheet_a_always fixed_in fields_in fixed_sheet filled upto list_cell row_cell
 sheet_a_always_is_shut_out = values_apart _ _ (λ (r : (ℕ × ℕ) × List ℕ). get_or r.1 0 0) refl
 
 -- a sheet cut off: sheet C has no room in two places

@@ -26,8 +26,8 @@ unfoldable pub eight_and_seven : List ℕ → ℕ → ℕ → ℕ × ℕ → Num
 eight_and_seven s at most found = step_told (up_to most 8 7 s at) found
 
 -- Sheet A for every number.
-unfoldable pub sheet_aAlways : ℕ → List ℕ → (ℕ × ℕ) × List ℕ
-sheet_aAlways k list = fixed_in 0 list
+unfoldable pub sheet_a_always : ℕ → List ℕ → (ℕ × ℕ) × List ℕ
+sheet_a_always k list = fixed_in 0 list
 
 -- A worked sheet is written as far as there is room.
 unfoldable pub list_cut_off : ℕ → List ℕ → (ℕ × ℕ) × List ℕ

@@ -4,12 +4,12 @@ use Rattle.basis.specs.Faults.{NoneMeets}
 use Rattle.basis.proofs.Faults.{values_apart}
 use Rattle.sheet.specs.declared.row.Sheet.{Sheet}
 use Rattle.tables.specs.Tables.{fixed_sheet}
-use Rattle.tables.specs.Wrong.{short_e, sheet_aPast}
+use Rattle.tables.specs.Wrong.{short_e, sheet_a_past}
 
 pub short_e_is_shut_out : NoneMeets (short_e 4) (fixed_sheet 4)
 unfolding short_e fixed_sheet
 short_e_is_shut_out = values_apart (short_e 4) (fixed_sheet 4) (λ (h : Sheet). h.count) refl
 
-pub sheet_a_past_is_shut_out : NoneMeets (sheet_aPast 6) (fixed_sheet 6)
-unfolding sheet_aPast fixed_sheet
-sheet_a_past_is_shut_out = values_apart (sheet_aPast 6) (fixed_sheet 6) (λ (h : Sheet). h.count) refl
+pub sheet_a_past_is_shut_out : NoneMeets (sheet_a_past 6) (fixed_sheet 6)
+unfolding sheet_a_past fixed_sheet
+sheet_a_past_is_shut_out = values_apart (sheet_a_past 6) (fixed_sheet 6) (λ (h : Sheet). h.count) refl

@@ -9,5 +9,5 @@ unfoldable pub short_e : ℕ → Sheet
 short_e n = get_or (sheet_a ∷ sheet_b ∷ sheet_c ∷ sheet_d ∷ sheet_of 4 (row 4 6 6 2 ∷ []) ∷ sheet_f ∷ []) n no_sheet
 
 -- Sheet A for any number past the six.
-unfoldable pub sheet_aPast : ℕ → Sheet
-sheet_aPast n = get_or fixed_sheets n sheet_a
+unfoldable pub sheet_a_past : ℕ → Sheet
+sheet_a_past n = get_or fixed_sheets n sheet_a
