@@ -7,7 +7,7 @@ ghost use Rattle.play.specs.Windows.{InBuffer};
 use crate::turn::{End, Turn, ends, first_turn, next_turn};
 use crate::window::place_in;
 use basis::MOST_ROWS;
-use libc::STDOUT_FILENO;
+use std::io::Read;
 
 // What going through the file comes to: why it ended, at which place, and after how many slots.
 #[derive(Clone, Copy)]
@@ -29,14 +29,20 @@ fn passed(turn: Turn, slots: u64) -> Pass {
 }
 
 // Reads the whole file.
-pub(crate) fn read_through(fd: i32, name: &[u8], sheet: &[u64], buffer: &mut [u8]) -> Pass
+pub(crate) fn read_through(
+    file: &mut impl Read,
+    err: &impl Print,
+    name: &[u8],
+    sheet: &[u64],
+    buffer: &mut [u8],
+) -> Pass
     requires { slot_reach ≤ length buffer.old }
 {
-    let mut turn = first_turn(fd, name, sheet, buffer);
+    let mut turn = first_turn(file, err, name, sheet, buffer);
     let mut slots: u64 = 0;
     while slots < u64::MAX && turn.more {
         let window = turn.window;
-        turn = next_turn(fd, name, sheet, buffer, window);
+        turn = next_turn(file, err, name, sheet, buffer, window);
         slots += 1;
     }
     passed(turn, slots)
@@ -44,6 +50,7 @@ pub(crate) fn read_through(fd: i32, name: &[u8], sheet: &[u64], buffer: &mut [u8
 
 // Plays a slot and prints its line; whether it was accepted.
 fn play_line(
+    out: &impl Print,
     sheet: &[u64],
     rows: usize,
     state: &mut [u64],
@@ -56,13 +63,15 @@ fn play_line(
     let played = watch::play_slot(sheet, state, &entries[..rows], slot, &mut text);
     let long = played.long;
     let refusal = played.refusal;
-    io::write_all(STDOUT_FILENO, &text[..long]);
+    let _ = out.write_all(&text[..long]);
     refusal.is_accepted()
 }
 
 // Plays the slot of a turn, and reads on where it was accepted.
 fn play_turn(
-    fd: i32,
+    file: &mut impl Read,
+    out: &impl Print,
+    err: &impl Print,
     name: &[u8],
     sheet: &[u64],
     rows: usize,
@@ -76,15 +85,17 @@ fn play_turn(
 {
     let window = turn.window;
     let entries = turn.entries;
-    if play_line(sheet, rows, state, entries, slot) {
-        return next_turn(fd, name, sheet, buffer, window);
+    if play_line(out, sheet, rows, state, entries, slot) {
+        return next_turn(file, err, name, sheet, buffer, window);
     }
     ends(End::Stopped, window)
 }
 
 // Plays the whole file, to the first slot that the box refuses.
 pub(crate) fn play_through(
-    fd: i32,
+    file: &mut impl Read,
+    out: &impl Print,
+    err: &impl Print,
     name: &[u8],
     sheet: &[u64],
     rows: usize,
@@ -93,10 +104,10 @@ pub(crate) fn play_through(
 ) -> Pass
     requires { (rows ≤ most_rows) × (slot_reach ≤ length buffer.old) }
 {
-    let mut turn = first_turn(fd, name, sheet, buffer);
+    let mut turn = first_turn(file, err, name, sheet, buffer);
     let mut slots: u64 = 0;
     while slots < u64::MAX && turn.more {
-        turn = play_turn(fd, name, sheet, rows, state, buffer, turn, slots);
+        turn = play_turn(file, out, err, name, sheet, rows, state, buffer, turn, slots);
         slots += 1;
     }
     passed(turn, slots)

@@ -6,6 +6,7 @@ ghost use Rattle.play.specs.Windows.{InBuffer};
 use crate::window::{Window, ahead, fill, place_in, unread};
 use basis::{MOST_ROWS, Refusal};
 use scenario::MARK;
+use std::io::Read;
 
 // The bytes of the mark.
 const MARK_LONG: usize = 4;
@@ -47,7 +48,8 @@ pub(crate) fn ends(end: End, window: Window) -> Turn
 
 // The next slot.
 pub(crate) fn next_turn(
-    fd: i32,
+    file: &mut impl Read,
+    err: &impl Print,
     name: &[u8],
     sheet: &[u64],
     buffer: &mut [u8],
@@ -56,7 +58,7 @@ pub(crate) fn next_turn(
     requires { InBuffer window buffer.old × (slot_reach ≤ length buffer.old) }
     ensures { InBuffer result.window buffer.new }
 {
-    let w = ahead(fd, name, buffer, window);
+    let w = ahead(file, err, name, buffer, window);
     if w.failed {
         return ends(End::Failed, w);
     }
@@ -86,11 +88,17 @@ pub(crate) fn next_turn(
 }
 
 // The first slot, after the mark.
-pub(crate) fn first_turn(fd: i32, name: &[u8], sheet: &[u64], buffer: &mut [u8]) -> Turn
+pub(crate) fn first_turn(
+    file: &mut impl Read,
+    err: &impl Print,
+    name: &[u8],
+    sheet: &[u64],
+    buffer: &mut [u8],
+) -> Turn
     requires { slot_reach ≤ length buffer.old }
     ensures { InBuffer result.window buffer.new }
 {
-    let w = fill(fd, name, buffer, unread());
+    let w = fill(file, err, name, buffer, unread());
     if w.failed {
         return ends(End::Failed, w);
     }
@@ -106,7 +114,7 @@ pub(crate) fn first_turn(fd: i32, name: &[u8], sheet: &[u64], buffer: &mut [u8])
             ended: w.ended,
             failed: false,
         };
-        return next_turn(fd, name, sheet, buffer, marked);
+        return next_turn(file, err, name, sheet, buffer, marked);
     }
     ends(End::Refused(1, 0), w)
 }

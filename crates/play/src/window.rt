@@ -3,7 +3,9 @@ ghost use Rattle.std.specs.Prelude.{◌≡◌, ◌≤◌, length};
 ghost use Rattle.scenario.specs.Longest.{slot_reach};
 ghost use Rattle.play.specs.Windows.{InBuffer, Filled, Ahead, unread_window};
 
+use crate::errors::fail;
 use scenario::SLOT_REACH;
+use std::io::Read;
 
 // The part of a file that stands in the buffer.
 #[derive(Clone, Copy)]
@@ -39,7 +41,13 @@ pub(crate) fn place_in(window: Window, at: usize) -> u64 {
 }
 
 // Reads until the buffer is full or the file ends; a read that fails is said, with the file's name.
-pub(crate) fn fill(fd: i32, name: &[u8], buffer: &mut [u8], window: Window) -> Window
+pub(crate) fn fill(
+    file: &mut impl Read,
+    err: &impl Print,
+    name: &[u8],
+    buffer: &mut [u8],
+    window: Window,
+) -> Window
     requires { InBuffer window buffer.old }
     ensures { InBuffer result buffer.new × Filled window result buffer.new }
 {
@@ -47,18 +55,19 @@ pub(crate) fn fill(fd: i32, name: &[u8], buffer: &mut [u8], window: Window) -> W
     let start = window.start;
     let mut end = window.end;
     while end < buffer.len() {
-        let got = libc::read(fd, &mut buffer[end..]);
-        if got < 0 {
-            os::fail(name);
-            return Window {
-                offset,
-                start,
-                end,
-                ended: true,
-                failed: true,
-            };
-        }
-        let more = io::count(got, &buffer[end..]);
+        let more = match file.read(&mut buffer[end..]) {
+            Ok(more) => more,
+            Err(error) => {
+                fail(err, name, error);
+                return Window {
+                    offset,
+                    start,
+                    end,
+                    ended: true,
+                    failed: true,
+                };
+            }
+        };
         if more == 0 {
             return Window {
                 offset,
@@ -101,7 +110,13 @@ fn keep_rest(buffer: &mut [u8], window: Window) -> Window
 }
 
 // Sees to it that the bytes that the reading of a slot looks at are in the buffer, as far as the file has them.
-pub(crate) fn ahead(fd: i32, name: &[u8], buffer: &mut [u8], window: Window) -> Window
+pub(crate) fn ahead(
+    file: &mut impl Read,
+    err: &impl Print,
+    name: &[u8],
+    buffer: &mut [u8],
+    window: Window,
+) -> Window
     requires { InBuffer window buffer.old × (slot_reach ≤ length buffer.old) }
     ensures { InBuffer result buffer.new × Ahead result }
 {
@@ -112,5 +127,5 @@ pub(crate) fn ahead(fd: i32, name: &[u8], buffer: &mut [u8], window: Window) -> 
         return window;
     }
     let kept = keep_rest(buffer, window);
-    fill(fd, name, buffer, kept)
+    fill(file, err, name, buffer, kept)
 }

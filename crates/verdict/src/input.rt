@@ -1,7 +1,7 @@
 // Reading standard input.
 ghost use Rattle.verdict.specs.Input.{InBuffer};
 
-use libc::STDIN_FILENO;
+use std::io::Read;
 
 // What came of it.
 #[derive(Clone, Copy)]
@@ -12,20 +12,16 @@ pub enum Input {
 }
 
 // Reads until the buffer is full or the input ends; a read that fails is the answer, whatever came before it.
-pub(crate) fn read_input(buffer: &mut [u8]) -> Input
+pub(crate) fn read_input<R: Read>(reader: &mut R, buffer: &mut [u8]) -> Input
     ensures { InBuffer result buffer.new }
 {
     let mut done: usize = 0;
     while done < buffer.len() {
-        let got = libc::read(STDIN_FILENO, &mut buffer[done..]);
-        if got < 0 {
-            return Input::Failed;
+        match reader.read(&mut buffer[done..]) {
+            Err(_) => return Input::Failed,
+            Ok(0) => return Input::Read(done),
+            Ok(more) => done += more,
         }
-        let more = io::count(got, &buffer[done..]);
-        if more == 0 {
-            return Input::Read(done);
-        }
-        done = done + more;
     }
     Input::Read(done)
 }

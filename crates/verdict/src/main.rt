@@ -4,20 +4,19 @@
 mod input;
 
 use crate::input::{Input, read_input};
-use libc::{STDERR_FILENO, STDOUT_FILENO};
 
-// Reads, and prints.
-fn main() {
+// Reads, and prints. A write that fails is not told of.
+fn main(rt: HostRuntime) {
     let mut sheet = dashboard::input_buffer();
-    let input = read_input(&mut sheet);
+    let input = read_input(&mut rt.stdin(), &mut sheet);
     match input {
         Input::Failed => {
-            io::write_all(STDERR_FILENO, b"cannot read standard input\n");
+            let _ = rt.eprintln("cannot read standard input");
         }
         Input::Read(count) => {
             let mut text = dashboard::text_buffer();
             let long = dashboard::write_verdict(&sheet[..count], &mut text);
-            io::write_all(STDOUT_FILENO, &text[..long]);
+            let _ = rt.write_all(&text[..long]);
         }
     }
 }
