@@ -107,7 +107,9 @@ pub(crate) fn play_through(
     let mut turn = first_turn(file, err, name, sheet, buffer);
     let mut slots: u64 = 0;
     while slots < u64::MAX && turn.more {
-        turn = play_turn(file, out, err, name, sheet, rows, state, buffer, turn, slots);
+        turn = play_turn(
+            file, out, err, name, sheet, rows, state, buffer, turn, slots,
+        );
         slots += 1;
     }
     passed(turn, slots)

@@ -37,12 +37,9 @@ module _ (w : Window) (offset start end : ℕ) (failed : Bool) (buffer : List �
   pub full_filled : length buffer ≤ end → Filled w (record { offset = offset; start = start; end = end; ended = false; failed = failed }) buffer
   full_filled h = record { same = e; full = λ z. h }
 
--- a window that reaches ahead: the file ends with it, it holds enough, or a full buffer was read from its front
+-- a window that reaches ahead: the file ends with it, or a full buffer was read from its front
 pub ended_ahead : (w : Window) → w.ended ≡ true → Ahead w
 ended_ahead w e = record { enough = λ z. true_not_false (sym e ∙ z) }
-
-pub enough_ahead : (w : Window) → w.start ≤ w.end → slot_reach ≤ w.end - w.start → Ahead w
-enough_ahead w h k = record { enough = λ z. omega arith }
 
 pub filled_ahead : (w r : Window) (buffer : List ℕ) → Filled w r buffer → w.start ≡ 0 → slot_reach ≤ length buffer → Ahead r
 filled_ahead w r buffer f e h = record { enough = λ z. omega (arith, f.same, f.full z) }

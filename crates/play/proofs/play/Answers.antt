@@ -4,4 +4,4 @@ use Rattle.play.proofs.Inside.Parts.{front}
 use Rattle.play.proofs.play.Goals as goal
 
 pub slice_bounds-play_file-end : goal.slice_bounds-play_file-end
-slice_bounds-play_file-end c = front _ _ (search rules)
+slice_bounds-play_file-end g c = front _ _ (search rules)

@@ -1,5 +1,4 @@
 -- `main` meets its contract: the part that it prints is in the buffer. Assumes nothing.
-use Rattle.basis.specs.Prelude.{rules}
 use Rattle.dashboard.proofs.Buffers.{written_in_room, written_part}
 use Rattle.reference.proofs.main.Goals as goal
 

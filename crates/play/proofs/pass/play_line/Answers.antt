@@ -5,10 +5,10 @@ use Rattle.play.proofs.Inside.Parts.{front}
 use Rattle.play.proofs.pass.play_line.Goals as goal
 
 pub slice_bounds-play_slot-end : goal.slice_bounds-play_slot-end
-slice_bounds-play_slot-end c = front _ _ (search rules)
+slice_bounds-play_slot-end g c = front _ _ (search rules)
 
 pub slice_bounds-text-end : goal.slice_bounds-text-end
-slice_bounds-text-end c = search played_in_room
+slice_bounds-text-end g c = search played_in_room
 
 pub slice_bounds-write_all-end : goal.slice_bounds-write_all-end
-slice_bounds-write_all-end c = search played_part
+slice_bounds-write_all-end g c = search played_part

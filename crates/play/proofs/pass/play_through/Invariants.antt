@@ -1,12 +1,12 @@
 -- `play_through` meets its contract. The invariant: the window is in the buffer. Assumes nothing.
-use Rattle.basis.specs.Prelude.{◌-◌, ◌≤◌, ◌≡◌, rules, length}
+use Rattle.basis.specs.Prelude.{◌-◌, ◌≤◌, ◌≡◌, length}
 use Rattle.basis.specs.Limits.{most_rows}
 use Rattle.play.specs.Windows.{InBuffer}
 use Rattle.play.proofs.pass.play_through.Given as goal
 
 abbrev pub invariant-loop-slots : goal.invariant-loop-slots
-invariant-loop-slots l =
+invariant-loop-slots g l =
     (l.rows ≤ most_rows) × InBuffer l.turn.window l.buffer × (length l.buffer ≡ length l.initial.buffer) × (length l.state ≡ length l.initial.state)
 
 abbrev pub decreases-loop-slots : goal.decreases-loop-slots
-decreases-loop-slots l = 0xFFFFFFFFFFFFFFFF - l.slots
+decreases-loop-slots g l = 0xFFFFFFFFFFFFFFFF - l.slots

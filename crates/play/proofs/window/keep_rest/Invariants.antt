@@ -1,5 +1,5 @@
 -- `keep_rest` meets its promise. The invariant: the buffer is as long as it was. Assumes nothing.
-use Rattle.basis.specs.Prelude.{◌+◌, ◌≤◌, ◌-◌, ◌≡◌, rules, length}
+use Rattle.basis.specs.Prelude.{◌+◌, ◌≤◌, ◌-◌, ◌≡◌, length}
 use Rattle.play.proofs.window.keep_rest.Given as goal
 
 abbrev pub invariant-loop-i : goal.invariant-loop-i
