@@ -5,7 +5,7 @@ mod input;
 
 use crate::input::{Input, read_input};
 
-// Reads, and prints. A write that fails is not told of.
+// Reads, and prints; a write that fails is passed over.
 fn main(rt: HostRuntime) {
     let mut sheet = dashboard::input_buffer();
     let input = read_input(&mut rt.stdin(), &mut sheet);
