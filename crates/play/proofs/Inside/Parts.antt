@@ -1,5 +1,5 @@
 -- The parts of lists and buffers that the program hands on. Assumes nothing.
-use Rattle.basis.specs.Prelude.{ℕ, ◌-◌, ◌≤◌, ◌≡◌, sym, ap, ◌∙◌, Bool, true, false, List, arith, length, take, length-take-le}
+use Rattle.basis.specs.Prelude.{ℕ, ◌≤◌, ◌≡◌, sym, ap, ◌∙◌, Bool, true, false, List, arith, length, take, length-take-le}
 use Rattle.basis.specs.Limits.{most_rows}
 use Rattle.basis.specs.Refusals.{outcome}
 use Rattle.basis.specs.declared.refusal.Refusal.{Refusal}
