@@ -1,6 +1,6 @@
 -- What the definitions mean, for any test that looks at no lower row: the smallest length that passes, no length passes, and every row after the first none. Assumes nothing.
 use Rattle.basis.specs.Prelude.{ℕ, zero, suc, ◌+◌, ◌*◌, ◌≤◌, ◌<◌, ◌≡◌, refl, sym, ap, ◌∙◌, Bool, true, false, mul-le-mul, arith, ltb, lt-ltb}
-use Rattle.bound.proofs.Names.{sum, all_of, true_not_false, all_fails, row_at, Legal, Sheet, slots, Test, q, X, amounts, room, passes, Word, bound, none, unreached, is_bound, value_of, passes_at, bound_by, bounds, bounded, judge, results_to, result_of, holds, Duration}
+use Rattle.bound.proofs.Names.{sum, all_of, true_not_false, all_fails, row_at, Legal, Sheet, slots, Test, q, X, amounts, room, passes, Word, bound, none, unreached, is_bound, value_of, passes_at, bound_by, bounds, bounded, judge, results_to, result_of, Duration}
 use Rattle.bound.proofs.Inside.Lengths.{never, Smallest, least_hit, least_found, smallest_is_least, none_holds, none_is_least, least_never_unreached}
 use Rattle.bound.proofs.Amounts.{q_some, X_some, room_by_q}
 use Rattle.bound.proofs.Inside.Judging.{Local, result_where}

@@ -1,6 +1,6 @@
 -- Rows that are added from the top: none, one more, and what their sum tells of the test. Assumes nothing.
 use Rattle.basis.specs.Prelude.{ℕ, ◌+◌, ◌≤◌, ◌<◌, min, ◌≡◌, sym, ◌∙◌, Bool, true, leb, leb-true, le-ltb, ltb, arith}
-use Rattle.bound.proofs.Names.{most_separation, row_at, Row, Sheet, slots, on, q, X, duration_of, amounts, room, passes, Ready, Length, Adds, Fills, stay_of, joined, Duration, Amount, Pace, Added}
+use Rattle.bound.proofs.Names.{most_separation, row_at, Row, Sheet, slots, on, q, X, duration_of, room, passes, Ready, Length, Adds, Fills, stay_of, joined, Duration, Amount, Pace, Added}
 use Rattle.bound.proofs.Durations.{number_of_lem}
 use Rattle.bound.proofs.Amounts.{room_by_q, first_rows_fail, more_rows_add, sum_none, sum_more}
 use Rattle.bound.proofs.Paces.{paces_none, paces_more}

@@ -1,5 +1,5 @@
 -- What is read into a list comes back when the list is read: the sheet, and where its labels lie. Assumes nothing.
-use Rattle.basis.specs.Prelude.{ℕ, ◌+◌, ◌*◌, ◌≤◌, ◌<◌, ◌≡◌, refl, ap₂, ◌∙◌, Bool, true, false, List, length, leb, arith}
+use Rattle.basis.specs.Prelude.{ℕ, ◌+◌, ◌*◌, ◌<◌, ◌≡◌, refl, ap₂, ◌∙◌, Bool, true, false, List, length, leb, arith}
 use Rattle.exports.proofs.Names.{Outcome, accepted, refused, or_else, needed, room_for, room_holds, reading, label_in, accepted_is_legal, rows_long, sheet_in, sheet_long, told, fields_in, read_in, labels_by, labels_on}
 use Rattle.basis.proofs.Inside.Pairs.{first_cell, second_cell}
 use Rattle.reader.specs.Lists.{labels_long, label_cell, part_in}

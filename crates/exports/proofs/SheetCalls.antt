@@ -1,5 +1,5 @@
 -- A sheet that is written and read, or read and written, by the library's calls; and a refused writing changes nothing that is lent. Assumes nothing.
-use Rattle.basis.specs.Prelude.{ℕ, ◌≤◌, ◌≡◌, refl, ap, ◌∙◌, List, arith, length, take, sets, le-leb}
+use Rattle.basis.specs.Prelude.{ℕ, ◌≤◌, ◌≡◌, refl, ap, List, arith, length, take, sets, le-leb}
 use Rattle.basis.specs.Lent.{Answer}
 use Rattle.basis.specs.Readers.{Bytes}
 use Rattle.exports.proofs.Names.{accepted, reading, sheet_in, sheet_long, lent_told, fields_in, read_in, labels_by, labels_on, sheet_written, write_sheet}

@@ -1,5 +1,5 @@
 -- The accepted slots of any calls are a chain: of one slot, of a run, and of calls one after another. Assumes nothing.
-use Rattle.basis.specs.Prelude.{ℕ, zero, suc, ◌+◌, ◌*◌, ◌-◌, ◌/◌, ◌≤◌, ◌<◌, ◌≡◌, refl, List, [], ◌∷◌, ◌++◌, arith, add-one, length, take, drop, length-drop, take-append-drop, get_or-take}
+use Rattle.basis.specs.Prelude.{ℕ, zero, suc, ◌+◌, ◌*◌, ◌/◌, ◌≤◌, ◌<◌, ◌≡◌, refl, List, [], ◌∷◌, ◌++◌, arith, add-one, length, take, drop, length-drop, take-append-drop, get_or-take}
 use Rattle.green.proofs.Names.{Outcome, accepted, refused, upto_below, Sheet, State, code, check_slot, check_run, SlotAnswer, RunAnswer, slot_answer, run_answer, given, next_state, next_codes, slot_by, slot, entries_of, slot_at, onward, course, run, legal_state_is, Call, one_slot, a_run, slot_done, run_done, slots_of, state_after, history, state_after_all}
 use Rattle.machine.proofs.Inside.Answers.{Accepted_slot, slot_shows}
 use Rattle.machine.proofs.Inside.Courses.{followed}

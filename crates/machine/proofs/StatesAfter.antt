@@ -1,6 +1,6 @@
 -- The state that a list hands over after each call on it: the fresh state, and the state after a slot and after a run by value. Assumes nothing.
 use Rattle.basis.specs.Prelude.{ℕ, ◌/◌, ◌≤◌, ◌≡◌, refl, sym, ap, ◌∙◌, Bool, true, false, List, length, replicate, leb, eqb, arith, le-leb, eq-eqb, leb-true, eqb-true}
-use Rattle.machine.proofs.Names.{most_rows, pick, Outcome, accepted, refused, outcome, needed, both_accepted, get_d_all, true_not_false, needed_holds, legal, Sheet, legal_is, number_at, length_filled, State, record_at, fresh_at, fresh_state, legal_state, Done, check_slot, check_run, RunAnswer, fresh_answer, run_answer, fresh, next_state, next_codes, slot_by, slot, run, state_long, state_in, put_state, cleared, fresh_on, slot_listed, slot_in, run_in, ran_in}
+use Rattle.machine.proofs.Names.{most_rows, pick, Outcome, accepted, refused, needed, both_accepted, get_d_all, true_not_false, needed_holds, legal, Sheet, legal_is, number_at, length_filled, State, record_at, fresh_at, fresh_state, legal_state, Done, check_slot, check_run, RunAnswer, fresh_answer, run_answer, fresh, next_state, next_codes, slot_by, slot, run, state_long, state_in, put_state, cleared, fresh_on, slot_listed, slot_in, run_in, ran_in}
 use Rattle.machine.proofs.Inside.Answers.{slot_shows, run_in_order_shows}
 use Rattle.machine.proofs.SlotsDone.{run_not_begun}
 use Rattle.machine.proofs.LegalRuns.{run_keeps_legal, run_keeps_long}

@@ -1,5 +1,4 @@
 -- `begin` meets its promise. Assumes nothing.
-use Rattle.basis.specs.Prelude.{rules}
 use Rattle.machine.proofs.Inside.Answers.{run_rows}
 use Rattle.aboard.proofs.Inside.BoxLoop.{begin_refused, begin_accepted}
 use Rattle.aboard.proofs.lent.begin.Goals as goal

@@ -1,5 +1,5 @@
 -- `box_run` meets its promise: its loop does the slots of the run's course, each on its own entries and on the buffer from its place on. Assumes nothing.
-use Rattle.basis.specs.Prelude.{ℕ, ◌*◌, ◌^◌, ◌<◌, ◌∙◌, sym, length, rules, arith, refl}
+use Rattle.basis.specs.Prelude.{◌^◌, ◌<◌, ◌∙◌, sym, length, rules, arith}
 use borrow.Rule.Slice.PartMut.{same_len_mid}
 use Rattle.aboard.proofs.Inside.BoxLoop.{begins, box_begins, slot_in_list, slot_in_buffer, slot_at_is, box_goes_on, box_stops, box_ends}
 use Rattle.aboard.proofs.lent.box_run.Goals as goal

@@ -1,5 +1,4 @@
 -- `entries` meets its promise. Assumes nothing.
-use Rattle.basis.specs.Prelude.{rules}
 use Rattle.aboard.proofs.Inside.BoxLoop.{part_of}
 use Rattle.aboard.proofs.lent.entries.Goals as goal
 

@@ -1,5 +1,4 @@
 -- `judge_bytes` meets its promise: the bytes are read, and the front of the list is judged. Assumes nothing.
-use Rattle.basis.specs.Prelude.{rules}
 use Rattle.bound.proofs.FromBytes.{less_room, not_read, rows_fit, end_fits, end_inside, front_long, front_count, front_legal, results_fit, read_and_judged}
 use Rattle.bound.proofs.bytes.judge_bytes.Goals as goal
 

@@ -1,6 +1,6 @@
 -- `judge_rows` judges every row: the loop has the results of the first i rows, and whether each is a bound. Assumes nothing.
-use Rattle.basis.specs.Prelude.{rules, ◌≤◌, ◌-◌, ◌≡◌}
-use Rattle.bound.proofs.Names.{Legal, sheet_in, legal_is, Lent, SoFar}
+use Rattle.basis.specs.Prelude.{rules}
+use Rattle.bound.proofs.Names.{legal_is}
 use Rattle.bound.proofs.Inside.Rows.{lists_are_lent, so_far_none, so_far_long, rows_above, so_far_more, still_lent, holds_told, results_put}
 use Rattle.bound.proofs.judge.judge_rows.Goals as goal
 

@@ -1,5 +1,4 @@
 -- `put_result` puts the two numbers of a result. Assumes nothing.
-use Rattle.basis.specs.Prelude.{rules}
 use Rattle.bound.proofs.Lists.{second_place_there, result_put}
 use Rattle.bound.proofs.judge.put_result.Goals as goal
 

@@ -1,5 +1,4 @@
 -- `joined` is a pace with a row more. Assumes nothing.
-use Rattle.basis.specs.Prelude.{rules}
 use Rattle.bound.proofs.Paces.{join_fits, join_more}
 use Rattle.bound.proofs.pace.joined.Goals as goal
 

@@ -1,5 +1,4 @@
 -- `steep` stays within the pace and the amount. Assumes nothing.
-use Rattle.basis.specs.Prelude.{rules}
 use Rattle.bound.proofs.Steps.{steep_whole, steep_part}
 use Rattle.bound.proofs.pace.steep.Goals as goal
 

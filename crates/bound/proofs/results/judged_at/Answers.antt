@@ -1,5 +1,4 @@
 -- `judged_at` is a result of a list, by its word and its bound. Assumes nothing.
-use Rattle.basis.specs.Prelude.{rules}
 use Rattle.basis.proofs.Inside.Tests.{tests}
 use Rattle.bound.specs.Lists.{word_at}
 use Rattle.bound.proofs.results.judged_at.Goals as goal

@@ -1,6 +1,6 @@
 -- `results_of` has the result of every row: the loop has those of the first i. Assumes nothing.
-use Rattle.basis.specs.Prelude.{rules, ◌≤◌, ◌-◌, ◌≡◌, refl, map}
-use Rattle.bound.proofs.Names.{most_rows, upto, word_in, all_unreached, word_at}
+use Rattle.basis.specs.Prelude.{rules, refl}
+use Rattle.bound.proofs.Names.{upto}
 use Rattle.bound.proofs.Inside.Rows.{rows_more, rows_done}
 use Rattle.bound.proofs.results.results_of.Goals as goal
 

@@ -1,7 +1,6 @@
 -- `results_of` has the result of every row: the loop has those of the first i. Assumes nothing.
-use Rattle.basis.specs.Prelude.{rules, ◌≤◌, ◌-◌, ◌≡◌, refl, map}
+use Rattle.basis.specs.Prelude.{◌≤◌, ◌-◌, ◌≡◌, map}
 use Rattle.bound.proofs.Names.{most_rows, upto, word_in, all_unreached, word_at}
-use Rattle.bound.proofs.Inside.Rows.{rows_more, rows_done}
 use Rattle.bound.proofs.results.results_of.Given as goal
 
 abbrev pub invariant-loop-i : goal.invariant-loop-i

@@ -1,5 +1,4 @@
 -- `row_inside` is the row of the sheet. Assumes nothing.
-use Rattle.basis.specs.Prelude.{rules}
 use Rattle.sheet.proofs.Inside.ListRows.{numbers_handed}
 use Rattle.bound.proofs.row.row_inside.Goals as goal
 

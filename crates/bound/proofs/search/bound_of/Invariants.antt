@@ -1,7 +1,6 @@
 -- `bound_of` is the smallest length that passes: the smallest from this length on is the smallest of all. Assumes nothing.
-use Rattle.basis.specs.Prelude.{rules, ◌≤◌, ◌-◌, ◌+◌, le_of_lt, ◌≡◌}
+use Rattle.basis.specs.Prelude.{◌≤◌, ◌-◌, ◌+◌, ◌≡◌}
 use Rattle.bound.proofs.Names.{row_at, sheet_in, passes, least, passes_at, bound_by, held_in}
-use Rattle.bound.proofs.Inside.Lengths.{search_starts, length_of_row, search_less, told_next, search_found, search_more, search_ends}
 use Rattle.bound.proofs.search.bound_of.Given as goal
 
 abbrev pub invariant-loop-at : goal.invariant-loop-at

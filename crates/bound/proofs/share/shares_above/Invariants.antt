@@ -1,8 +1,6 @@
 -- `shares_above` has what the rows above reach by their shares: the loop has that of the first i rows. Assumes nothing.
-use Rattle.basis.specs.Prelude.{rules, ◌≤◌, ◌-◌}
+use Rattle.basis.specs.Prelude.{◌≤◌, ◌-◌}
 use Rattle.bound.proofs.Names.{sheet_in, held_in, Shares}
-use Rattle.bound.proofs.Amounts.{row_above, window_small, q_of_small}
-use Rattle.bound.proofs.Shares.{shares_none, shares_fit, shares_more, shares_done}
 use Rattle.bound.proofs.share.shares_above.Given as goal
 
 abbrev pub invariant-loop-i : goal.invariant-loop-i

@@ -1,5 +1,4 @@
 -- `carried` is the length that a bound above gives. Assumes nothing.
-use Rattle.basis.specs.Prelude.{rules}
 use Rattle.bound.proofs.Carry.{carried_is}
 use Rattle.bound.proofs.start.carried.Goals as goal
 

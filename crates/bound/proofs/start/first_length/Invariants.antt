@@ -1,7 +1,6 @@
 -- `first_length` is a length before which none passes: the latest that the rows above give. Assumes nothing.
-use Rattle.basis.specs.Prelude.{rules, ◌≤◌, ◌-◌}
+use Rattle.basis.specs.Prelude.{◌≤◌, ◌-◌}
 use Rattle.bound.proofs.Names.{sheet_in, held_in, Starts}
-use Rattle.bound.proofs.Carry.{start_at_budget, above_budget, threads_small, carried_starts, start_later}
 use Rattle.bound.proofs.start.first_length.Given as goal
 
 abbrev pub invariant-loop-j : goal.invariant-loop-j

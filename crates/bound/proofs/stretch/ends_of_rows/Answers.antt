@@ -1,6 +1,5 @@
 -- `ends_of_rows` has ends whose line the sum is never below: the loop has those of the first i rows. Assumes nothing.
-use Rattle.basis.specs.Prelude.{rules, ◌≤◌, ◌-◌}
-use Rattle.bound.proofs.Names.{sheet_in, held_in, RowsMeet}
+use Rattle.basis.specs.Prelude.{rules}
 use Rattle.bound.proofs.Stretches.{meet_none, meet_done}
 use Rattle.bound.proofs.stretch.ends_of_rows.Goals as goal
 

@@ -1,7 +1,6 @@
 -- `ends_of_rows` has ends whose line the sum is never below: the loop has those of the first i rows. Assumes nothing.
-use Rattle.basis.specs.Prelude.{rules, ◌≤◌, ◌-◌}
+use Rattle.basis.specs.Prelude.{◌≤◌, ◌-◌}
 use Rattle.bound.proofs.Names.{sheet_in, held_in, RowsMeet}
-use Rattle.bound.proofs.Stretches.{meet_none, meet_done}
 use Rattle.bound.proofs.stretch.ends_of_rows.Given as goal
 
 abbrev pub invariant-loop-i : goal.invariant-loop-i

@@ -1,5 +1,4 @@
 -- `exact_ends` has ends whose line the row's amount is never below. Assumes nothing.
-use Rattle.basis.specs.Prelude.{rules}
 use Rattle.bound.proofs.Durations.{amount_most}
 use Rattle.bound.proofs.RowLines.{exact_meets}
 use Rattle.bound.proofs.stretch.exact_ends.Goals as goal

@@ -1,5 +1,4 @@
 -- `share_ends` has ends whose line the row's amount is never below. Assumes nothing.
-use Rattle.basis.specs.Prelude.{rules}
 use Rattle.bound.proofs.RowLines.{share_meets}
 use Rattle.bound.proofs.stretch.share_ends.Goals as goal
 

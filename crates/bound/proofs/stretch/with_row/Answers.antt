@@ -1,5 +1,4 @@
 -- `with_row` has ends whose line the sum with one row more is never below. Assumes nothing.
-use Rattle.basis.specs.Prelude.{rules}
 use Rattle.bound.proofs.Stretches.{row_along, meet_more}
 use Rattle.bound.proofs.stretch.with_row.Goals as goal
 

@@ -1,6 +1,5 @@
 -- `sum_above` adds rows until their sum reaches q × X, and its yes or no is the test's. Assumes nothing.
-use Rattle.basis.specs.Prelude.{rules, ◌-◌}
-use Rattle.bound.proofs.Names.{sheet_in, held_in, Adds}
+use Rattle.basis.specs.Prelude.{rules}
 use Rattle.bound.proofs.Sums.{adds_none, reached_tells, all_tell}
 use Rattle.bound.proofs.sum.sum_above.Goals as goal
 

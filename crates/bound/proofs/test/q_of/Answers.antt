@@ -1,5 +1,4 @@
 -- `q_of` is q. Assumes nothing.
-use Rattle.basis.specs.Prelude.{rules}
 use Rattle.bound.proofs.Amounts.{threads_fit, q_is}
 use Rattle.bound.proofs.test.q_of.Goals as goal
 

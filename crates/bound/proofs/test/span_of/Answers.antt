@@ -1,5 +1,4 @@
 -- `span_of` is x. Assumes nothing.
-use Rattle.basis.specs.Prelude.{rules}
 use Rattle.bound.proofs.Durations.{span_is}
 use Rattle.bound.proofs.test.span_of.Goals as goal
 

@@ -1,5 +1,4 @@
 -- `work_of` is W: whole periods fit into x, and jobs into periods. Assumes nothing.
-use Rattle.basis.specs.Prelude.{rules}
 use Rattle.bound.proofs.Durations.{jobs_fit, work_fits, work_is}
 use Rattle.bound.proofs.test.work_of.Goals as goal
 

@@ -1,5 +1,4 @@
 -- `put_board` meets its promise: the lines, then the last one. Assumes nothing.
-use Rattle.basis.specs.Prelude.{rules}
 use Rattle.page.proofs.Inside.Pages.{two_said}
 use Rattle.dashboard.proofs.board.put_board.Goals as goal
 

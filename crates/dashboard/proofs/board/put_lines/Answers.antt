@@ -1,6 +1,6 @@
 -- `put_lines` meets its promise. The invariant: what is said so far is the lines of the rows passed. Assumes nothing.
-use Rattle.basis.specs.Prelude.{rules, ◌-◌, ◌≤◌, ◌≡◌, refl, length}
-use Rattle.dashboard.proofs.Names.{word_at, line_label, lines, said}
+use Rattle.basis.specs.Prelude.{rules, refl}
+use Rattle.dashboard.proofs.Names.{lines, said}
 use Rattle.dashboard.proofs.Inside.Boards.{one_line, all_lines, label_lies_lem}
 use Rattle.dashboard.proofs.board.put_lines.Goals as goal
 

@@ -1,5 +1,4 @@
 -- `put_ending` meets its promise. Assumes nothing.
-use Rattle.basis.specs.Prelude.{rules}
 use Rattle.dashboard.proofs.Inside.Boards.{ending_said}
 use Rattle.dashboard.proofs.line.put_ending.Goals as goal
 

@@ -1,5 +1,4 @@
 -- `put_head` meets its promise. Assumes nothing.
-use Rattle.basis.specs.Prelude.{rules}
 use Rattle.dashboard.proofs.Names.{line_start, four_said}
 use Rattle.dashboard.proofs.line.put_head.Goals as goal
 

@@ -1,5 +1,4 @@
 -- `put_label` meets its promise: the sheet's own label, or the bytes and the row number. Assumes nothing.
-use Rattle.basis.specs.Prelude.{rules}
 use Rattle.dashboard.proofs.Inside.Boards.{own_said, numbered_said}
 use Rattle.dashboard.proofs.line.put_label.Goals as goal
 

@@ -1,5 +1,4 @@
 -- `put_line` meets its promise. Assumes nothing.
-use Rattle.basis.specs.Prelude.{rules}
 use Rattle.dashboard.proofs.Names.{line, three_said}
 use Rattle.dashboard.proofs.line.put_line.Goals as goal
 

@@ -1,5 +1,4 @@
 -- `put_no_verdict` meets its promise. Assumes nothing.
-use Rattle.basis.specs.Prelude.{rules}
 use Rattle.dashboard.proofs.Names.{no_verdict, four_said}
 use Rattle.dashboard.proofs.line.put_no_verdict.Goals as goal
 

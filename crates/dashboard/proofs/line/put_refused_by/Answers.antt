@@ -1,5 +1,4 @@
 -- `put_refused_by` meets its promise. Assumes nothing.
-use Rattle.basis.specs.Prelude.{rules}
 use Rattle.dashboard.proofs.Names.{refused_by, two_said}
 use Rattle.dashboard.proofs.line.put_refused_by.Goals as goal
 

@@ -1,5 +1,4 @@
 -- `put_result` meets its promise: each word. Assumes nothing.
-use Rattle.basis.specs.Prelude.{rules}
 use Rattle.dashboard.proofs.Inside.Boards.{unreached_said, bound_said, none_said}
 use Rattle.dashboard.proofs.line.put_result.Goals as goal
 

@@ -1,5 +1,4 @@
 -- `put_fixed` meets its promise: the sheet in a list is judged. Assumes nothing.
-use Rattle.basis.specs.Prelude.{rules}
 use Rattle.dashboard.proofs.Inside.Reports.{no_labels_lie, fixed_few, fixed_labels, fixed_results, fixed_said}
 use Rattle.dashboard.proofs.report.put_fixed.Goals as goal
 

@@ -1,5 +1,4 @@
 -- `put_section` meets its promise. Assumes nothing.
-use Rattle.basis.specs.Prelude.{rules}
 use Rattle.dashboard.proofs.Names.{section, three_said}
 use Rattle.dashboard.proofs.report.put_section.Goals as goal
 

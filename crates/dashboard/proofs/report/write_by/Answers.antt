@@ -1,5 +1,4 @@
 -- `write_by` meets its promise: the bytes are judged, and refused or not. Assumes nothing.
-use Rattle.basis.specs.Prelude.{rules}
 use Rattle.dashboard.proofs.Inside.Reports.{few_lines, labels_there, labels_lie, results_there, verdict_refused, verdict_accepted}
 use Rattle.dashboard.proofs.report.write_by.Goals as goal
 

@@ -1,6 +1,6 @@
 -- `write_reference` meets its promise. The invariant: what is said so far is the sections passed. Assumes nothing.
-use Rattle.basis.specs.Prelude.{◌≤◌, ◌-◌, ◌≡◌, refl, rules, length}
-use Rattle.dashboard.proofs.Names.{fixed_count, sections, said}
+use Rattle.basis.specs.Prelude.{refl, rules}
+use Rattle.dashboard.proofs.Names.{sections, said}
 use Rattle.dashboard.proofs.Inside.Reports.{one_section, reference_written}
 use Rattle.dashboard.proofs.report.write_reference.Goals as goal
 

@@ -1,5 +1,4 @@
 -- `cell_of` meets its promise. Assumes nothing.
-use Rattle.basis.specs.Prelude.{rules}
 use Rattle.exports.proofs.Inside.BoxAnswers.{even_cell, odd_cell}
 use Rattle.exports.proofs.boxes.cell_of.Goals as goal
 

@@ -1,5 +1,4 @@
 -- `giachimu_box` meets its promise: the checks before the run, and what the box's own loop answers. Assumes nothing.
-use Rattle.basis.specs.Prelude.{rules}
 use Rattle.exports.proofs.Inside.BoxAnswers.{records_fit, box_has_no_room, box_answered, box_not_legal}
 use Rattle.exports.proofs.boxes.giachimu_box.Goals as goal
 

@@ -1,6 +1,6 @@
 -- `put_state` meets its promise: the places so far are filled. Assumes nothing.
-use Rattle.basis.specs.Prelude.{rules, ◌≤◌, ◌-◌, ◌≡◌, length}
-use Rattle.exports.proofs.Names.{upto, fill_done, held, state_cell}
+use Rattle.basis.specs.Prelude.{rules}
+use Rattle.exports.proofs.Names.{fill_done}
 use Rattle.basis.proofs.Inside.Upto.{upto_none, upto_set}
 use Rattle.exports.proofs.boxes.put_state.Goals as goal
 

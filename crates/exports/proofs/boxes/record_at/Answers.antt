@@ -1,5 +1,4 @@
 -- `record_at` meets its promise. Assumes nothing.
-use Rattle.basis.specs.Prelude.{rules}
 use Rattle.sheet.proofs.Inside.Cells.{unmapped}
 use Rattle.exports.proofs.Inside.BoxAnswers.{record_past}
 use Rattle.exports.proofs.boxes.record_at.Goals as goal

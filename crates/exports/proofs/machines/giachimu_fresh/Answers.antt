@@ -1,5 +1,4 @@
 -- `giachimu_fresh` meets its promise. Assumes nothing.
-use Rattle.basis.specs.Prelude.{rules}
 use Rattle.exports.proofs.Inside.Calls.{fresh_answered}
 use Rattle.exports.proofs.machines.giachimu_fresh.Goals as goal
 

@@ -1,5 +1,4 @@
 -- `giachimu_margin` meets its promise. Assumes nothing.
-use Rattle.basis.specs.Prelude.{rules}
 use Rattle.exports.proofs.Inside.Calls.{margin_refused, margin_none, margin_some}
 use Rattle.exports.proofs.machines.giachimu_margin.Goals as goal
 

@@ -1,5 +1,4 @@
 -- `giachimu_run` meets its promise. Assumes nothing.
-use Rattle.basis.specs.Prelude.{rules}
 use Rattle.exports.proofs.Inside.Calls.{run_answered}
 use Rattle.exports.proofs.machines.giachimu_run.Goals as goal
 

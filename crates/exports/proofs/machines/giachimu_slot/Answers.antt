@@ -1,5 +1,4 @@
 -- `giachimu_slot` meets its promise. Assumes nothing.
-use Rattle.basis.specs.Prelude.{rules}
 use Rattle.exports.proofs.Inside.Calls.{slot_answered}
 use Rattle.exports.proofs.machines.giachimu_slot.Goals as goal
 

@@ -1,5 +1,4 @@
 -- `giachimu_number` meets its promise. Assumes nothing.
-use Rattle.basis.specs.Prelude.{rules}
 use Rattle.exports.proofs.Inside.NumberAnswers.{number_refused, number_is}
 use Rattle.exports.proofs.numerals.giachimu_number.Goals as goal
 

@@ -1,5 +1,4 @@
 -- `giachimu_number_up_to` meets its promise. Assumes nothing.
-use Rattle.basis.specs.Prelude.{rules}
 use Rattle.exports.proofs.Inside.NumberAnswers.{up_to_refused, up_to_is}
 use Rattle.exports.proofs.numerals.giachimu_number_up_to.Goals as goal
 

@@ -1,5 +1,4 @@
 -- `giachimu_read_scenario` meets its promise. Assumes nothing.
-use Rattle.basis.specs.Prelude.{rules}
 use Rattle.exports.proofs.Inside.LentAnswers.{read_refused, read_accepted}
 use Rattle.exports.proofs.scenarios.giachimu_read_scenario.Goals as goal
 

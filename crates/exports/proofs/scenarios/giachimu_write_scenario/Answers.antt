@@ -1,5 +1,4 @@
 -- `giachimu_write_scenario` meets its promise. Assumes nothing.
-use Rattle.basis.specs.Prelude.{rules}
 use Rattle.exports.proofs.Inside.LentAnswers.{write_refused, write_accepted}
 use Rattle.exports.proofs.scenarios.giachimu_write_scenario.Goals as goal
 

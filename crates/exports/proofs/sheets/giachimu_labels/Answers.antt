@@ -1,5 +1,4 @@
 -- `giachimu_labels` meets its promise: what the reader has written, and zeros past it. Assumes nothing.
-use Rattle.basis.specs.Prelude.{rules}
 use Rattle.exports.proofs.Inside.Fields.{labels_fit, labels_refused, labels_are_read}
 use Rattle.exports.proofs.sheets.giachimu_labels.Goals as goal
 

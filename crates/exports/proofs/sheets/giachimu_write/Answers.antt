@@ -1,5 +1,4 @@
 -- `giachimu_write` meets its promise. Assumes nothing.
-use Rattle.basis.specs.Prelude.{rules}
 use Rattle.exports.proofs.Inside.LentAnswers.{sheet_refused, sheet_accepted}
 use Rattle.exports.proofs.sheets.giachimu_write.Goals as goal
 

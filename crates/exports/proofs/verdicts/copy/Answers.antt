@@ -1,5 +1,5 @@
 -- `copy` meets its promise: the bytes so far are copied. Assumes nothing.
-use Rattle.basis.specs.Prelude.{rules, ◌≤◌, ◌-◌, ◌≡◌, ◌++◌, length, take, drop, ℕ, suc, ◌+◌, ◌<◌, sym, ◌∙◌, List, add-one, arith, get_or, set, append_snoc, drop-cons, length-take-le, set_at, take-length, take-suc}
+use Rattle.basis.specs.Prelude.{rules, ◌≤◌, ◌≡◌, ◌++◌, length, take, drop, ℕ, suc, ◌+◌, ◌<◌, sym, ◌∙◌, List, add-one, arith, get_or, set, append_snoc, drop-cons, length-take-le, set_at, take-length, take-suc}
 use Rattle.exports.proofs.verdicts.copy.Goals as goal
 
 -- the first i bytes are copied

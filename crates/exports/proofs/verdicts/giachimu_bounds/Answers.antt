@@ -1,5 +1,4 @@
 -- `giachimu_bounds` meets its promise: what `bounds_on` has judged is told. Assumes nothing.
-use Rattle.basis.specs.Prelude.{rules}
 use Rattle.exports.proofs.Inside.Bounds.{bounds_refused, bounds_are_told}
 use Rattle.exports.proofs.verdicts.giachimu_bounds.Goals as goal
 

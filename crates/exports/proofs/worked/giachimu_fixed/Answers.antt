@@ -1,5 +1,4 @@
 -- `giachimu_fixed` meets its promise: a worked sheet has few rows, and is written where there is room. Assumes nothing.
-use Rattle.basis.specs.Prelude.{rules}
 use Rattle.exports.proofs.Inside.NumberAnswers.{fixed_rows_fit, fixed_places_fit, fixed_has_no_room, fixed_is_written}
 use Rattle.exports.proofs.worked.giachimu_fixed.Goals as goal
 

@@ -1,5 +1,4 @@
 -- `green` meets its promise: what is judged in its own lists is the answer. Assumes nothing.
-use Rattle.basis.specs.Prelude.{rules}
 use Rattle.green.proofs.GreenAnswers.{green_is}
 use Rattle.green.proofs.judge.green.Goals as goal
 

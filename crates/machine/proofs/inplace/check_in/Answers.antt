@@ -1,5 +1,4 @@
 -- `check_in` meets its promise. Assumes nothing.
-use Rattle.basis.specs.Prelude.{rules}
 use Rattle.basis.proofs.Inside.Tests.{tests}
 use Rattle.records.specs.Checks.{check_row}
 use Rattle.machine.proofs.Inside.ChecksInPlace.{check_in_there}

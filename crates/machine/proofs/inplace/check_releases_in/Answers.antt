@@ -1,6 +1,6 @@
 -- `check_releases_in` meets its promise. Assumes nothing.
-use Rattle.basis.specs.Prelude.{rules, ◌≤◌, ◌-◌, ◌≡◌, refl, true, length}
-use Rattle.machine.proofs.Names.{most_rows, accepted, first_of, legal, sheet_in, sheet_long, legal_sheet_long, legal_state, check_at, state_long, state_in}
+use Rattle.basis.specs.Prelude.{rules, refl}
+use Rattle.machine.proofs.Names.{first_of, legal_sheet_long}
 use Rattle.machine.proofs.Inside.LegalChecks.{legal_in_fits}
 use Rattle.machine.proofs.LegalLists.{kept_long}
 use Rattle.machine.proofs.Inside.ChecksInPlace.{check_done, check_in_more, check_in_found}

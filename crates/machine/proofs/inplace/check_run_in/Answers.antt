@@ -1,5 +1,4 @@
 -- `check_run_in` meets its promise. Assumes nothing.
-use Rattle.basis.specs.Prelude.{rules}
 use Rattle.machine.proofs.Inside.Checks.{some_row, run_refused, run_11, run_15, run_in_order}
 use Rattle.machine.proofs.inplace.check_run_in.Goals as goal
 

@@ -1,7 +1,6 @@
 -- `run_part` meets its promise. Assumes nothing.
-use Rattle.basis.specs.Prelude.{rules, ◌*◌, ◌-◌, ◌≤◌, ◌≡◌, refl, true, length}
+use Rattle.basis.specs.Prelude.{◌*◌, ◌-◌, ◌≤◌, ◌≡◌, true, length}
 use Rattle.machine.proofs.Names.{accepted, legal, sheet_in, legal_state, run_answer, course, state_in}
-use Rattle.machine.proofs.Inside.Courses.{room_for, goes_on, stops, ends}
 use Rattle.machine.proofs.inplace.run_part.Given as goal
 
 abbrev pub invariant-loop-done : goal.invariant-loop-done

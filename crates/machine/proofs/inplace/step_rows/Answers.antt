@@ -1,6 +1,6 @@
 -- `step_rows` meets its promise. Assumes nothing.
-use Rattle.basis.specs.Prelude.{rules, ◌≤◌, ◌-◌, ◌≡◌, refl, true, length}
-use Rattle.machine.proofs.Names.{most_rows, upto, legal, sheet_in, sheet_long, legal_sheet_long, legal_state, free_at, free, next, code, given, state_long, state_in, put_to}
+use Rattle.basis.specs.Prelude.{rules, refl}
+use Rattle.machine.proofs.Names.{upto, legal_sheet_long, free_at, given, put_to}
 use Rattle.machine.proofs.Inside.LegalChecks.{legal_in_fits}
 use Rattle.machine.proofs.LegalLists.{kept_long}
 use Rattle.machine.proofs.SlotsInPlace.{free_moves, list_moves, codes_move, moves_done, codes_done}

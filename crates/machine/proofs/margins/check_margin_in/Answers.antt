@@ -1,5 +1,4 @@
 -- `check_margin_in` meets its promise. Assumes nothing.
-use Rattle.basis.specs.Prelude.{rules}
 use Rattle.machine.proofs.Inside.Checks.{margin_refused, margin_14, margin_in_order}
 use Rattle.machine.proofs.margins.check_margin_in.Goals as goal
 

@@ -1,5 +1,4 @@
 -- `margin_of` meets its promise. Assumes nothing.
-use Rattle.basis.specs.Prelude.{rules}
 use Rattle.machine.proofs.Inside.MarginAnswers.{margin_fits, margin_none, margin_some}
 use Rattle.machine.proofs.margins.margin_of.Goals as goal
 

@@ -1,5 +1,4 @@
 -- `margin_on` meets its promise. Assumes nothing.
-use Rattle.basis.specs.Prelude.{rules}
 use Rattle.machine.proofs.Inside.MarginAnswers.{row_in_array, margin_row_there, margin_record_there, small_deadline, listed_since, listed_remaining, margin_is_refused, listed_margin}
 use Rattle.machine.proofs.margins.margin_on.Goals as goal
 

@@ -1,7 +1,7 @@
 -- `is_legal_in` meets its promise. Assumes nothing.
-use Rattle.basis.specs.Prelude.{rules, ◌≤◌, ◌-◌, ◌≡◌, refl, true, length}
-use Rattle.machine.proofs.Names.{most_rows, all_of, legal, sheet_in, sheet_long, legal_sheet_long, state_long}
-use Rattle.machine.proofs.Inside.LegalChecks.{legal_in, record_scaled, legal_in_short, legal_in_fits, legal_in_more, legal_in_fails, legal_in_done}
+use Rattle.basis.specs.Prelude.{◌≤◌, ◌-◌, ◌≡◌, true, length}
+use Rattle.machine.proofs.Names.{most_rows, all_of, legal, sheet_in, sheet_long, state_long}
+use Rattle.machine.proofs.Inside.LegalChecks.{legal_in}
 use Rattle.machine.proofs.places.is_legal_in.Given as goal
 
 abbrev pub invariant-loop-i : goal.invariant-loop-i

@@ -1,6 +1,5 @@
 -- `is_zero_from` meets its promise. Assumes nothing.
-use Rattle.basis.specs.Prelude.{rules, ◌≤◌, ◌-◌, ◌≡◌, true, length}
-use Rattle.machine.proofs.Names.{all_of, zero_at}
+use Rattle.basis.specs.Prelude.{rules}
 use Rattle.machine.proofs.Inside.Zeros.{zero_none, zero_fails, zero_fails_here, zero_fails_next, zero_two, zero_last_lem, zero_done}
 use Rattle.machine.proofs.places.is_zero_from.Goals as goal
 

@@ -1,7 +1,6 @@
 -- `is_zero_from` meets its promise. Assumes nothing.
-use Rattle.basis.specs.Prelude.{rules, ◌≤◌, ◌-◌, ◌≡◌, true, length}
+use Rattle.basis.specs.Prelude.{◌≤◌, ◌-◌, ◌≡◌, true, length}
 use Rattle.machine.proofs.Names.{all_of, zero_at}
-use Rattle.machine.proofs.Inside.Zeros.{zero_none, zero_fails, zero_fails_here, zero_fails_next, zero_two, zero_last_lem, zero_done}
 use Rattle.machine.proofs.places.is_zero_from.Given as goal
 
 abbrev pub invariant-loop-i : goal.invariant-loop-i

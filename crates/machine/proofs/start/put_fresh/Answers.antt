@@ -1,6 +1,6 @@
 -- `put_fresh` meets its promise: the rows so far are fresh. Assumes nothing.
-use Rattle.basis.specs.Prelude.{rules, ◌≤◌, ◌-◌, ◌≡◌, refl, length}
-use Rattle.machine.proofs.Names.{most_rows, sheet_in, sheet_long, legal_sheet_long, fresh_at, state_long, put_to}
+use Rattle.basis.specs.Prelude.{rules, refl}
+use Rattle.machine.proofs.Names.{legal_sheet_long, put_to}
 use Rattle.machine.proofs.Inside.LegalChecks.{legal_in_fits}
 use Rattle.machine.proofs.SlotsInPlace.{moves_done}
 use Rattle.machine.proofs.Inside.FreshLists.{fresh_more}

@@ -1,7 +1,6 @@
 -- `state_list` meets its promise. Assumes nothing.
-use Rattle.basis.specs.Prelude.{rules, ◌≤◌, ◌-◌, ◌≡◌, refl, length, replicate}
-use Rattle.states.proofs.Names.{most_rows, unmapped, record_at, state_long, put_to, held}
-use Rattle.states.proofs.Inside.ValueLists.{list_more, both_stored, state_in_list}
+use Rattle.basis.specs.Prelude.{◌≤◌, ◌-◌, ◌≡◌, length, replicate}
+use Rattle.states.proofs.Names.{most_rows, record_at, state_long, put_to, held}
 use Rattle.states.proofs.lists.state_list.Given as goal
 
 abbrev pub invariant-loop-i : goal.invariant-loop-i

@@ -1,6 +1,6 @@
 -- `state_of` meets its promise. Assumes nothing.
-use Rattle.basis.specs.Prelude.{rules, ◌≤◌, ◌-◌, ◌≡◌, refl, length}
-use Rattle.states.proofs.Names.{most_rows, upto, state_long, record_in}
+use Rattle.basis.specs.Prelude.{rules, refl}
+use Rattle.states.proofs.Names.{upto, record_in}
 use Rattle.states.proofs.Inside.ValueLists.{records_more, records_done}
 use Rattle.states.proofs.lists.state_of.Goals as goal
 

@@ -1,5 +1,4 @@
 -- `put_code` meets its promise. Assumes nothing.
-use Rattle.basis.specs.Prelude.{rules}
 use Rattle.watch.proofs.Names.{two_said}
 use Rattle.watch.proofs.codes.put_code.Goals as goal
 

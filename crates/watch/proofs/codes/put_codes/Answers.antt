@@ -1,5 +1,5 @@
 -- `put_codes` meets its promise. The invariant: what is said so far is the codes passed. Assumes nothing.
-use Rattle.basis.specs.Prelude.{rules, ◌-◌, ◌≤◌, ◌≡◌, refl, length, take}
+use Rattle.basis.specs.Prelude.{rules, refl}
 use Rattle.watch.proofs.Names.{codes_text, said}
 use Rattle.watch.proofs.Inside.Lines.{code_said, codes_said}
 use Rattle.watch.proofs.codes.put_codes.Goals as goal

@@ -1,7 +1,6 @@
 -- `put_codes` meets its promise. The invariant: what is said so far is the codes passed. Assumes nothing.
-use Rattle.basis.specs.Prelude.{rules, ◌-◌, ◌≤◌, ◌≡◌, refl, length, take}
+use Rattle.basis.specs.Prelude.{◌-◌, ◌≤◌, ◌≡◌, length, take}
 use Rattle.watch.proofs.Names.{codes_text, said}
-use Rattle.watch.proofs.Inside.Lines.{code_said, codes_said}
 use Rattle.watch.proofs.codes.put_codes.Given as goal
 
 abbrev pub invariant-loop-i : goal.invariant-loop-i

@@ -1,5 +1,4 @@
 -- `put_refused_by` meets its promise. Assumes nothing.
-use Rattle.basis.specs.Prelude.{rules}
 use Rattle.watch.proofs.Names.{refused_by, four_said}
 use Rattle.watch.proofs.codes.put_refused_by.Goals as goal
 

@@ -1,5 +1,4 @@
 -- `put_refused_slot` meets its promise. Assumes nothing.
-use Rattle.basis.specs.Prelude.{rules}
 use Rattle.watch.proofs.Names.{refused_slot, three_said}
 use Rattle.watch.proofs.codes.put_refused_slot.Goals as goal
 

@@ -1,5 +1,4 @@
 -- `put_slot_number` meets its promise. Assumes nothing.
-use Rattle.basis.specs.Prelude.{rules}
 use Rattle.watch.proofs.Names.{slot_number, three_said}
 use Rattle.watch.proofs.codes.put_slot_number.Goals as goal
 

@@ -1,5 +1,4 @@
 -- `put_file` meets its promise. Assumes nothing.
-use Rattle.basis.specs.Prelude.{rules}
 use Rattle.watch.proofs.Inside.Lines.{sheet_said, scenario_said}
 use Rattle.watch.proofs.ends.put_file.Goals as goal
 

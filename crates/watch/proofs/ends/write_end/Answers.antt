@@ -1,5 +1,4 @@
 -- `write_end` meets its promise. Assumes nothing.
-use Rattle.basis.specs.Prelude.{rules}
 use Rattle.watch.proofs.Inside.Lines.{end_written}
 use Rattle.watch.proofs.ends.write_end.Goals as goal
 

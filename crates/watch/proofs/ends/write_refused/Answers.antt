@@ -1,5 +1,4 @@
 -- `write_refused` meets its promise. Assumes nothing.
-use Rattle.basis.specs.Prelude.{rules}
 use Rattle.watch.proofs.Inside.Lines.{refused_written}
 use Rattle.watch.proofs.ends.write_refused.Goals as goal
 

@@ -1,5 +1,4 @@
 -- `play_slot` meets its promise: a slot is played, and refused or not. Assumes nothing.
-use Rattle.basis.specs.Prelude.{rules}
 use Rattle.watch.proofs.Inside.Slots.{play_refused, codes_there, codes_part, play_accepted}
 use Rattle.watch.proofs.play.play_slot.Goals as goal
 

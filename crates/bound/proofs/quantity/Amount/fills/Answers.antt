@@ -1,5 +1,5 @@
 -- `fills` meets its promise, by multiplication. Assumes nothing.
-use Rattle.basis.specs.Prelude.{rules, div-mul-le_self}
+use Rattle.basis.specs.Prelude.{div-mul-le_self}
 use Rattle.bound.proofs.Durations.{fills_most}
 use Rattle.bound.proofs.quantity.Amount.fills.Goals as goal
 

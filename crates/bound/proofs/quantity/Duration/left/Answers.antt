@@ -1,5 +1,4 @@
 -- `left` is what is left of a duration after whole periods: 32 bits hold both. Assumes nothing.
-use Rattle.basis.specs.Prelude.{rules}
 use Rattle.bound.proofs.Durations.{rest_fits}
 use Rattle.bound.proofs.quantity.Duration.left.Goals as goal
 

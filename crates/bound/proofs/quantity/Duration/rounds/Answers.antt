@@ -1,5 +1,4 @@
 -- `rounds` is how many times a period goes into a duration: 32 bits hold both. Assumes nothing.
-use Rattle.basis.specs.Prelude.{rules}
 use Rattle.bound.proofs.Durations.{rounds_fit}
 use Rattle.bound.proofs.quantity.Duration.rounds.Goals as goal
 

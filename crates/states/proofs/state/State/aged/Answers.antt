@@ -1,6 +1,6 @@
 -- `aged` meets its promise: the rows so far are aged. Assumes nothing.
-use Rattle.basis.specs.Prelude.{rules, ◌≤◌, ◌-◌, ◌≡◌, refl, length}
-use Rattle.states.proofs.Names.{most_rows, upto, upto_whole, held, aged_record, aged_code}
+use Rattle.basis.specs.Prelude.{rules, refl}
+use Rattle.states.proofs.Names.{upto, upto_whole}
 use Rattle.states.proofs.Inside.StepLoops.{aged_rows, aged_codes_lem, rows_done}
 use Rattle.states.proofs.state.State.aged.Goals as goal
 

@@ -1,7 +1,6 @@
 -- `aged` meets its promise: the rows so far are aged. Assumes nothing.
-use Rattle.basis.specs.Prelude.{rules, ◌≤◌, ◌-◌, ◌≡◌, refl, length}
-use Rattle.states.proofs.Names.{most_rows, upto, upto_whole, held, aged_record, aged_code}
-use Rattle.states.proofs.Inside.StepLoops.{aged_rows, aged_codes_lem, rows_done}
+use Rattle.basis.specs.Prelude.{◌≤◌, ◌-◌, ◌≡◌, length}
+use Rattle.states.proofs.Names.{most_rows, upto, held, aged_record, aged_code}
 use Rattle.states.proofs.state.State.aged.Given as goal
 
 abbrev pub invariant-loop-i : goal.invariant-loop-i

@@ -1,5 +1,4 @@
 -- `margin` meets its promise. Assumes nothing.
-use Rattle.basis.specs.Prelude.{rules}
 use Rattle.states.proofs.Inside.ValueLists.{margin_by_list}
 use Rattle.states.proofs.state.State.margin.Goals as goal
 

@@ -1,5 +1,4 @@
 -- `next` meets its promise: releases, placement and ageing one after another are the slot. Assumes nothing.
-use Rattle.basis.specs.Prelude.{rules}
 use Rattle.sheet.proofs.Inside.Cells.{unmapped}
 use Rattle.states.proofs.StepsTogether.{next_state_lem, next_codes_lem}
 use Rattle.states.proofs.state.State.next.Goals as goal

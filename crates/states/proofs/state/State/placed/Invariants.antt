@@ -1,7 +1,6 @@
 -- `placed` meets its promise: the rows so far are placed, and what they leave free is free. Assumes nothing.
-use Rattle.basis.specs.Prelude.{rules, ◌≤◌, ◌-◌, ◌≡◌, refl, length}
-use Rattle.states.proofs.Names.{most_rows, upto, upto_whole, row_at, free_at, held, job_at, placed_record, placed_code}
-use Rattle.states.proofs.Inside.StepLoops.{placed_free, placed_rows, placed_codes_lem, rows_done}
+use Rattle.basis.specs.Prelude.{◌≤◌, ◌-◌, ◌≡◌, length}
+use Rattle.states.proofs.Names.{most_rows, upto, row_at, free_at, held, job_at, placed_record, placed_code}
 use Rattle.states.proofs.state.State.placed.Given as goal
 
 abbrev pub invariant-loop-i : goal.invariant-loop-i

@@ -1,7 +1,6 @@
 -- `released` meets its promise: the rows so far have their releases. Assumes nothing.
-use Rattle.basis.specs.Prelude.{rules, ◌≤◌, ◌-◌, ◌≡◌, refl, length}
+use Rattle.basis.specs.Prelude.{◌≤◌, ◌-◌, ◌≡◌, length}
 use Rattle.states.proofs.Names.{most_rows, upto, held, released_at}
-use Rattle.states.proofs.Inside.StepLoops.{released_more, rows_done}
 use Rattle.states.proofs.state.State.released.Given as goal
 
 abbrev pub invariant-loop-i : goal.invariant-loop-i

@@ -1,5 +1,4 @@
 -- `run` meets its promise. Assumes nothing.
-use Rattle.basis.specs.Prelude.{rules}
 use Rattle.states.proofs.Inside.ValueLists.{run_by_list}
 use Rattle.states.proofs.state.State.run.Goals as goal
 

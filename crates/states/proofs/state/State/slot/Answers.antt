@@ -1,5 +1,4 @@
 -- `slot` meets its promise. Assumes nothing.
-use Rattle.basis.specs.Prelude.{rules}
 use Rattle.machine.proofs.Inside.Answers.{rows_in_state, rows_in_list, rows_in_buffer, slot_is_refused, slot_is_accepted}
 use Rattle.states.proofs.state.State.slot.Goals as goal
 
