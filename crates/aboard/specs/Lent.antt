@@ -1,5 +1,6 @@
 -- What a call with a lent state answers, with the state and the code buffer after it.
-use Rattle.basis.specs.Prelude.{ℕ, ◌/◌, List, length}
+use Rattle.std.specs.Prelude.{◌/◌}
+use Rattle.basis.specs.Prelude.{ℕ, List, length}
 use Rattle.basis.specs.Refusals.{Outcome, outcome, handed}
 use Rattle.basis.specs.declared.refusal.Refusal.{Refusal}
 use Rattle.sheet.specs.declared.row.Sheet.{Sheet}

@@ -1,5 +1,5 @@
 -- What it says that a promise shuts a fault out.
-use Rattle.basis.specs.Prelude.{◌≡◌}
+use Rattle.std.specs.Prelude.{◌≡◌}
 
 -- No answer of the code stands both for what a faulty rule says and for what is promised.
 abbrev pub NoAnswer : {R A : Type 0} → (R → A) → A → A → Type 0

@@ -1,5 +1,6 @@
 -- Readers: what reading bytes at a place gives, and how one reader follows another. The form of a file is written with `do` over them.
-use Rattle.basis.specs.Prelude.{ℕ, ◌+◌, ◌<◌, List, [], ◌∷◌, Bool, true, false, length, get_or, ltb, leb, eqb}
+use Rattle.std.specs.Prelude.{◌+◌, ◌<◌, ◌∷◌}
+use Rattle.basis.specs.Prelude.{ℕ, List, [], Bool, true, false, length, get_or, ltb, leb, eqb}
 use Rattle.basis.specs.Words.{pick, both}
 
 -- Each element is a byte.

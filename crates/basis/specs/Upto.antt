@@ -1,5 +1,6 @@
 -- Lists that a loop fills.
-use Rattle.basis.specs.Prelude.{ℕ, zero, suc, ◌/◌, ◌%◌, List, set, eqb}
+use Rattle.std.specs.Prelude.{◌/◌, ◌%◌}
+use Rattle.basis.specs.Prelude.{ℕ, zero, suc, List, set, eqb}
 use Rattle.basis.specs.Words.{pick}
 
 -- The list l with its first n places made f 0, f 1, ..; the places past them are as they were.

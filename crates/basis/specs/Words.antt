@@ -1,5 +1,6 @@
 -- The words that the definitions are made of: a choice, two tests together, a range, all of several, a sum, every element of a list.
-use Rattle.basis.specs.Prelude.{ℕ, zero, suc, ◌+◌, Bool, true, false, List, [], ◌∷◌, leb}
+use Rattle.std.specs.Prelude.{◌+◌, ◌∷◌}
+use Rattle.basis.specs.Prelude.{ℕ, zero, suc, Bool, true, false, List, [], leb}
 
 -- The first where the test holds, the second where it does not.
 abbrev pub pick : {A : Type 0} → Bool → A → A → A

@@ -1,5 +1,6 @@
 -- The workload of a row in a window.
-use Rattle.basis.specs.Prelude.{ℕ, ◌+◌, ◌*◌, ◌-◌, ◌/◌, min}
+use Rattle.std.specs.Prelude.{◌+◌, ◌*◌, ◌-◌, ◌/◌}
+use Rattle.basis.specs.Prelude.{ℕ, min}
 
 -- The most slots that jobs of C slots, T apart, run in x slots of which the first starts a job.
 unfoldable pub ω : ℕ → ℕ → ℕ → ℕ

@@ -1,5 +1,6 @@
 -- Wrong rules, each the rule of document 01 but for one thing: every promise shuts them out on a named input.
-use Rattle.basis.specs.Prelude.{Bool, true, false, List, [], ◌∷◌, ℕ, ◌+◌, length, set, leb, eqb}
+use Rattle.std.specs.Prelude.{◌∷◌, ◌+◌}
+use Rattle.basis.specs.Prelude.{Bool, true, false, List, [], ℕ, length, set, leb, eqb}
 use Rattle.basis.specs.Words.{pick, both}
 use Rattle.basis.specs.Refusals.{Outcome, refused}
 use Rattle.basis.specs.Lent.{stored_at}

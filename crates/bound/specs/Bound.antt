@@ -1,5 +1,6 @@
 -- The bound of a row, the results of all rows, and the whole answer, each for a test that is given.
-use Rattle.basis.specs.Prelude.{ℕ, zero, suc, ◌+◌, ◌-◌, Bool, true, false, List, map, replicate, ltb}
+use Rattle.std.specs.Prelude.{◌+◌, ◌-◌}
+use Rattle.basis.specs.Prelude.{ℕ, zero, suc, Bool, true, false, List, map, replicate, ltb}
 use Rattle.basis.specs.Limits.{most_rows}
 use Rattle.basis.specs.Words.{pick, all_of}
 use Rattle.basis.specs.Upto.{upto}

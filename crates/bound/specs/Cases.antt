@@ -1,5 +1,6 @@
 -- Cases A to F: the fixed sheets 0 to 5, which `fixed_sheet` hands out, and the results that document 01 has for them.
-use Rattle.basis.specs.Prelude.{◌-◌, ◌≡◌, Bool, true, List, [], ◌∷◌, ◌++◌, length, replicate}
+use Rattle.std.specs.Prelude.{◌-◌, ◌≡◌, ◌∷◌, ◌++◌}
+use Rattle.basis.specs.Prelude.{Bool, true, List, [], length, replicate}
 use Rattle.basis.specs.Limits.{most_rows}
 use Rattle.basis.specs.Words.{both}
 use Rattle.basis.specs.Refusals.{accepted}

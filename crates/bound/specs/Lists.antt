@@ -1,5 +1,6 @@
 -- The results of a sheet as a list of plain numbers: of each row its word as a number, and its bound.
-use Rattle.basis.specs.Prelude.{ℕ, ◌+◌, ◌*◌, Bool, false, List, length, get_or, set, eqb}
+use Rattle.std.specs.Prelude.{◌+◌, ◌*◌}
+use Rattle.basis.specs.Prelude.{ℕ, Bool, false, List, length, get_or, set, eqb}
 use Rattle.basis.specs.Words.{pick}
 use Rattle.basis.specs.Upto.{upto, pair_cell}
 use Rattle.basis.specs.Refusals.{Outcome, or_else, room_for, handed}

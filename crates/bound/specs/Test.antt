@@ -1,6 +1,7 @@
 -- The test of one length, by the formulas of document 01, in its order. Numbers of equations are those of document 000, whose D_i - S_i is R_i here, since rows
 -- are judged from the top and a row's bound is known before it is used.
-use Rattle.basis.specs.Prelude.{ℕ, ◌+◌, ◌-◌, min, Bool}
+use Rattle.std.specs.Prelude.{◌+◌, ◌-◌}
+use Rattle.basis.specs.Prelude.{ℕ, min, Bool}
 use Rattle.sheet.specs.Legal.{row_at}
 use Rattle.sheet.specs.declared.row.Row.{Row}
 use Rattle.sheet.specs.declared.row.Sheet.{Sheet}

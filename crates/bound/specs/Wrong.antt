@@ -1,5 +1,6 @@
 -- Wrong answers, each right but for one thing: what the promises of this crate shut out.
-use Rattle.basis.specs.Prelude.{ℕ, zero, suc, ◌+◌, ◌-◌, min, Bool, true, false, List, [], ◌∷◌, leb, ltb}
+use Rattle.std.specs.Prelude.{◌+◌, ◌-◌, ◌∷◌}
+use Rattle.basis.specs.Prelude.{ℕ, zero, suc, min, Bool, true, false, List, [], leb, ltb}
 use Rattle.basis.specs.Words.{pick}
 use Rattle.basis.specs.Upto.{upto}
 use Rattle.basis.specs.Refusals.{Outcome, accepted, refused}

@@ -1,5 +1,6 @@
 -- The starred cases A to I, in one list.
-use Rattle.basis.specs.Prelude.{List, ◌∷◌, ◌++◌, map}
+use Rattle.std.specs.Prelude.{◌∷◌, ◌++◌}
+use Rattle.basis.specs.Prelude.{List, map}
 use Rattle.numbers.specs.Cases.{NumberCase, case_i, RightNumber}
 use Rattle.bound.specs.Cases.{Case, cases, Right}
 use Rattle.machine.specs.Cases.{RunCase, case_g, case_h, RightRun}

@@ -1,5 +1,6 @@
 -- The worked verdicts, their bytes and their texts, and the whole reference.
-use Rattle.basis.specs.Prelude.{ℕ, List, [], ◌∷◌}
+use Rattle.std.specs.Prelude.{◌∷◌}
+use Rattle.basis.specs.Prelude.{ℕ, List, []}
 
 -- Sheet C with labels roll and trim, but for its last byte.
 abbrev pub roll_and_trim : List ℕ

@@ -1,5 +1,6 @@
 -- The labels that stand in the lines.
-use Rattle.basis.specs.Prelude.{ℕ, List, ◌++◌, take, drop}
+use Rattle.std.specs.Prelude.{◌++◌}
+use Rattle.basis.specs.Prelude.{ℕ, List, take, drop}
 use Rattle.reader.specs.Answers.{label_in}
 use Rattle.reader.specs.declared.row.Part.{Part}
 use Rattle.page.specs.Decimals.{decimal}

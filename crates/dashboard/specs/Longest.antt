@@ -1,5 +1,6 @@
 -- The longest text, and the buffers that a program lends.
-use Rattle.basis.specs.Prelude.{ℕ, ◌+◌, List, length, replicate}
+use Rattle.std.specs.Prelude.{◌+◌}
+use Rattle.basis.specs.Prelude.{ℕ, List, length, replicate}
 use Rattle.basis.specs.Limits.{most_rows, longest_label, most_separation}
 use Rattle.basis.specs.Words.{sum}
 use Rattle.reader.specs.Longest.{longest_sheet}

@@ -1,5 +1,6 @@
 -- What the laws of a verdict speak of: the last line, what follows NO VERDICT, and rows that are reported.
-use Rattle.basis.specs.Prelude.{ℕ, ◌≤◌, ◌≡◌, ◌⊎◌, List, [], ◌++◌}
+use Rattle.std.specs.Prelude.{◌≤◌, ◌≡◌, ◌⊎◌, ◌++◌}
+use Rattle.basis.specs.Prelude.{ℕ, List, []}
 use Rattle.basis.specs.Refusals.{refused}
 use Rattle.reader.specs.Answers.{reading}
 use Rattle.sheet.specs.declared.row.Row.{Row}

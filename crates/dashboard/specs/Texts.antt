@@ -1,5 +1,6 @@
 -- The text of a verdict, for any bytes, and of the reference.
-use Rattle.basis.specs.Prelude.{ℕ, zero, suc, ◌+◌, List, [], ◌∷◌, ◌++◌}
+use Rattle.std.specs.Prelude.{◌+◌, ◌∷◌, ◌++◌}
+use Rattle.basis.specs.Prelude.{ℕ, zero, suc, List, []}
 use Rattle.basis.specs.Refusals.{Outcome, accepted, refused}
 use Rattle.reader.specs.Answers.{reading}
 use Rattle.sheet.specs.declared.row.Sheet.{Sheet}

@@ -1,5 +1,6 @@
 -- The words of a verdict and its lines, byte for byte.
-use Rattle.basis.specs.Prelude.{ℕ, Bool, List, [], ◌∷◌, ◌++◌}
+use Rattle.std.specs.Prelude.{◌∷◌, ◌++◌}
+use Rattle.basis.specs.Prelude.{ℕ, Bool, List, []}
 use Rattle.basis.specs.Words.{pick}
 use Rattle.bound.specs.Bound.{Word, bound, none, unreached}
 use Rattle.page.specs.Decimals.{decimal}

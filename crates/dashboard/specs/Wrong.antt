@@ -1,5 +1,6 @@
 -- Wrong rules of the texts and the buffers, each the rule of document 01 but for one thing, and the sheets that tell them.
-use Rattle.basis.specs.Prelude.{ℕ, zero, suc, ◌-◌, ◌/◌, Bool, true, List, [], ◌∷◌, ◌++◌, replicate}
+use Rattle.std.specs.Prelude.{◌-◌, ◌/◌, ◌∷◌, ◌++◌}
+use Rattle.basis.specs.Prelude.{ℕ, zero, suc, Bool, true, List, [], replicate}
 use Rattle.basis.specs.Refusals.{Outcome, accepted, refused}
 use Rattle.reader.specs.Answers.{reading}
 use Rattle.sheet.specs.declared.row.Sheet.{Sheet}

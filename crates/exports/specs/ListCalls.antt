@@ -1,5 +1,6 @@
 -- A machine kept in a list, as a program that links the library keeps it: any calls on the list, one after another, and its accepted slots since it was last made fresh.
-use Rattle.basis.specs.Prelude.{ℕ, ◌≡◌, List, [], ◌∷◌, ◌++◌, take, eqb}
+use Rattle.std.specs.Prelude.{◌≡◌, ◌∷◌, ◌++◌}
+use Rattle.basis.specs.Prelude.{ℕ, List, [], take, eqb}
 use Rattle.basis.specs.Words.{pick}
 use Rattle.sheet.specs.Lists.{sheet_in}
 use Rattle.green.specs.Calls.{Done, run_done}

@@ -1,5 +1,6 @@
 -- Wrong rules of the further calls, each the rule but for one thing, and the inputs that tell them.
-use Rattle.basis.specs.Prelude.{ℕ, ◌/◌, List, [], ◌∷◌, length, replicate}
+use Rattle.std.specs.Prelude.{◌/◌, ◌∷◌}
+use Rattle.basis.specs.Prelude.{ℕ, List, [], length, replicate}
 use Rattle.sheet.specs.Lists.{filled, sheet_in, sheet_cell}
 use Rattle.tables.specs.Tables.{fixed_sheet}
 use Rattle.numbers.specs.Numbers.{up_to}

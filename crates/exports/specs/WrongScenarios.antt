@@ -1,5 +1,6 @@
 -- Wrong answers of the calls for a scenario, each right but for one thing, and the lists and files that tell them.
-use Rattle.basis.specs.Prelude.{ℕ, ◌-◌, ◌*◌, List, [], ◌∷◌, ◌++◌, length}
+use Rattle.std.specs.Prelude.{◌-◌, ◌*◌, ◌∷◌, ◌++◌}
+use Rattle.basis.specs.Prelude.{ℕ, List, [], length}
 use Rattle.sheet.specs.Lists.{sheet_in, filled}
 use Rattle.scenario.specs.Form.{mark_bytes}
 use Rattle.exports.specs.Scenarios.{scenario_read, scenario_written}

@@ -1,5 +1,6 @@
 -- Wrong answers of the calls for a sheet that is written, each right but for one thing, and what is lent to them.
-use Rattle.basis.specs.Prelude.{ℕ, ◌-◌, List, [], ◌∷◌, length, replicate}
+use Rattle.std.specs.Prelude.{◌-◌, ◌∷◌}
+use Rattle.basis.specs.Prelude.{ℕ, List, [], length, replicate}
 use Rattle.basis.specs.Refusals.{or_else, room_for}
 use Rattle.basis.specs.Upto.{upto, pair_cell}
 use Rattle.sheet.specs.Lists.{sheet_in, filled}

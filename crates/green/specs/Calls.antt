@@ -1,5 +1,6 @@
 -- Any list of calls with a sheet, from a fresh machine, and its accepted slots in one sequence.
-use Rattle.basis.specs.Prelude.{ℕ, zero, suc, List, [], ◌∷◌, ◌++◌, take}
+use Rattle.std.specs.Prelude.{◌∷◌, ◌++◌}
+use Rattle.basis.specs.Prelude.{ℕ, zero, suc, List, [], take}
 use Rattle.basis.specs.Words.{pick}
 use Rattle.basis.specs.Refusals.{is_accepted}
 use Rattle.sheet.specs.declared.row.Sheet.{Sheet}

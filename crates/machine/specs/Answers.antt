@@ -1,5 +1,6 @@
 -- What each call answers, with the state and the code buffer after it.
-use Rattle.basis.specs.Prelude.{ℕ, zero, suc, ◌+◌, ◌*◌, ◌/◌, List, ◌++◌, length, get_or, take, drop}
+use Rattle.std.specs.Prelude.{◌+◌, ◌*◌, ◌/◌, ◌++◌}
+use Rattle.basis.specs.Prelude.{ℕ, zero, suc, List, length, get_or, take, drop}
 use Rattle.std.specs.Prelude.{ℤ, pos, ◌-ℤ◌}
 use Rattle.basis.specs.Words.{pick}
 use Rattle.basis.specs.Refusals.{Outcome, accepted, refused, is_accepted, needed}

@@ -1,5 +1,6 @@
 -- The checks of each call, in their order: the number and the place of the first that fails.
-use Rattle.basis.specs.Prelude.{ℕ, ◌%◌, Bool, List, length, get_or, ltb, eqb}
+use Rattle.std.specs.Prelude.{◌%◌}
+use Rattle.basis.specs.Prelude.{ℕ, Bool, List, length, get_or, ltb, eqb}
 use Rattle.basis.specs.Refusals.{Outcome, or_else, first_of, needed, room_for}
 use Rattle.sheet.specs.Legal.{row_at, legal}
 use Rattle.sheet.specs.declared.row.Sheet.{Sheet}

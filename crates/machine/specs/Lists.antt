@@ -1,5 +1,6 @@
 -- States as lists of plain numbers, of each row remaining and since; a sheet's list is that of crate sheet.
-use Rattle.basis.specs.Prelude.{ℕ, zero, suc, ◌+◌, ◌*◌, Bool, true, List, length, set, ltb, eqb}
+use Rattle.std.specs.Prelude.{◌+◌, ◌*◌}
+use Rattle.basis.specs.Prelude.{ℕ, zero, suc, Bool, true, List, length, set, ltb, eqb}
 use Rattle.basis.specs.Limits.{most_rows}
 use Rattle.basis.specs.Words.{pick, all_of}
 use Rattle.basis.specs.Refusals.{outcome, is_accepted, or_else, room_for}

@@ -1,5 +1,6 @@
 -- Wrong rules for a state, each that of 01 but for one thing, and the sheets, states and lists that tell them apart.
-use Rattle.basis.specs.Prelude.{ℕ, zero, suc, ◌%◌, ◌/◌, Bool, List, [], ◌∷◌, length, get_or, replicate, eqb}
+use Rattle.std.specs.Prelude.{◌%◌, ◌/◌, ◌∷◌}
+use Rattle.basis.specs.Prelude.{ℕ, zero, suc, Bool, List, [], length, get_or, replicate, eqb}
 use Rattle.std.specs.Prelude.{pos, ◌-ℤ◌}
 use Rattle.basis.specs.Limits.{most_rows}
 use Rattle.basis.specs.Words.{pick}

@@ -1,5 +1,6 @@
 -- The worked numbers (case I): their bytes, and what they are.
-use Rattle.basis.specs.Prelude.{ℕ, List, [], ◌∷◌, ◌≡◌}
+use Rattle.std.specs.Prelude.{◌∷◌, ◌≡◌}
+use Rattle.basis.specs.Prelude.{ℕ, List, []}
 use Rattle.basis.specs.Readers.{Step, ok, refuse}
 use Rattle.numbers.specs.Numbers.{number}
 

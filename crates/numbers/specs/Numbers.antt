@@ -1,5 +1,6 @@
 -- A number: groups of seven bits, the lowest first, the top bit set where another follows, in the shortest form only.
-use Rattle.basis.specs.Prelude.{ℕ, zero, suc, ◌+◌, ◌-◌, ◌*◌, ◌/◌, ◌%◌, List, [], ◌∷◌, length, ltb, leb, eqb}
+use Rattle.std.specs.Prelude.{◌+◌, ◌-◌, ◌*◌, ◌/◌, ◌%◌, ◌∷◌}
+use Rattle.basis.specs.Prelude.{ℕ, zero, suc, List, [], length, ltb, leb, eqb}
 use Rattle.basis.specs.Limits.{most_groups}
 use Rattle.basis.specs.Words.{pick}
 use Rattle.basis.specs.Readers.{Step, ok, refuse, Reader, ◌>>=◌, give, refuse_at, here, byte}

@@ -1,5 +1,6 @@
 -- Wrong rules of a number, each the rule of document 01 but for one thing, and the bytes that tell them.
-use Rattle.basis.specs.Prelude.{ℕ, zero, suc, ◌+◌, ◌-◌, ◌*◌, ◌/◌, ◌%◌, List, [], ◌∷◌, length, set, sets, ltb, leb, eqb}
+use Rattle.std.specs.Prelude.{◌+◌, ◌-◌, ◌*◌, ◌/◌, ◌%◌, ◌∷◌}
+use Rattle.basis.specs.Prelude.{ℕ, zero, suc, List, [], length, set, sets, ltb, leb, eqb}
 use Rattle.basis.specs.Limits.{most_groups}
 use Rattle.basis.specs.Words.{pick}
 use Rattle.basis.specs.Readers.{Step, ok, refuse, Reader, ◌>>=◌, give, refuse_at, here, byte}

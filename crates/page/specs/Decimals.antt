@@ -1,5 +1,6 @@
 -- Numbers in decimal, byte for byte.
-use Rattle.basis.specs.Prelude.{ℕ, zero, suc, ◌+◌, ◌-◌, ◌*◌, ◌/◌, ◌%◌, List, [], ◌∷◌, ◌++◌, ltb}
+use Rattle.std.specs.Prelude.{◌+◌, ◌-◌, ◌*◌, ◌/◌, ◌%◌, ◌∷◌, ◌++◌}
+use Rattle.basis.specs.Prelude.{ℕ, zero, suc, List, [], ltb}
 use Rattle.basis.specs.Words.{pick}
 
 -- The last k decimal digits of n, the highest first, with no zero in front.

@@ -1,5 +1,6 @@
 -- A lent buffer after a text was written into it: as much as has room.
-use Rattle.basis.specs.Prelude.{ℕ, ◌+◌, min, List, [], ◌∷◌, ◌++◌, length, set, take, drop, ltb}
+use Rattle.std.specs.Prelude.{◌+◌, ◌∷◌, ◌++◌}
+use Rattle.basis.specs.Prelude.{ℕ, min, List, [], length, set, take, drop, ltb}
 use Rattle.basis.specs.Words.{pick}
 
 -- A buffer, and a place in it.

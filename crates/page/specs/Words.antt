@@ -1,5 +1,6 @@
 -- The bytes that stand between words and after a line.
-use Rattle.basis.specs.Prelude.{ℕ, List, [], ◌∷◌}
+use Rattle.std.specs.Prelude.{◌∷◌}
+use Rattle.basis.specs.Prelude.{ℕ, List, []}
 
 -- A space.
 abbrev pub space : List ℕ

@@ -1,5 +1,6 @@
 -- Wrong ways to write into a lent buffer, each right but for one thing.
-use Rattle.basis.specs.Prelude.{ℕ, zero, suc, ◌+◌, ◌/◌, ◌%◌, List, [], ◌∷◌, ◌++◌, ltb}
+use Rattle.std.specs.Prelude.{◌+◌, ◌/◌, ◌%◌, ◌∷◌, ◌++◌}
+use Rattle.basis.specs.Prelude.{ℕ, zero, suc, List, [], ltb}
 use Rattle.basis.specs.Words.{pick}
 use Rattle.page.specs.Pages.{Page, put_one, said}
 use Rattle.page.specs.Decimals.{decimal}

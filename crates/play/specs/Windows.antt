@@ -1,5 +1,6 @@
 -- What a window over a file promises.
-use Rattle.basis.specs.Prelude.{ℕ, ◌+◌, ◌≤◌, ◌≡◌, false, List, length}
+use Rattle.std.specs.Prelude.{◌+◌, ◌≤◌, ◌≡◌}
+use Rattle.basis.specs.Prelude.{ℕ, false, List, length}
 use Rattle.scenario.specs.Longest.{slot_reach}
 use Rattle.play.specs.declared.window.Window.{Window}
 

@@ -1,5 +1,6 @@
 -- What the reader and the label answer.
-use Rattle.basis.specs.Prelude.{ℕ, ◌+◌, List, map, length, take, drop, replicate, ltb}
+use Rattle.std.specs.Prelude.{◌+◌}
+use Rattle.basis.specs.Prelude.{ℕ, List, map, length, take, drop, replicate, ltb}
 use Rattle.std.specs.Borrow.{Bor}
 use Rattle.basis.specs.Limits.{most_rows}
 use Rattle.basis.specs.Words.{pick}

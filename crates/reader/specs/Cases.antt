@@ -1,5 +1,6 @@
 -- A worked sheet with two equal labels.
-use Rattle.basis.specs.Prelude.{ℕ, List, [], ◌∷◌}
+use Rattle.std.specs.Prelude.{◌∷◌}
+use Rattle.basis.specs.Prelude.{ℕ, List, []}
 use Rattle.reader.specs.declared.row.Part.{Part}
 
 -- Two rows, each with the label pump: sheet E of the table.

@@ -1,5 +1,6 @@
 -- The form of a sheet, read from left to right: the first fault decides.
-use Rattle.basis.specs.Prelude.{ℕ, zero, suc, List, [], ◌∷◌, Bool}
+use Rattle.std.specs.Prelude.{◌∷◌}
+use Rattle.basis.specs.Prelude.{ℕ, zero, suc, List, [], Bool}
 use Rattle.basis.specs.Limits.{Limits, limits, longest_label}
 use Rattle.basis.specs.Words.{pick, within}
 use Rattle.basis.specs.Readers.{Reader, ◌>>=◌, ◌>>◌, give, refuse_at, here, byte, enough, end, marked}

@@ -1,5 +1,6 @@
 -- What reading into lent lists answers: the sheet's list, and the list of where each label lies.
-use Rattle.basis.specs.Prelude.{ℕ, ◌+◌, ◌*◌, List, length}
+use Rattle.std.specs.Prelude.{◌+◌, ◌*◌}
+use Rattle.basis.specs.Prelude.{ℕ, List, length}
 use Rattle.basis.specs.Refusals.{Outcome, or_else, room_for, handed}
 use Rattle.basis.specs.Upto.{upto, pair_cell}
 use Rattle.sheet.specs.Lists.{number_at, sheet_cell, sheet_long}

@@ -1,5 +1,6 @@
 -- The longest sheet.
-use Rattle.basis.specs.Prelude.{ℕ, ◌+◌, ◌*◌, length}
+use Rattle.std.specs.Prelude.{◌+◌, ◌*◌}
+use Rattle.basis.specs.Prelude.{ℕ, length}
 use Rattle.basis.specs.Limits.{most_processors, most_rows, longest_label, most_separation}
 use Rattle.numbers.specs.Numbers.{width}
 use Rattle.reader.specs.Form.{mark_bytes}

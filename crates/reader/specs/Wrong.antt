@@ -1,5 +1,6 @@
 -- Wrong rules of the reader and of the labels, each the rule of document 01 but for one thing, and the bytes that tell them.
-use Rattle.basis.specs.Prelude.{ℕ, zero, suc, ◌+◌, List, [], ◌∷◌, ◌++◌, length, take, drop, replicate, leb}
+use Rattle.std.specs.Prelude.{◌+◌, ◌∷◌, ◌++◌}
+use Rattle.basis.specs.Prelude.{ℕ, zero, suc, List, [], length, take, drop, replicate, leb}
 use Rattle.std.specs.Borrow.{Bor}
 use Rattle.basis.specs.Limits.{most_processors, most_rows, longest_label, most_separation}
 use Rattle.basis.specs.Words.{pick}

@@ -1,5 +1,6 @@
 -- One slot of one row, in five steps: what its job becomes, and its code.
-use Rattle.basis.specs.Prelude.{ℕ, ◌+◌, ◌-◌, Bool, ltb, leb, eqb}
+use Rattle.std.specs.Prelude.{◌+◌, ◌-◌}
+use Rattle.basis.specs.Prelude.{ℕ, Bool, ltb, leb, eqb}
 use Rattle.basis.specs.Words.{pick, both}
 use Rattle.sheet.specs.declared.row.Row.{Row}
 use Rattle.records.specs.declared.record.Job.{Job}

@@ -1,5 +1,6 @@
 -- Wrong rules for one row, each that of 01 but for one thing, and the rows and records that tell them apart.
-use Rattle.basis.specs.Prelude.{ℕ, ◌+◌, ◌-◌, Bool, true, ltb, leb, eqb}
+use Rattle.std.specs.Prelude.{◌+◌, ◌-◌}
+use Rattle.basis.specs.Prelude.{ℕ, Bool, true, ltb, leb, eqb}
 use Rattle.basis.specs.Words.{pick, both, within}
 use Rattle.basis.specs.Refusals.{Outcome, accepted, refused}
 use Rattle.sheet.specs.declared.row.Row.{Row}

@@ -1,5 +1,6 @@
 -- What the reader of a slot, the reader and the writer of a scenario answer, and what they leave in the list and in the buffer.
-use Rattle.basis.specs.Prelude.{ℕ, ◌%◌, List, length, get_or, ltb, eqb}
+use Rattle.std.specs.Prelude.{◌%◌}
+use Rattle.basis.specs.Prelude.{ℕ, List, length, get_or, ltb, eqb}
 use Rattle.basis.specs.Limits.{most_rows}
 use Rattle.basis.specs.Words.{pick}
 use Rattle.basis.specs.Refusals.{Outcome, accepted, refused, outcome, first_of}

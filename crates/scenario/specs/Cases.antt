@@ -1,5 +1,6 @@
 -- Worked scenarios.
-use Rattle.basis.specs.Prelude.{ℕ, List, [], ◌∷◌}
+use Rattle.std.specs.Prelude.{◌∷◌}
+use Rattle.basis.specs.Prelude.{ℕ, List, []}
 use Rattle.basis.specs.Readers.{Step, ok, refuse}
 use Rattle.sheet.specs.Values.{no_rows}
 use Rattle.sheet.specs.declared.row.Sheet.{Sheet}

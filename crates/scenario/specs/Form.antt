@@ -1,5 +1,6 @@
 -- The form of a scenario file, read from left to right: the first fault decides.
-use Rattle.basis.specs.Prelude.{ℕ, zero, suc, ◌+◌, List, [], ◌∷◌, ◌++◌, length, set, replicate, ltb}
+use Rattle.std.specs.Prelude.{◌+◌, ◌∷◌, ◌++◌}
+use Rattle.basis.specs.Prelude.{ℕ, zero, suc, List, [], length, set, replicate, ltb}
 use Rattle.basis.specs.Words.{pick}
 use Rattle.basis.specs.Readers.{ok, Reader, ◌>>=◌, ◌>>◌, give, refuse_at, here, marked}
 use Rattle.numbers.specs.Numbers.{number, up_to}

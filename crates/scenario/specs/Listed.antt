@@ -1,5 +1,6 @@
 -- The refusals of a scenario's reader and writer, each with its place, as the table has them.
-use Rattle.basis.specs.Prelude.{ℕ, ◌<◌, ◌≡◌, List, length}
+use Rattle.std.specs.Prelude.{◌<◌, ◌≡◌}
+use Rattle.basis.specs.Prelude.{ℕ, List, length}
 
 -- What the reader of a file of these bytes may refuse by: 10 at 0; 1 at 0; 2 at the length; 3, 14, 20 and 12 at a byte of the file; 15 at 0.
 pub data ReadRefusal (s : List ℕ) (number place : ℕ) : Type 0 where

@@ -1,5 +1,6 @@
 -- The longest scenario of so many slots, and how far the reading of a slot looks.
-use Rattle.basis.specs.Prelude.{ℕ, ◌+◌, ◌*◌, length}
+use Rattle.std.specs.Prelude.{◌+◌, ◌*◌}
+use Rattle.basis.specs.Prelude.{ℕ, length}
 use Rattle.basis.specs.Limits.{most_groups, most_rows, most_separation}
 use Rattle.basis.specs.Words.{sum}
 use Rattle.numbers.specs.Numbers.{width}

@@ -1,5 +1,6 @@
 -- A window of a file: a part of its bytes at which a slot is read in the place of the whole.
-use Rattle.basis.specs.Prelude.{ℕ, ◌+◌, ◌≤◌, ◌≡◌, ◌⊎◌, List, [], length}
+use Rattle.std.specs.Prelude.{◌+◌, ◌≤◌, ◌≡◌, ◌⊎◌}
+use Rattle.basis.specs.Prelude.{ℕ, List, [], length}
 use Rattle.basis.specs.Refusals.{Outcome, accepted, refused}
 use Rattle.basis.specs.Readers.{Step, ok, refuse}
 use Rattle.scenario.specs.Answers.{FoundSlot, found_slot}

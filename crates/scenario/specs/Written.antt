@@ -1,5 +1,6 @@
 -- How a scenario is written.
-use Rattle.basis.specs.Prelude.{ℕ, zero, suc, ◌/◌, List, [], ◌∷◌, ◌++◌, length, take, drop, eqb}
+use Rattle.std.specs.Prelude.{◌/◌, ◌∷◌, ◌++◌}
+use Rattle.basis.specs.Prelude.{ℕ, zero, suc, List, [], length, take, drop, eqb}
 use Rattle.basis.specs.Words.{pick}
 use Rattle.numbers.specs.Numbers.{spell}
 use Rattle.sheet.specs.declared.row.Sheet.{Sheet}

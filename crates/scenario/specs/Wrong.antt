@@ -1,5 +1,6 @@
 -- Wrong rules of a scenario, each the rule of wish 1 but for one thing, and the files and lists that tell them.
-use Rattle.basis.specs.Prelude.{ℕ, zero, suc, ◌+◌, ◌-◌, ◌/◌, List, [], ◌∷◌, ◌++◌, length, set, take, drop, ltb, leb}
+use Rattle.std.specs.Prelude.{◌+◌, ◌-◌, ◌/◌, ◌∷◌, ◌++◌}
+use Rattle.basis.specs.Prelude.{ℕ, zero, suc, List, [], length, set, take, drop, ltb, leb}
 use Rattle.basis.specs.Words.{pick}
 use Rattle.basis.specs.Refusals.{Outcome, accepted, refused}
 use Rattle.basis.specs.Readers.{Reader, after, ◌>>=◌, ◌>>◌, give, refuse_at, here, marked}

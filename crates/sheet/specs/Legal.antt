@@ -1,5 +1,6 @@
 -- The ranges of a sheet that is handed over.
-use Rattle.basis.specs.Prelude.{ℕ, ◌≤◌, ◌<◌, Bool, ◌≡◌, get_or}
+use Rattle.std.specs.Prelude.{◌≤◌, ◌<◌, ◌≡◌}
+use Rattle.basis.specs.Prelude.{ℕ, Bool, get_or}
 use Rattle.basis.specs.Limits.{most_processors, most_rows, most_separation}
 use Rattle.basis.specs.Words.{both, within, all_of}
 use Rattle.sheet.specs.declared.row.Row.{Row}

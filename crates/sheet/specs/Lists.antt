@@ -1,5 +1,6 @@
 -- A sheet as a list of plain numbers.
-use Rattle.basis.specs.Prelude.{ℕ, ◌+◌, ◌-◌, ◌*◌, ◌/◌, ◌%◌, Bool, List, length, get_or, ltb, leb, eqb}
+use Rattle.std.specs.Prelude.{◌+◌, ◌-◌, ◌*◌, ◌/◌, ◌%◌}
+use Rattle.basis.specs.Prelude.{ℕ, Bool, List, length, get_or, ltb, leb, eqb}
 use Rattle.basis.specs.Limits.{most_rows}
 use Rattle.basis.specs.Words.{pick}
 use Rattle.basis.specs.Upto.{upto}

@@ -1,5 +1,6 @@
 -- A sheet by value: its rows, with zeros past them.
-use Rattle.basis.specs.Prelude.{ℕ, ◌-◌, List, ◌++◌, length, replicate}
+use Rattle.std.specs.Prelude.{◌-◌, ◌++◌}
+use Rattle.basis.specs.Prelude.{ℕ, List, length, replicate}
 use Rattle.basis.specs.Limits.{most_rows}
 use Rattle.sheet.specs.Legal.{no_row}
 use Rattle.sheet.specs.declared.row.Row.{Row}

@@ -1,5 +1,6 @@
 -- Wrong rules of a sheet and its list, each the rule of document 01 but for one thing, and the lists that tell them.
-use Rattle.basis.specs.Prelude.{ℕ, ◌+◌, ◌-◌, ◌/◌, ◌%◌, Bool, true, false, List, [], ◌∷◌, get_or, ltb, eqb}
+use Rattle.std.specs.Prelude.{◌+◌, ◌-◌, ◌/◌, ◌%◌, ◌∷◌}
+use Rattle.basis.specs.Prelude.{ℕ, Bool, true, false, List, [], get_or, ltb, eqb}
 use Rattle.basis.specs.Limits.{most_processors, most_rows, most_separation}
 use Rattle.basis.specs.Words.{pick, both, within, all_of}
 use Rattle.basis.specs.Upto.{upto}

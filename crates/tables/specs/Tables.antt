@@ -1,5 +1,6 @@
 -- Sheets A to F, as the table of document 01 has them: rows as (threads, T, D, C).
-use Rattle.basis.specs.Prelude.{ℕ, List, [], ◌∷◌, length, get_or}
+use Rattle.std.specs.Prelude.{◌∷◌}
+use Rattle.basis.specs.Prelude.{ℕ, List, [], length, get_or}
 use Rattle.sheet.specs.Values.{padded, no_sheet}
 use Rattle.sheet.specs.declared.row.Row.{Row}
 use Rattle.sheet.specs.declared.row.Sheet.{Sheet}

@@ -1,5 +1,6 @@
 -- Wrong tables, each right but for one thing.
-use Rattle.basis.specs.Prelude.{ℕ, [], ◌∷◌, get_or}
+use Rattle.std.specs.Prelude.{◌∷◌}
+use Rattle.basis.specs.Prelude.{ℕ, [], get_or}
 use Rattle.sheet.specs.Values.{no_sheet}
 use Rattle.sheet.specs.declared.row.Sheet.{Sheet}
 use Rattle.tables.specs.Tables.{row, sheet_of, sheet_a, sheet_b, sheet_c, sheet_d, sheet_f, fixed_sheets}

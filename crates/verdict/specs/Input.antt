@@ -1,5 +1,6 @@
 -- What reading standard input promises.
-use Rattle.basis.specs.Prelude.{ℕ, ◌≤◌, List, length}
+use Rattle.std.specs.Prelude.{◌≤◌}
+use Rattle.basis.specs.Prelude.{ℕ, List, length}
 use Rattle.verdict.specs.declared.input.Input.{Input}
 use Rattle.verdict.specs.declared.input.Input.TheVariants.{Failed, Read}
 

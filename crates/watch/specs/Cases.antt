@@ -1,5 +1,6 @@
 -- The texts of worked runs from a fresh machine, byte for byte.
-use Rattle.basis.specs.Prelude.{ℕ, ◌≡◌, List, [], ◌∷◌}
+use Rattle.std.specs.Prelude.{◌≡◌, ◌∷◌}
+use Rattle.basis.specs.Prelude.{ℕ, List, []}
 use Rattle.sheet.specs.declared.row.Sheet.{Sheet}
 use Rattle.tables.specs.Tables.{fixed_sheet}
 use Rattle.machine.specs.Answers.{fresh}

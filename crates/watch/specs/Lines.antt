@@ -1,5 +1,6 @@
 -- The lines of a run, byte for byte.
-use Rattle.basis.specs.Prelude.{ℕ, List, [], ◌∷◌, ◌++◌}
+use Rattle.std.specs.Prelude.{◌∷◌, ◌++◌}
+use Rattle.basis.specs.Prelude.{ℕ, List, []}
 use Rattle.page.specs.Decimals.{decimal}
 use Rattle.page.specs.Words.{space, newline}
 use Rattle.watch.specs.declared.ends.File.{File}

@@ -1,5 +1,6 @@
 -- The longest line, and the buffer that a program lends.
-use Rattle.basis.specs.Prelude.{ℕ, ◌+◌, ◌*◌, List, replicate}
+use Rattle.std.specs.Prelude.{◌+◌, ◌*◌}
+use Rattle.basis.specs.Prelude.{ℕ, List, replicate}
 use Rattle.basis.specs.Limits.{most_rows}
 use Rattle.page.specs.Decimals.{most_digits}
 

@@ -1,5 +1,6 @@
 -- The text of a slot that is played, and of a whole run.
-use Rattle.basis.specs.Prelude.{ℕ, zero, suc, List, [], ◌++◌, take, drop, replicate}
+use Rattle.std.specs.Prelude.{◌++◌}
+use Rattle.basis.specs.Prelude.{ℕ, zero, suc, List, [], take, drop, replicate}
 use Rattle.basis.specs.Limits.{most_rows}
 use Rattle.basis.specs.Refusals.{Outcome, accepted, refused}
 use Rattle.sheet.specs.declared.row.Sheet.{Sheet}

@@ -1,5 +1,6 @@
 -- Wrong rules of the lines and the buffer, each the right one but for one thing, and the lists that tell them.
-use Rattle.basis.specs.Prelude.{ℕ, suc, ◌-◌, List, [], ◌∷◌, take, replicate}
+use Rattle.std.specs.Prelude.{◌-◌, ◌∷◌}
+use Rattle.basis.specs.Prelude.{ℕ, suc, List, [], take, replicate}
 use Rattle.basis.specs.Refusals.{Outcome, accepted, refused}
 use Rattle.sheet.specs.declared.row.Sheet.{Sheet}
 use Rattle.machine.specs.Answers.{SlotAnswer}

@@ -1,5 +1,6 @@
 -- What is written from a sheet's numbers and the labels of its rows, and what the writer answers.
-use Rattle.basis.specs.Prelude.{ℕ, zero, suc, ◌+◌, List, [], ◌∷◌, ◌++◌, length, get_or, take, drop, Bool, leb}
+use Rattle.std.specs.Prelude.{◌+◌, ◌∷◌, ◌++◌}
+use Rattle.basis.specs.Prelude.{ℕ, zero, suc, List, [], length, get_or, take, drop, Bool, leb}
 use Rattle.basis.specs.Limits.{longest_label}
 use Rattle.basis.specs.Words.{pick, both, within, all_of}
 use Rattle.basis.specs.Refusals.{Outcome, accepted, refused, or_else, first_of, needed}

@@ -1,5 +1,6 @@
 -- Worked sheets, as they are held.
-use Rattle.basis.specs.Prelude.{ℕ, List, [], ◌∷◌, replicate}
+use Rattle.std.specs.Prelude.{◌∷◌}
+use Rattle.basis.specs.Prelude.{ℕ, List, [], replicate}
 use Rattle.basis.specs.Limits.{most_processors, most_rows, longest_label, most_separation}
 use Rattle.reader.specs.Form.{Entry, Held}
 

@@ -1,5 +1,6 @@
 -- How a sheet is written: the same form that the reader reads.
-use Rattle.basis.specs.Prelude.{ℕ, List, [], ◌∷◌, ◌++◌, length}
+use Rattle.std.specs.Prelude.{◌∷◌, ◌++◌}
+use Rattle.basis.specs.Prelude.{ℕ, List, [], length}
 use Rattle.numbers.specs.Numbers.{spell}
 use Rattle.sheet.specs.declared.row.Row.{Row}
 use Rattle.reader.specs.Form.{Entry, Held, mark_bytes}

@@ -1,5 +1,6 @@
 -- What a file can hold: every number in its range, and a label for every row.
-use Rattle.basis.specs.Prelude.{ℕ, ◌≤◌, true, ◌≡◌, length}
+use Rattle.std.specs.Prelude.{◌≤◌, ◌≡◌}
+use Rattle.basis.specs.Prelude.{ℕ, true, length}
 use Rattle.basis.specs.Limits.{most_processors, most_rows}
 use Rattle.basis.specs.Words.{Each}
 use Rattle.sheet.specs.Legal.{LegalRow}

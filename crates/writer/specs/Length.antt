@@ -1,5 +1,6 @@
 -- How many bytes a sheet takes: a sum over its rows.
-use Rattle.basis.specs.Prelude.{ℕ, ◌+◌, List, length}
+use Rattle.std.specs.Prelude.{◌+◌}
+use Rattle.basis.specs.Prelude.{ℕ, List, length}
 use Rattle.basis.specs.Words.{sum}
 use Rattle.numbers.specs.Numbers.{width}
 use Rattle.sheet.specs.Legal.{row_at}

@@ -1,5 +1,6 @@
 -- The refusals of the writer, each with its place, as the table has them.
-use Rattle.basis.specs.Prelude.{ℕ, ◌<◌, ◌≡◌}
+use Rattle.std.specs.Prelude.{◌<◌, ◌≡◌}
+use Rattle.basis.specs.Prelude.{ℕ}
 
 -- What the writer of a sheet of n rows may refuse by: 10 at 0, 6 at a row, 15 at 0.
 pub data SheetRefusal (n number place : ℕ) : Type 0 where

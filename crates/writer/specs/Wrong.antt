@@ -1,5 +1,6 @@
 -- Wrong rules of a sheet that is written, each the rule of wish 2 but for one thing, and the lists and bytes that tell them.
-use Rattle.basis.specs.Prelude.{ℕ, zero, suc, ◌+◌, ◌/◌, ◌%◌, List, [], ◌∷◌, ◌++◌, map, length, set, take, replicate, ltb}
+use Rattle.std.specs.Prelude.{◌+◌, ◌/◌, ◌%◌, ◌∷◌, ◌++◌}
+use Rattle.basis.specs.Prelude.{ℕ, zero, suc, List, [], map, length, set, take, replicate, ltb}
 use Rattle.basis.specs.Limits.{most_groups}
 use Rattle.basis.specs.Words.{pick}
 use Rattle.basis.specs.Refusals.{Outcome, accepted, refused, is_accepted, or_else, first_of, needed, room_for}

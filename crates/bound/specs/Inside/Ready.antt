@@ -1,5 +1,6 @@
 -- The facts that the functions below the public ones are called with.
-use Rattle.basis.specs.Prelude.{ℕ, ◌+◌, ◌*◌, ◌≤◌, ◌<◌, ◌≡◌, Bool, false, List, length}
+use Rattle.std.specs.Prelude.{◌+◌, ◌*◌, ◌≤◌, ◌<◌, ◌≡◌}
+use Rattle.basis.specs.Prelude.{ℕ, Bool, false, List, length}
 use Rattle.basis.specs.Limits.{most_processors}
 use Rattle.basis.specs.Words.{all_of}
 use Rattle.basis.specs.Upto.{upto}

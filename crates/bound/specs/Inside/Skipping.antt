@@ -1,5 +1,6 @@
 -- Which lengths may be skipped: what the functions of the search say of lengths that fail. No promise of a public function speaks of it.
-use Rattle.basis.specs.Prelude.{ℕ, ◌+◌, ◌*◌, ◌-◌, ◌≤◌, ◌<◌, min, ◌≡◌, Bool, true, false, leb, ltb}
+use Rattle.std.specs.Prelude.{◌+◌, ◌*◌, ◌-◌, ◌≤◌, ◌<◌, ◌≡◌}
+use Rattle.basis.specs.Prelude.{ℕ, min, Bool, true, false, leb, ltb}
 use Rattle.basis.specs.Limits.{most_processors}
 use Rattle.basis.specs.Words.{pick}
 use Rattle.sheet.specs.Legal.{row_at}

@@ -1,5 +1,6 @@
 -- What the functions inside ask of the lists that they are lent. No promise of a public function speaks of it.
-use Rattle.basis.specs.Prelude.{ℕ, ◌≤◌, ◌<◌, ◌≡◌, List, length}
+use Rattle.std.specs.Prelude.{◌≤◌, ◌<◌, ◌≡◌}
+use Rattle.basis.specs.Prelude.{ℕ, List, length}
 use Rattle.sheet.specs.Lists.{sheet_long}
 use Rattle.reader.specs.Answers.{reading, label_in}
 use Rattle.reader.specs.Lists.{labels_long, part_in}

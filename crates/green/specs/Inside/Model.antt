@@ -1,5 +1,6 @@
 -- The rows of a box and its slots as the argument for green sees them: functions of the row number, free of how a machine stores its rows.
-use Rattle.basis.specs.Prelude.{ℕ, zero, suc, ◌+◌, ◌*◌, ◌-◌, ◌≤◌, ◌<◌, min, ◌≡◌, List, [], ◌∷◌, length}
+use Rattle.std.specs.Prelude.{◌+◌, ◌*◌, ◌-◌, ◌≤◌, ◌<◌, ◌≡◌, ◌∷◌}
+use Rattle.basis.specs.Prelude.{ℕ, zero, suc, min, List, [], length}
 use Rattle.basis.specs.Words.{sum, Each}
 use Rattle.basis.specs.Workload.{ω}
 

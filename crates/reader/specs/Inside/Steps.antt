@@ -1,5 +1,6 @@
 -- What the functions inside the reader answer. No promise of a public function speaks of it.
-use Rattle.basis.specs.Prelude.{ℕ, ◌+◌, ◌*◌, ◌≡◌, List, length, set}
+use Rattle.std.specs.Prelude.{◌+◌, ◌*◌, ◌≡◌}
+use Rattle.basis.specs.Prelude.{ℕ, List, length, set}
 use Rattle.basis.specs.Limits.{longest_label, most_separation}
 use Rattle.basis.specs.Readers.{Step, ok, refuse, Reader, ◌>>=◌, ◌>>◌, give}
 use Rattle.basis.specs.Refusals.{Outcome, or_else, room_for, handed}

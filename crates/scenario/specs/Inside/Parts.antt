@@ -1,5 +1,6 @@
 -- What the functions inside the reader and the writer answer; no promise of a public function speaks of them.
-use Rattle.basis.specs.Prelude.{ℕ, ◌/◌, ◌≡◌, List, [], ◌++◌, length, take, drop, eqb}
+use Rattle.std.specs.Prelude.{◌/◌, ◌≡◌, ◌++◌}
+use Rattle.basis.specs.Prelude.{ℕ, List, [], length, take, drop, eqb}
 use Rattle.basis.specs.Words.{pick}
 use Rattle.basis.specs.Readers.{Step, ok, refuse}
 use Rattle.numbers.specs.Numbers.{spell}

@@ -1,5 +1,6 @@
 -- How the code makes the fixed sheets. No promise of a public function speaks of it.
-use Rattle.basis.specs.Prelude.{ℕ, [], ◌∷◌}
+use Rattle.std.specs.Prelude.{◌∷◌}
+use Rattle.basis.specs.Prelude.{ℕ, []}
 use Rattle.sheet.specs.Values.{padded}
 use Rattle.sheet.specs.declared.row.Row.{Row}
 use Rattle.sheet.specs.declared.row.Sheet.{Sheet}

@@ -1,5 +1,6 @@
 -- How far the functions inside the writer come, at most; no promise of a public function speaks of it.
-use Rattle.basis.specs.Prelude.{ℕ, ◌+◌, ◌*◌}
+use Rattle.std.specs.Prelude.{◌+◌, ◌*◌}
+use Rattle.basis.specs.Prelude.{ℕ}
 use Rattle.basis.specs.Limits.{most_groups, most_rows, longest_label}
 
 -- What stands before the rows: the mark, and two numbers.
