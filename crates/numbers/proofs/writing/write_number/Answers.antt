@@ -6,6 +6,8 @@ use Rattle.numbers.proofs.writing.write_number.Goals as goal
 pub loop-left-init : goal.loop-left-init
 loop-left-init c = (measured_none _, search rules, stored_none _ _ _)
 
+-- The last group: what is left of the value is less than 128,
+-- so that it takes one group more, and is stored as it is.
 pub returns-then-v-lt128 : goal.returns-then-v-lt128
 returns-then-v-lt128 c = (search measured_last, search rules, search stored_last)
 
