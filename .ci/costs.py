@@ -7,7 +7,7 @@ same measure; where it takes less, or the log has no seconds of it, the limit st
 
 A crate over the limit is told. What rt prints are seconds of a clock, and a machine that other work slows down from one minute to the next makes a check several times as long; so the
 gate fails only where a crate is over SURELY times the limit, or where the log does not say of a crate that it is proved, in this run or an earlier one, or of an edit that it is
-refused. A crate has no seconds where an earlier run proved it, and where rt prints none: what its edits cost is then not held, and the script says of which crates that is so.
+refused. A crate has no seconds where an earlier run proved it, and where rt prints none: it may then have MOST edits, and the script says of which crates that is so.
 """
 import glob
 import os
@@ -18,6 +18,7 @@ LIMIT = 90
 SMALL = "basis"
 BASE = 3.3
 SURELY = 2
+MOST = 10
 
 
 def crates(text):
@@ -62,11 +63,15 @@ def faults(names, kept, log, times=1):
                 f"the crate {name} has {len(edits[name])} edits of {check[name]:.0f} s each, {cost:.0f} s together: {limit:.0f} s is the most; "
                 "say a wrong rule as a theorem, take an edit out, or split the crate"
             )
+        if name in proofs and name not in check and len(kept.get(name, [])) > MOST:
+            out.append(
+                f"the crate {name}, of which the log has no seconds, has {len(kept[name])} edits: {MOST} is the most; say a wrong rule as a theorem, take an edit out, or split the crate"
+            )
     return out
 
 
 def passed_over(names, log):
-    """The crates that are proved but have no seconds, so that what their edits cost is not held."""
+    """The crates that are proved but have no seconds, so that the number of their edits is held and not what they cost."""
     proofs, check = told(log)[0], checks(log)
     return [name for name in names if name in proofs and name not in check]
 
@@ -83,7 +88,7 @@ def main():
         print("costs:", fault)
     over = passed_over(names, log)
     if over:
-        print(f"costs: passed over, since the log has no seconds of them: {' '.join(over)}")
+        print(f"costs: held by the number of their edits, since the log has no seconds of them: {' '.join(over)}")
     sure = faults(names, kept, log, SURELY)
     print(
         f"costs: {len(names)} crates, {sum(map(len, kept.values()))} edits, {len(names) - len(over)} crates held by their seconds, {len(found)} over the limit or not told, "

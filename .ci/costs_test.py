@@ -51,6 +51,15 @@ def slower(log, times):
     return re.sub(r"(\d+) s\)", lambda m: f"{round(int(m.group(1)) * times)} s)", log)
 
 
+# More edits of one crate, and what a log without seconds says of so many of them.
+MANY = [f"edit_{i}" for i in range(11)]
+
+
+def many(count):
+    """The lines of a log that say of so many of these edits that they are refused."""
+    return "".join(f"rt: must-fail sheet/{label}.edit: refused, as it must be\n" for label in MANY[:count])
+
+
 SLOW = LOG.replace("29 s", "50 s").replace("30 s", "50 s").replace("40 s", "50 s")
 
 # What is changed, the edits that the crates have, the log, and a part of what has to be told, or nothing.
@@ -76,12 +85,15 @@ CASES = [
     ("no seconds, and a crate that is not proved", KEPT, PLAIN.replace(SHEET_IS_KEPT, ""), "does not say that the crate sheet is proved"),
     ("no seconds, and an edit that is not refused", KEPT, PLAIN.replace("first.edit: refused, as it must be", "first.edit: NOT REFUSED"), "does not say that the edit sheet/first is refused"),
     ("no seconds, and a bad edit", KEPT, PLAIN.replace("other_mark.edit: refused, as it must be", "other_mark.edit: BAD EDIT"), "does not say that the edit basis/other_mark is refused"),
+    ("no seconds, and as many edits as a crate may have", {**KEPT, "sheet": MANY[:10]}, PLAIN + many(10), None),
+    ("no seconds, and an edit more than a crate may have", {**KEPT, "sheet": MANY}, PLAIN + many(11), "the crate sheet, of which the log has no seconds, has 11 edits: 10 is the most"),
     ("no seconds, and an edit that was not tried", FOUR, PLAIN, "does not say that the edit sheet/fourth is refused"),
 ]
 
 # The same for what the gate fails by.
 SURE_CASES = [
     ("a slower crate, told and let pass", KEPT, SLOW, None),
+    ("an edit more than a crate without seconds may have, surely", {**KEPT, "sheet": MANY}, PLAIN + many(11), "has 11 edits: 10 is the most"),
     ("a crate that is surely too slow", KEPT, SLOW.replace("50 s", "150 s"), "the crate sheet has 3 edits of 150 s each"),
     ("a crate that is not proved, surely", KEPT, LOG.replace("rt: verdict proved (12 s)", ""), "does not say that the crate verdict is proved"),
     ("an edit that is not refused, surely", KEPT, PLAIN.replace("first.edit: refused, as it must be", "first.edit: NOT REFUSED"), "does not say that the edit sheet/first is refused"),
