@@ -68,13 +68,9 @@ place_of n j slots rel cs now l a b e f g =
     let q : j * n + n ≤ length cs = room_for n j slots (length cs) l b in
     record { in_list = p; in_buffer = omega arith; in_codes = omega arith; small_place = omega arith; small_count = omega arith; small_rest = omega arith }
 
--- slot j of a run that has begun has room in the list and in the buffer
-module _ (h : Sheet) (rel cs : List ℕ) (b : Begun) (e : beginning_of b ≡ beginning h rel (length cs)) (j : ℕ) (l : j < b.slots) where
-  pub slot_in_list : j * h.count + h.count ≤ length rel
-  slot_in_list = room_for h.count j b.slots (length rel) l (begins h rel cs b e).in_list
-
-  pub slot_in_buffer : j * h.count + h.count ≤ length cs
-  slot_in_buffer = room_for h.count j b.slots (length cs) l (begins h rel cs b e).in_buffer
+pub place_begun : (h : Sheet) (rel cs now : List ℕ) (b : Begun) → beginning_of b ≡ beginning h rel (length cs) → (j : ℕ) → j < b.slots → length now ≡ length cs → length rel < 2 ^ 64 → length cs < 2 ^ 64 → Place h.count j rel cs now
+place_begun h rel cs now b e j l =
+    let k = begins h rel cs b e in place_of h.count j b.slots rel cs now l k.in_list k.in_buffer
 
 -- a slot of the loop, on its own entries and on the buffer from its place on, is slot j of the list
 pub slot_at_is : (h : Sheet) (t : State) (rel cs : List ℕ) (j : ℕ) (list : List ℕ) → list ≡ entries_of h.count j rel

@@ -1,7 +1,7 @@
 -- `box_run` meets its promise: its loop does the slots of the run's course, each on its own entries and on the buffer from its place on. Assumes nothing.
-use Rattle.basis.specs.Prelude.{◌^◌, ◌<◌, ◌∙◌, sym, length, rules, arith}
+use Rattle.basis.specs.Prelude.{◌∙◌, sym, rules, arith}
 use borrow.Rule.Slice.PartMut.{same_len_mid}
-use Rattle.aboard.proofs.Inside.BoxLoop.{begins, box_begins, slot_in_list, slot_in_buffer, slot_at_is, box_goes_on, box_stops, box_ends}
+use Rattle.aboard.proofs.Inside.BoxLoop.{begins, box_begins, place_begun, slot_at_is, box_goes_on, box_stops, box_ends}
 use Rattle.aboard.proofs.lent.box_run.Goals as goal
 
 pub loop-done-init : goal.loop-done-init
@@ -9,14 +9,15 @@ loop-done-init c = box_begins _ _ _ _ (begins _ _ _ _ c.begin-begun.ensures)
 
 pub overflow_mul-at : goal.overflow_mul-at
 overflow_mul-at c =
-    let small : length c.args.releases.now < 2 ^ 64 = search rules in
-    omega (arith, small, slot_in_list _ _ _ _ c.begin-begun.ensures _ c.loop-done-test.true)
+    omega (arith, (place_begun _ _ _ _ _ c.begin-begun.ensures _ c.loop-done-test.true c.loop-done.invariant.long (search rules) (search rules)).small_place)
 
 pub entries-list-requires : goal.entries-list-requires
-entries-list-requires c = slot_in_list _ _ _ _ c.begin-begun.ensures _ c.loop-done-test.true
+entries-list-requires c =
+    (place_begun _ _ _ _ _ c.begin-begun.ensures _ c.loop-done-test.true c.loop-done.invariant.long (search rules) (search rules)).in_list
 
 pub slice_bounds-slot_in-count : goal.slice_bounds-slot_in-count
-slice_bounds-slot_in-count c = omega (arith, slot_in_buffer _ _ _ _ c.begin-begun.ensures _ c.loop-done-test.true, c.loop-done.invariant.long)
+slice_bounds-slot_in-count c =
+    (place_begun _ _ _ _ _ c.begin-begun.ensures _ c.loop-done-test.true c.loop-done.invariant.long (search rules) (search rules)).in_codes
 
 pub slice_bounds-slot_in-start : goal.slice_bounds-slot_in-start
 slice_bounds-slot_in-start c = slice_bounds-slot_in-count c
