@@ -1,10 +1,11 @@
 -- Laws of what a writer answers: what it has done where it accepts, what it refuses by, and equal answers. Assumes nothing.
+use Rattle.std.specs.Prelude.{Result, Ok, Err}
 use Rattle.basis.specs.Prelude.{ℕ, ◌≤◌, ◌≡◌, refl, ap, ◌∙◌, Bool, true, false, List, arith, length, take, sets, leb, leb-true, le-leb}
 use Rattle.basis.specs.Words.{pick}
-use Rattle.basis.specs.Refusals.{Outcome, accepted, refused}
+use Rattle.basis.specs.Refusals.{Outcome, accepted, refused, refused_by}
 use Rattle.basis.specs.Lent.{Answer, answer, stored_at, written_told, nothing_by, put_all, written_by}
-use Rattle.basis.specs.declared.stored.Written.{Written}
-use Rattle.basis.proofs.Refusals.{outcome_one_to_one}
+use Rattle.basis.specs.declared.refusal.Refusal.{Refusal}
+use Rattle.basis.proofs.Refusals.{refused_by_one_to_one}
 use Rattle.basis.proofs.Same.{same}
 use Rattle.basis.proofs.Inside.Stores.{sets_front}
 
@@ -13,11 +14,11 @@ pub put_bytes_same : (l : List ℕ) (at : ℕ) (xs a b : List ℕ) → a ≡ sto
 put_bytes_same l at xs = same (stored_at l at xs)
 
 -- an answer stands for one value of the code, and for one buffer
-pub written_same : (x : Answer) (a b : Written) (m n : List ℕ) → written_told a m ≡ x → written_told b n ≡ x → (a ≡ b) × (m ≡ n)
-written_same x a b m n e f =
-    let g = same x (written_told a m) (written_told b n) e f in
-    let r = outcome_one_to_one a.refusal b.refusal (λ i. (g i).outcome) in
-    (λ i. record { refusal = r i; length = (g i).count }, λ i. (g i).lent)
+pub written_same : (x : Answer) (a b : Result ℕ Refusal) (m n : List ℕ) → written_told a m ≡ x → written_told b n ≡ x → (a ≡ b) × (m ≡ n)
+written_same x (Ok j) (Ok k) m n e f = let g = same x (written_told (Ok j) m) (written_told (Ok k) n) e f in (ap Ok (λ i. (g i).count), λ i. (g i).lent)
+written_same x (Ok j) (Err s) m n e f = let z : accepted ≡ refused_by s = λ i. (same x (written_told (Ok j) m) (written_told (Err s) n) e f i).outcome in cc
+written_same x (Err r) (Ok k) m n e f = let z : refused_by r ≡ accepted = λ i. (same x (written_told (Err r) m) (written_told (Ok k) n) e f i).outcome in cc
+written_same x (Err r) (Err s) m n e f = let g = same x (written_told (Err r) m) (written_told (Err s) n) e f in (ap Err (refused_by_one_to_one r s (λ i. (g i).outcome)), λ i. (g i).lent)
 
 module _ (k : ℕ) (xs l : List ℕ) where
   -- where there is room

@@ -1,4 +1,5 @@
 -- Two answers that one promise allows are equal. Assumes nothing.
+use Rattle.std.specs.Prelude.{Result}
 use Rattle.basis.specs.Prelude.{◌≡◌, sym, ap, ◌∙◌, Bool}
 use Rattle.basis.specs.Refusals.{Outcome, outcome, is_accepted}
 use Rattle.basis.specs.declared.refusal.Refusal.{Refusal}
@@ -19,11 +20,11 @@ pair_same {A} {B} x a b m n e f =
     (ap (λ (y : A × B). y.0) g, ap (λ (y : A × B). y.1) g)
 
 -- an outcome, and what is handed over beside it
-pub outcome_same : {A : Type 0} (x : Outcome × A) (a b : Refusal) (m n : A) → (outcome a, m) ≡ x → (outcome b, n) ≡ x → (a ≡ b) × (m ≡ n)
+pub outcome_same : {A : Type 0} (x : Outcome × A) (a b : Result (Unit {0}) Refusal) (m n : A) → (outcome a, m) ≡ x → (outcome b, n) ≡ x → (a ≡ b) × (m ≡ n)
 outcome_same x a b m n e f =
     let (o, h) = pair_same x (outcome a) (outcome b) m n e f in
     (outcome_one_to_one a b o, h)
 
 -- `is_accepted`
-pub is_accepted_same : (r : Refusal) (a b : Bool) → a ≡ is_accepted (outcome r) → b ≡ is_accepted (outcome r) → a ≡ b
+pub is_accepted_same : (r : Result (Unit {0}) Refusal) (a b : Bool) → a ≡ is_accepted (outcome r) → b ≡ is_accepted (outcome r) → a ≡ b
 is_accepted_same r = same (is_accepted (outcome r))

@@ -1,8 +1,9 @@
 -- What reading into a lent list and writing into a lent buffer answer, and what they leave there.
+use Rattle.std.specs.Prelude.{Result, Ok, Err}
 use Rattle.basis.specs.Prelude.{ℕ, List, length, sets, leb}
 use Rattle.basis.specs.Words.{pick}
-use Rattle.basis.specs.Refusals.{Outcome, accepted, refused, outcome}
-use Rattle.basis.specs.declared.stored.Written.{Written}
+use Rattle.basis.specs.Refusals.{Outcome, accepted, refused, refused_by}
+use Rattle.basis.specs.declared.refusal.Refusal.{Refusal}
 
 -- The buffer with these bytes from a place on, as far as there is room; all else in it is as it was.
 abbrev pub stored_at : List ℕ → ℕ → List ℕ → List ℕ
@@ -17,9 +18,10 @@ pub record Answer : Type 0 where
 abbrev pub answer : Outcome → ℕ → List ℕ → Answer
 answer o count lent = record { outcome = o; count = count; lent = lent }
 
--- What a writer's answer stands for, with its buffer.
-abbrev pub written_told : Written → List ℕ → Answer
-written_told r out = answer (outcome r.refusal) r.length out
+-- What an answer that counts stands for, with the list or the buffer that was lent; beside a refusal nothing is counted.
+abbrev pub written_told : Result ℕ Refusal → List ℕ → Answer
+written_told (Ok long) out = answer accepted long out
+written_told (Err r) out = answer (refused_by r) 0 out
 
 -- Refused: nothing is counted, and nothing is written.
 abbrev pub nothing_by : Outcome → List ℕ → Answer

@@ -1,7 +1,9 @@
 -- Readers: what reading bytes at a place gives, and how one reader follows another. The form of a file is written with `do` over them.
-use Rattle.std.specs.Prelude.{◌+◌, ◌<◌, ◌∷◌}
+use Rattle.std.specs.Prelude.{Result, Ok, Err, ◌+◌, ◌<◌, ◌∷◌}
 use Rattle.basis.specs.Prelude.{ℕ, List, [], Bool, true, false, length, get_or, ltb, leb, eqb}
 use Rattle.basis.specs.Words.{pick, both}
+use Rattle.basis.specs.Refusals.{told}
+use Rattle.basis.specs.declared.refusal.Refusal.{Refusal}
 
 -- Each element is a byte.
 abbrev pub Bytes : List ℕ → Type 0
@@ -11,6 +13,16 @@ Bytes s = (i : ℕ) → get_or s i 0 < 256
 pub data Step (A : Type 0) : Type 0 where
   ok : A → ℕ → Step A
   refuse : ℕ → ℕ → Step A
+
+-- The step that each answer of the code stands for: a value and the place after it, or an error's number and place.
+abbrev pub step : {A : Type 0} → Result (A × ℕ) Refusal → Step A
+step (Ok (a, n)) = ok a n
+step (Err r) = refuse (told r).0 (told r).1
+
+-- The same where nothing is handed over but the place after some bytes.
+abbrev pub passed_step : Result ℕ Refusal → Step (Unit {0})
+passed_step (Ok n) = ok tt n
+passed_step (Err r) = refuse (told r).0 (told r).1
 
 -- From the bytes and the place to read at.
 abbrev pub Reader : Type 0 → Type 0

@@ -1,18 +1,43 @@
 -- What a call says of itself: accepted, or refused, with the number and the place of the table of refusals.
 use Rattle.basis.specs.Prelude.{ℕ, zero, suc, Bool, true, false, leb}
 use Rattle.basis.specs.Words.{pick}
+use Rattle.std.specs.Prelude.{Result, Ok, Err}
 use Rattle.basis.specs.declared.refusal.Refusal.{Refusal}
-use Rattle.basis.specs.declared.refusal.Refusal.TheVariants.{Accepted, Refused}
+use Rattle.basis.specs.declared.refusal.Refusal.TheVariants.{Mark, Ends, Number, Processors, Rows, Label, Zero, Over, Trailing, Sheet, Releases, Budget, Soon, Row, Room, State, Order}
 
 -- Accepted, or refused by a number at a place.
 pub data Outcome : Type 0 where
   accepted : Outcome
   refused : ℕ → ℕ → Outcome
 
--- The outcome that each answer of the code stands for.
-abbrev pub outcome : Refusal → Outcome
-outcome Accepted = accepted
-outcome (Refused number place) = refused number place
+-- The number and the place of each refusal of the code.
+abbrev pub told : Refusal → ℕ × ℕ
+told Mark = (1, 0)
+told (Ends place) = (2, place)
+told (Number place) = (3, place)
+told (Processors place) = (4, place)
+told (Rows place) = (5, place)
+told (Label place) = (6, place)
+told (Zero place) = (7, place)
+told (Over place) = (8, place)
+told (Trailing place) = (9, place)
+told Sheet = (10, 0)
+told Releases = (11, 0)
+told (Budget place) = (12, place)
+told (Soon place) = (13, place)
+told (Row place) = (14, place)
+told Room = (15, 0)
+told State = (16, 0)
+told (Order place) = (20, place)
+
+-- The outcome that an error of the code stands for.
+abbrev pub refused_by : Refusal → Outcome
+refused_by r = refused (told r).0 (told r).1
+
+-- The outcome that each answer of the code stands for, whatever it hands over.
+abbrev pub outcome : {A : Type 0} → Result A Refusal → Outcome
+outcome (Ok a) = accepted
+outcome (Err r) = refused_by r
 
 -- Nothing is refused.
 abbrev pub is_accepted : Outcome → Bool

@@ -9,4 +9,4 @@ mod stored;
 pub use limits::{LONGEST_LABEL, MOST_GROUPS, MOST_PROCESSORS, MOST_ROWS, MOST_SEPARATION};
 pub use mark::begins_with;
 pub use refusal::Refusal;
-pub use stored::{Written, put_bytes};
+pub use stored::put_bytes;

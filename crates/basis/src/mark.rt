@@ -6,15 +6,8 @@ ghost use Rattle.basis.specs.Readers.{begins};
 pub fn begins_with<'a, 'b>(bytes: &'a [u8], mark: &'b [u8]) -> bool
     ensures { result ≡ begins mark.now bytes.now }
 {
-    let mut i: usize = 0;
-    while i < mark.len() {
-        if bytes.len() <= i {
-            return false;
-        }
-        if bytes[i] != mark[i] {
-            return false;
-        }
-        i += 1;
+    if bytes.len() < mark.len() {
+        return false;
     }
-    true
+    &bytes[..mark.len()] == mark
 }

@@ -1,9 +1,11 @@
 -- The laws of a number: one encoding, its range, equal answers; and the worked numbers. Assumes nothing.
-use Rattle.basis.specs.Prelude.{ℕ, ◌^◌, ◌<◌, ◌≡◌, sym, ◌∙◌, List, arith, length, take-length}
-use Rattle.numbers.proofs.Names.{most_groups, Bytes, ok, step, number, up_to}
+use Rattle.std.specs.Prelude.{Result, Ok, Err}
+use Rattle.basis.specs.Prelude.{ℕ, ◌^◌, ◌<◌, ◌≡◌, refl, sym, ap, ap₂, ◌∙◌, List, length, take-length}
+use Rattle.numbers.proofs.Names.{most_groups, Bytes, ok, step, number, up_to, up_to_by, step_by, ranged, UpTo}
 use Rattle.basis.proofs.Same.{same_by}
-use Rattle.numbers.specs.declared.number.Number.{Number}
-use Rattle.numbers.specs.declared.number.Number.TheVariants.{Is, Refused}
+use Rattle.basis.specs.Refusals.{told}
+use Rattle.basis.specs.declared.refusal.Refusal.{Refusal}
+use Rattle.basis.proofs.Refusals.{step_one_to_one}
 use Rattle.numbers.proofs.OneSpelling.{number_spelled}
 
 -- two byte strings that read as the same value, each to its end, are the same bytes
@@ -15,17 +17,43 @@ number_has_one_encoding s t bs bt v e f =
 pub number_is_below : (s : List ℕ) (at v n : ℕ) → Bytes s → number s at ≡ ok v n → v < 128 ^ most_groups
 number_is_below s at v n bs e = (number_spelled s at v n bs e).not_over
 
--- a step stands for one answer of the code
-pub step_one_to_one : (a b : Number) → step a ≡ step b → a ≡ b
-step_one_to_one (Is v n) (Is w m) e = cc
-step_one_to_one (Is v n) (Refused k p) e = let z : ◌≡◌ {A = ℕ} 0 1 = cc in absurd (omega arith)
-step_one_to_one (Refused k p) (Is v n) e = let z : ◌≡◌ {A = ℕ} 0 1 = cc in absurd (omega arith)
-step_one_to_one (Refused k p) (Refused j q) e = cc
-
 -- `read_number`
-pub read_number_same : (s : List ℕ) (at : ℕ) (a b : Number) → step a ≡ number s at → step b ≡ number s at → a ≡ b
+pub read_number_same : (s : List ℕ) (at : ℕ) (a b : Result (ℕ × ℕ) Refusal) → step a ≡ number s at → step b ≡ number s at → a ≡ b
 read_number_same s at = same_by step step_one_to_one (number s at)
 
 -- `read_up_to`
-pub read_up_to_same : (most under beyond : ℕ) (s : List ℕ) (at : ℕ) (a b : Number) → step a ≡ up_to most under beyond s at → step b ≡ up_to most under beyond s at → a ≡ b
+pub read_up_to_same : (most under beyond : ℕ) (s : List ℕ) (at : ℕ) (a b : Result (ℕ × ℕ) Refusal) → step a ≡ up_to most under beyond s at → step b ≡ up_to most under beyond s at → a ≡ b
 read_up_to_same most under beyond s at = same_by step step_one_to_one (up_to most under beyond s at)
+
+-- the range of a number by its errors is the range by their numbers, where both are told at its first byte
+pub ranged_is : (most under beyond : ℕ) (s : List ℕ) (at : ℕ) → ranged most (under, at) (beyond, at) s at ≡ up_to most under beyond s at
+unfolding up_to_by
+ranged_is most under beyond s at = refl
+
+-- what is promised of errors of some type, for one way of telling them
+module _ {E : Type 0} (makes : Refusal → E → Type 0) (tells : E → ℕ × ℕ) (agrees : (x : Refusal) (e : E) → makes x e → tells e ≡ told x) where
+  -- the range by the numbers that two errors are told by
+  pub up_to_told : (most under beyond : ℕ) (s : List ℕ) (at : ℕ) (low high : E) (r : Result (ℕ × ℕ) E) → tells low ≡ (under, at) → tells high ≡ (beyond, at)
+      → UpTo makes most low high s at r → step_by tells r ≡ up_to most under beyond s at
+  up_to_told most under beyond s at low high r l h u =
+      u tells agrees ∙ ap₂ (λ (x : ℕ × ℕ) (y : ℕ × ℕ). ranged most x y s at) l h ∙ ranged_is most under beyond s at
+
+  -- where an error is what it is told as, two answers are equal
+  pub up_to_same : (one : (a b : E) → tells a ≡ tells b → a ≡ b) (most : ℕ) (low high : E) (s : List ℕ) (at : ℕ) (a b : Result (ℕ × ℕ) E)
+      → UpTo makes most low high s at a → UpTo makes most low high s at b → a ≡ b
+  up_to_same one most low high s at a b u v = go a b (u tells agrees ∙ sym (v tells agrees))
+    where
+      go : (a b : Result (ℕ × ℕ) E) → step_by tells a ≡ step_by tells b → a ≡ b
+      go (Ok (v, m)) (Ok (w, n)) e = let x : v ≡ w = cc in let y : m ≡ n = cc in λ i. Ok (x i, y i)
+      go (Ok a) (Err r) e = cc
+      go (Err r) (Ok a) e = cc
+      go (Err r) (Err s) e = let k : (tells r).0 ≡ (tells s).0 = cc in let p : (tells r).1 ≡ (tells s).1 = cc in ap Err (one r s (λ i. (k i, p i)))
+
+-- the refusals themselves
+pub up_to_step : (most under beyond : ℕ) (s : List ℕ) (at : ℕ) (low high : Refusal) (r : Result (ℕ × ℕ) Refusal) → told low ≡ (under, at) → told high ≡ (beyond, at)
+    → UpTo (λ (x : Refusal) (e : Refusal). e ≡ x) most low high s at r → step r ≡ up_to most under beyond s at
+up_to_step most under beyond s at low high r l h u = same_step r ∙ up_to_told (λ (x : Refusal) (e : Refusal). e ≡ x) told (λ x e q. ap told q) most under beyond s at low high r l h u
+  where
+    same_step : (r : Result (ℕ × ℕ) Refusal) → step r ≡ step_by told r
+    same_step (Ok a) = refl
+    same_step (Err r) = refl

@@ -2,7 +2,7 @@
 pub use Rattle.basis.proofs.Inside.Steps.{after_ok, never_ok, not_stopped, ok_same, passed}
 pub use Rattle.basis.proofs.Inside.Words.{lt_or_le}
 pub use Rattle.basis.specs.Limits.{most_groups}
-pub use Rattle.basis.specs.Readers.{Bytes, Step, ◌>>=◌, after, byte, give, ok, refuse}
+pub use Rattle.basis.specs.Readers.{Bytes, Step, step, ◌>>=◌, after, byte, give, ok, refuse}
 pub use Rattle.basis.specs.Words.{Each}
-pub use Rattle.numbers.specs.Numbers.{number, spell, step, up_to}
+pub use Rattle.numbers.specs.Numbers.{number, spell, up_to, step_by, ranged, UpTo}
 unfoldable pub use Rattle.numbers.specs.Numbers.{groups, spelt, up_to_by, width}

@@ -1,6 +1,10 @@
 -- No answer by a wrong rule of a number meets the promise of `read_number`, `read_up_to`, `number_length` or `write_number`. Assumes nothing.
-use Rattle.basis.specs.Prelude.{ℕ, refl, List, get_or, sets}
-use Rattle.numbers.proofs.Names.{Step, ok, refuse, step, groups, number, up_to_by, up_to, spelt, spell, width}
+use Rattle.std.specs.Prelude.{Result}
+use Rattle.basis.specs.declared.refusal.Refusal.{Refusal}
+use Rattle.basis.specs.declared.refusal.Refusal.TheVariants.{Zero, Over}
+use Rattle.basis.specs.Prelude.{◌≡◌, ℕ, refl, List, get_or, sets}
+use Rattle.numbers.proofs.Names.{Step, ok, refuse, step, groups, number, up_to_by, up_to, spelt, spell, width, UpTo}
+use Rattle.numbers.proofs.Encoding.{up_to_step}
 use Rattle.basis.specs.Faults.{NoAnswer, NoneMeets}
 use Rattle.basis.proofs.Faults.{told_apart, values_apart}
 use Rattle.numbers.specs.Wrong.{high_groups, highest_first, loose_groups, any_form, group_more, three_as, long_is_cut, place_after, blank_is_zero, most_is_over, zero_is_over, always_one, two_for_one, spelt_before, highest_written, spelt_bare, top_bits_off, next_cleared, two_groups, zero_last, four_groups, blank, nines, five}
@@ -57,6 +61,13 @@ most_is_over_is_shut_out = told_apart step _ _ refusal refl
 pub zero_is_over_is_shut_out : NoAnswer step (zero_is_over 5 7 8 blank 0) (up_to 5 7 8 blank 0)
 unfolding groups up_to_by zero_is_over refusal
 zero_is_over_is_shut_out = told_apart step _ _ refusal refl
+
+-- so of the errors themselves: 0 as a budget, and 5 where 5 is the most
+pub blank_is_told_is_shut_out : (r : Result (ℕ × ℕ) Refusal) → step r ≡ blank_is_zero 5 7 8 blank 0 → UpTo (λ (x : Refusal) (e : Refusal). e ≡ x) 5 (Zero 0) (Over 0) blank 0 r → ⊥
+blank_is_told_is_shut_out r e u = blank_is_zero_is_shut_out r e (up_to_step 5 7 8 blank 0 (Zero 0) (Over 0) r refl refl u)
+
+pub most_is_told_is_shut_out : (r : Result (ℕ × ℕ) Refusal) → step r ≡ most_is_over 5 7 8 five 0 → UpTo (λ (x : Refusal) (e : Refusal). e ≡ x) 5 (Zero 0) (Over 0) five 0 r → ⊥
+most_is_told_is_shut_out r e u = most_is_over_is_shut_out r e (up_to_step 5 7 8 five 0 (Zero 0) (Over 0) r refl refl u)
 
 -- always one byte: 128 would take 1
 pub always_one_is_shut_out : NoneMeets (always_one 128) (width 128)

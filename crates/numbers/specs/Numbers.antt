@@ -1,16 +1,11 @@
 -- A number: groups of seven bits, the lowest first, the top bit set where another follows, in the shortest form only.
-use Rattle.std.specs.Prelude.{◌+◌, ◌-◌, ◌*◌, ◌/◌, ◌%◌, ◌∷◌}
+use Rattle.std.specs.Prelude.{Result, Ok, Err, ◌≡◌, ◌+◌, ◌-◌, ◌*◌, ◌/◌, ◌%◌, ◌∷◌}
 use Rattle.basis.specs.Prelude.{ℕ, zero, suc, List, [], length, ltb, leb, eqb}
 use Rattle.basis.specs.Limits.{most_groups}
 use Rattle.basis.specs.Words.{pick}
+use Rattle.basis.specs.Refusals.{told}
 use Rattle.basis.specs.Readers.{Step, ok, refuse, Reader, ◌>>=◌, give, refuse_at, here, byte}
-use Rattle.numbers.specs.declared.number.Number.{Number}
-use Rattle.numbers.specs.declared.number.Number.TheVariants.{Is, Refused}
-
--- The step that each answer of the code stands for.
-abbrev pub step : Number → Step ℕ
-step (Is value next) = ok value next
-step (Refused number place) = refuse number place
+use Rattle.basis.specs.declared.refusal.Refusal.{Refusal}
 
 -- At most g groups more of a number whose first byte is at first, the last of them at least least: 2 where the bytes end, 3 where no group is left or the
 -- last is too small.
@@ -41,6 +36,22 @@ number = number_by most_groups
 
 abbrev pub up_to : ℕ → ℕ → ℕ → Reader ℕ
 up_to = up_to_by most_groups
+
+-- The step that each answer of the code stands for, whose errors are of another type: told says which number and place an error is.
+abbrev pub step_by : {E : Type 0} → (E → ℕ × ℕ) → Result (ℕ × ℕ) E → Step ℕ
+step_by told (Ok (value, next)) = ok value next
+step_by told (Err e) = refuse (told e).0 (told e).1
+
+-- A number from 1 to most; refused by one number and place where it is zero, and by others where it is over.
+abbrev pub ranged : ℕ → ℕ × ℕ → ℕ × ℕ → Reader ℕ
+ranged most under over = do
+  v ← number
+  pick (eqb v 0) (refuse_at under.0 under.1) (pick (leb v most) (give v) (refuse_at over.0 over.1))
+
+-- What reading it answers, with errors of any type into which refusals are made: however an error is told that tells them as the table does.
+abbrev pub UpTo : {E : Type 0} → (Refusal → E → Type 0) → ℕ → E → E → List ℕ → ℕ → Result (ℕ × ℕ) E → Type 0
+UpTo {E} makes most under over s at r =
+    (tells : E → ℕ × ℕ) → ((x : Refusal) (e : E) → makes x e → tells e ≡ told x) → step_by tells r ≡ ranged most (tells under) (tells over) s at
 
 -- The encoding of a value, in at most g groups.
 unfoldable pub spelt : ℕ → ℕ → List ℕ

@@ -6,35 +6,30 @@ ghost use Rattle.numbers.specs.Numbers.{spell, width};
 
 use basis::MOST_GROUPS;
 
+// The most bytes that a number takes.
+const MOST_LONG: usize = MOST_GROUPS as usize;
+
 // How many bytes a number takes.
 pub fn number_length(value: u64) -> usize
     ensures { (result ≡ width value) × (result ≤ most_groups) }
 {
     let mut v = value;
-    let mut i: usize = 0;
-    let mut left = MOST_GROUPS;
-    while 0 < left {
+    for i in 0..MOST_LONG {
         if v < 128 {
             return i + 1;
         }
-        v = v / 128;
-        i = i + 1;
-        left = left - 1;
+        v /= 128;
     }
-    i
+    MOST_LONG
 }
 
 // One byte, so many places after a place, where there is room.
 fn put(bytes: &mut [u8], at: usize, i: usize, byte: u8)
     ensures { bytes.new ≡ set bytes.old (at + i) byte }
 {
-    if bytes.len() <= at {
-        return;
+    if at < bytes.len() && i < bytes.len() - at {
+        bytes[at + i] = byte;
     }
-    if bytes.len() - at <= i {
-        return;
-    }
-    bytes[at + i] = byte;
 }
 
 // Writes a number at a place, as far as there is room, and answers how many bytes it takes.
@@ -42,17 +37,13 @@ pub fn write_number(bytes: &mut [u8], at: usize, value: u64) -> usize
     ensures { (result ≡ width value) × (result ≤ most_groups) × (bytes.new ≡ sets bytes.old at (spell value)) }
 {
     let mut v = value;
-    let mut i: usize = 0;
-    let mut left = MOST_GROUPS;
-    while 0 < left {
+    for i in 0..MOST_LONG {
         if v < 128 {
             put(bytes, at, i, v as u8);
             return i + 1;
         }
         put(bytes, at, i, (128 + v % 128) as u8);
-        v = v / 128;
-        i = i + 1;
-        left = left - 1;
+        v /= 128;
     }
-    i
+    MOST_LONG
 }

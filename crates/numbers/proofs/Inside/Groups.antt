@@ -1,5 +1,5 @@
 -- Laws of `groups`: a turn of it, by the tests that a reader makes; what a value scaled and added to is. Assumes nothing.
-use Rattle.basis.specs.Prelude.{ℕ, zero, suc, ◌+◌, ◌-◌, ◌*◌, ◌^◌, ◌≤◌, ◌<◌, ◌≡◌, refl, sym, ap, ◌∙◌, ⊎_elim, List, arith, zero-lt-suc, not-suc-le-zero, mul_assoc, add-mul, mul-le-mul_left, mul-le-mul_right, one-le-pow, pow-succ', length, get_or, lt-ltb, le-ltb}
+use Rattle.basis.specs.Prelude.{ℕ, zero, suc, ◌+◌, ◌-◌, ◌*◌, ◌^◌, ◌≤◌, ◌<◌, ◌≡◌, refl, sym, ap, ◌∙◌, add-one, ⊎_elim, List, arith, zero-lt-suc, not-suc-le-zero, mul_assoc, add-mul, mul-le-mul_left, mul-le-mul_right, one-le-pow, pow-succ', length, get_or, lt-ltb, le-ltb}
 use Rattle.numbers.proofs.Names.{most_groups, Step, ok, refuse, after, groups, lt_or_le, never_ok, after_ok, ok_same}
 
 pub one_less : (g : ℕ) → suc g - 1 ≡ g
@@ -74,13 +74,16 @@ module _ (value weight left first least i : ℕ) (s : List ℕ) (x : Step ℕ) (
       pub number_last : get_or s i 0 < 128 → least ≤ get_or s i 0 → ok (value + get_or s i 0 * weight) (i + 1) ≡ x
       number_last b l = sym (so_far ∙ ap (scaled value weight) (last left first least s i pos h b l))
 
-      pub number_more : 128 ≤ get_or s i 0 → x ≡ scaled (value + (get_or s i 0 - 128) * weight) (weight * 128) (groups (left - 1) first 1 s (i + 1))
-      number_more b = so_far ∙ ap (scaled value weight) (more left first least s i pos h b) ∙ scaled_more value weight (get_or s i 0 - 128) (groups (left - 1) first 1 s (i + 1))
+      pub number_more : (k : ℕ) → left ≡ k + 1 → 128 ≤ get_or s i 0 → x ≡ scaled (value + (get_or s i 0 - 128) * weight) (weight * 128) (groups k first 1 s (i + 1))
+      number_more k q b =
+          let d = get_or s i 0 - 128 in
+          let p : left - 1 ≡ k = omega arith in
+          so_far ∙ ap (scaled value weight) (more left first least s i pos h b) ∙ scaled_more value weight d (groups (left - 1) first 1 s (i + 1))
+          ∙ ap (λ (g : ℕ). scaled (value + d * weight) (weight * 128) (groups g first 1 s (i + 1))) p
 
 -- one group more has room where the groups left have it
-pub room_more : (w left : ℕ) → 0 < left → w * 128 * 128 ^ (left - 1) ≡ w * 128 ^ left
-room_more w zero pos = absurd (not-suc-le-zero pos)
-room_more w (suc left) pos = rw (one_less left, pow-succ' 128 left) (mul_assoc w 128 (128 ^ left))
+pub room_more : (w left k : ℕ) → left ≡ k + 1 → w * 128 * 128 ^ k ≡ w * 128 ^ left
+room_more w left k q = mul_assoc w 128 (128 ^ k) ∙ ap (λ (e : ℕ). w * e) (sym (pow-succ' 128 k)) ∙ ap (λ (g : ℕ). w * 128 ^ g) (sym (add-one k) ∙ sym q)
 
 room_one : (w left : ℕ) → 0 < left → w * 128 ≤ w * 128 ^ left
 room_one w zero pos = absurd (not-suc-le-zero pos)
