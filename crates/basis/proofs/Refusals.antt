@@ -1,5 +1,5 @@
 -- Laws of refusals: an outcome stands for one answer of the code, and two answers that a promise allows are equal. Assumes nothing.
-use Rattle.std.specs.Prelude.{Result, Ok, Err}
+use Rattle.std.specs.Prelude.{Result, Ok, Err, IsErrAnd}
 use Rattle.basis.specs.Prelude.{◌≡◌, refl, sym, ap, ◌∙◌, eqb, Bool, true, false, leb, leb-true, ℕ, ◌≤◌, arith}
 use Rattle.basis.specs.Words.{pick}
 use Rattle.basis.specs.Readers.{step}
@@ -95,3 +95,8 @@ module _ {A : Type 0} (done found : A) where
 pub or_nothing : (o : Outcome) → or_else o accepted ≡ o
 or_nothing accepted = refl
 or_nothing (refused j q) = refl
+
+-- what a `?` passes on is the refusal that it met
+pub passed_on : {A : Type 0} (r : Result A Refusal) (d : Refusal) → IsErrAnd r (λ e. e ≡ d) → r ≡ Err d
+passed_on (Ok a) d h = absurd h
+passed_on (Err e) d h = ap Err h

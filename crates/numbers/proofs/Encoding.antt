@@ -1,7 +1,7 @@
 -- The laws of a number: one encoding, its range, equal answers; and the worked numbers. Assumes nothing.
 use Rattle.std.specs.Prelude.{Result, Ok, Err}
 use Rattle.basis.specs.Prelude.{ℕ, ◌^◌, ◌<◌, ◌≡◌, refl, sym, ap, ap₂, ◌∙◌, List, length, take-length}
-use Rattle.numbers.proofs.Names.{most_groups, Bytes, ok, step, number, up_to, up_to_by, step_by, ranged, UpTo}
+use Rattle.numbers.proofs.Names.{most_groups, Bytes, ok, refuse, step, number, up_to, up_to_by, step_by, ranged, UpTo}
 use Rattle.basis.proofs.Same.{same_by}
 use Rattle.basis.specs.Refusals.{told}
 use Rattle.basis.specs.declared.refusal.Refusal.{Refusal}
@@ -57,3 +57,12 @@ up_to_step most under beyond s at low high r l h u = same_step r ∙ up_to_told 
     same_step : (r : Result (ℕ × ℕ) Refusal) → step r ≡ step_by told r
     same_step (Ok a) = refl
     same_step (Err r) = refl
+
+-- so of a number that is accepted, and of one that is refused
+module _ (most under beyond : ℕ) (s : List ℕ) (at : ℕ) (low high : Refusal) where
+  pub up_to_ok : (v n : ℕ) → told low ≡ (under, at) → told high ≡ (beyond, at) → UpTo (λ (x : Refusal) (e : Refusal). e ≡ x) most low high s at (Ok (v, n)) → ok v n ≡ up_to most under beyond s at
+  up_to_ok v n = up_to_step most under beyond s at low high (Ok (v, n))
+
+  pub up_to_no : (r : Refusal) → told low ≡ (under, at) → told high ≡ (beyond, at) → UpTo (λ (x : Refusal) (e : Refusal). e ≡ x) most low high s at (Err r)
+      → refuse (told r).0 (told r).1 ≡ up_to most under beyond s at
+  up_to_no r = up_to_step most under beyond s at low high (Err r)

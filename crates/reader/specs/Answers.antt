@@ -1,21 +1,22 @@
 -- What the reader and the label answer.
-use Rattle.std.specs.Prelude.{◌+◌}
+use Rattle.std.specs.Prelude.{◌+◌, Result, Ok, Err}
 use Rattle.basis.specs.Prelude.{ℕ, List, map, length, take, drop, replicate, ltb}
 use Rattle.std.specs.Borrow.{Bor}
 use Rattle.basis.specs.Limits.{most_rows}
 use Rattle.basis.specs.Words.{pick}
 use Rattle.basis.specs.Upto.{upto}
-use Rattle.basis.specs.Refusals.{Outcome, accepted, refused, outcome}
+use Rattle.basis.specs.Refusals.{Outcome, accepted, refused, refused_by}
 use Rattle.basis.specs.Readers.{Step, ok, refuse}
 use Rattle.reader.specs.Form.{Held, entry_row, sheet, label_head}
 use Rattle.sheet.specs.Values.{padded, no_sheet}
 use Rattle.reader.specs.declared.row.Part.{Part}
 use Rattle.sheet.specs.declared.row.Sheet.{Sheet}
-use Rattle.reader.specs.declared.whole.Reading.{Reading}
+use Rattle.basis.specs.declared.refusal.Refusal.{Refusal}
 
--- What the code's answer stands for: the outcome, and the sheet beside it.
-abbrev pub outcome_and_sheet : Reading → Outcome × Sheet
-outcome_and_sheet r = (outcome r.refusal, r.sheet)
+-- What the code's answer stands for: the outcome, and the sheet beside it, which is one of zeros beside a refusal.
+abbrev pub outcome_and_sheet : Result Sheet Refusal → Outcome × Sheet
+outcome_and_sheet (Ok sheet) = (accepted, sheet)
+outcome_and_sheet (Err r) = (refused_by r, no_sheet)
 
 -- The sheet by value of what was read.
 abbrev pub sheet_held : Held → Sheet

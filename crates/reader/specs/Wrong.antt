@@ -1,5 +1,6 @@
 -- Wrong rules of the reader and of the labels, each the rule of document 01 but for one thing, and the bytes that tell them.
 use Rattle.std.specs.Prelude.{◌+◌, ◌∷◌, ◌++◌}
+use Rattle.std.specs.Prelude.{Result}
 use Rattle.basis.specs.Prelude.{ℕ, zero, suc, List, [], length, take, drop, replicate, leb}
 use Rattle.std.specs.Borrow.{Bor}
 use Rattle.basis.specs.Limits.{most_processors, most_rows, longest_label, most_separation}
@@ -121,7 +122,7 @@ unfoldable pub nothing_read : Outcome × Sheet → Outcome × Sheet
 nothing_read (o, h) = (o, no_sheet)
 
 -- What `read_into` answers, with the lists after it.
-abbrev pub into_answer : Refusal × (List ℕ × List ℕ) → Outcome × (List ℕ × List ℕ)
+abbrev pub into_answer : Result (Unit {0}) Refusal × (List ℕ × List ℕ) → Outcome × (List ℕ × List ℕ)
 into_answer (r, lists) = (outcome r, lists)
 
 -- Both lists are as they were, whatever was read.

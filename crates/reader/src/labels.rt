@@ -26,7 +26,7 @@ pub fn label_part(bytes: &[u8], row: usize) -> Part
 {
     let mut list = [0u64; SHEET_LONG];
     let mut labels = [0u64; LABELS_LONG];
-    read_into(bytes, &mut list, &mut labels);
+    let _ = read_into(bytes, &mut list, &mut labels);
     if row < MOST_ROWS {
         return part_in(&labels, row);
     }
@@ -38,9 +38,7 @@ pub fn label(bytes: &[u8], row: usize) -> &[u8]
     ensures { shown result ≡ part bytes.entry (label_in bytes.now row) }
 {
     let part = label_part(bytes, row);
-    let start = part.start;
-    let end = start + part.long;
-    &bytes[start..end]
+    &bytes[part.start..part.start + part.long]
 }
 
 // A part for each row that a sheet may have.
@@ -55,13 +53,10 @@ pub fn label_parts(bytes: &[u8]) -> Parts
 {
     let mut list = [0u64; SHEET_LONG];
     let mut labels = [0u64; LABELS_LONG];
-    read_into(bytes, &mut list, &mut labels);
-    let none = Part { start: 0, long: 0 };
-    let mut parts = [none; MOST_ROWS];
-    let mut i: usize = 0;
-    while i < MOST_ROWS {
+    let _ = read_into(bytes, &mut list, &mut labels);
+    let mut parts = [Part { start: 0, long: 0 }; MOST_ROWS];
+    for i in 0..MOST_ROWS {
         parts[i] = part_in(&labels, i);
-        i += 1;
     }
     Parts { parts }
 }

@@ -12,4 +12,4 @@ pub use head::MARK;
 pub use into::{LABELS_LONG, read_into};
 pub use labels::{Parts, label, label_part, label_parts};
 pub use row::Part;
-pub use whole::{Reading, read};
+pub use whole::read;

@@ -1,19 +1,13 @@
 // Reading a row.
 ghost use Rattle.std.specs.Prelude.{◌≡◌, ◌-◌, ◌≤◌, length};
-ghost use Rattle.basis.specs.Readers.{map_step};
+ghost use Rattle.basis.specs.Readers.{map_step, step, passed_step};
+ghost use Rattle.numbers.specs.Numbers.{up_to};
 ghost use Rattle.reader.specs.Form.{entry_row, plain, label, entry};
-ghost use Rattle.reader.specs.Inside.Steps.{passed_step, label_step, row_step, entry_step, nothing, numbers, LabelAt, EntryAt};
+ghost use Rattle.reader.specs.Inside.Steps.{label_step, entry_step, nothing, numbers, LabelAt, EntryAt};
 
-use basis::{LONGEST_LABEL, MOST_SEPARATION};
-use numbers::Number;
+use basis::{LONGEST_LABEL, MOST_SEPARATION, Refusal};
+use numbers::read_up_to;
 use sheet::Row;
-
-// What passing over some bytes gives: the place after them, or a refusal's number and place.
-#[derive(Clone, Copy)]
-pub enum Passed {
-    To(usize),
-    Refused(u64, usize),
-}
 
 // A part of a sheet's bytes: where it starts, and how long it is.
 #[derive(Clone, Copy)]
@@ -22,102 +16,75 @@ pub struct Part {
     pub long: usize,
 }
 
-// What reading a label gives: where it lies and the place after it, or a refusal's number and place.
+// A row, and where its label lies.
 #[derive(Clone, Copy)]
-pub enum LabelRead {
-    Is(Part, usize),
-    Refused(u64, usize),
+pub struct Entry {
+    pub row: Row,
+    pub label: Part,
 }
 
-// What reading the numbers of a row gives: the row and the place after it, or a refusal's number and place.
-#[derive(Clone, Copy)]
-pub enum RowRead {
-    Is(Row, usize),
-    Refused(u64, usize),
-}
-
-// What reading a row with its label gives: the row, where its label lies, and the place after both, or a refusal's number and place.
-#[derive(Clone, Copy)]
-pub enum EntryRead {
-    Is(Row, Part, usize),
-    Refused(u64, usize),
-}
-
-// The bytes of a label, from a place to its end.
-pub(crate) fn read_plain(bytes: &[u8], at: usize, end: usize) -> Passed
+// Passes over the bytes of a label, from a place to its end, which is the answer.
+pub(crate) fn read_plain(bytes: &[u8], at: usize, end: usize) -> Result<usize, Refusal>
     requires { (at ≤ end) × (end ≤ length bytes.now) }
     ensures { passed_step result ≡ map_step nothing (plain (end - at) bytes.now at) }
 {
-    let mut i = at;
-    while i < end {
+    for i in at..end {
         let b = bytes[i];
-        if b < 0x21 {
-            return Passed::Refused(6, i);
+        if b < 0x21 || 0x7E < b {
+            return Err(Refusal::Label(i));
         }
-        if 0x7E < b {
-            return Passed::Refused(6, i);
-        }
-        i = i + 1;
     }
-    Passed::To(end)
+    Ok(end)
 }
 
-// The label at a place.
-pub(crate) fn read_label(bytes: &[u8], at: usize) -> LabelRead
+// The label at a place, and the place after it.
+pub(crate) fn read_label(bytes: &[u8], at: usize) -> Result<(Part, usize), Refusal>
     ensures { (label_step result ≡ map_step length (label bytes.now at)) × (LabelAt bytes.now at result) }
 {
-    match numbers::read_up_to(bytes, at, LONGEST_LABEL, 6, 6) {
-        Number::Refused(k, p) => LabelRead::Refused(k, p),
-        Number::Is(count, start) => {
-            let long = count as usize;
-            let end = start + long;
-            if bytes.len() < end {
-                return LabelRead::Refused(2, bytes.len());
-            }
-            match read_plain(bytes, start, end) {
-                Passed::Refused(k, p) => LabelRead::Refused(k, p),
-                Passed::To(next) => LabelRead::Is(Part { start, long }, next),
-            }
-        }
+    let not_so_long = Refusal::Label(at);
+    let (count, start) = read_up_to(bytes, at, LONGEST_LABEL, not_so_long, not_so_long)?;
+    let long = count as usize;
+    let end = start + long;
+    if bytes.len() < end {
+        return Err(Refusal::Ends(bytes.len()));
     }
+    let next = read_plain(bytes, start, end)?;
+    Ok((Part { start, long }, next))
 }
 
-// The four numbers of a row at a place, on so many processors.
-fn read_numbers(bytes: &[u8], at: usize, processors: u64) -> RowRead
-    ensures { row_step result ≡ numbers processors bytes.now at }
+// A number of a row, from 1 to `most`, and the place after it.
+fn read_one(bytes: &[u8], at: usize, most: u64) -> Result<(u64, usize), Refusal>
+    ensures { step result ≡ up_to most 7 8 bytes.now at }
 {
-    match numbers::read_up_to(bytes, at, processors, 7, 8) {
-        Number::Refused(k, p) => RowRead::Refused(k, p),
-        Number::Is(threads, b) => match numbers::read_up_to(bytes, b, MOST_SEPARATION, 7, 8) {
-            Number::Refused(k, p) => RowRead::Refused(k, p),
-            Number::Is(separation, d) => match numbers::read_up_to(bytes, d, separation, 7, 8) {
-                Number::Refused(k, p) => RowRead::Refused(k, p),
-                Number::Is(deadline, e) => match numbers::read_up_to(bytes, e, deadline, 7, 8) {
-                    Number::Refused(k, p) => RowRead::Refused(k, p),
-                    Number::Is(budget, f) => RowRead::Is(
-                        Row {
-                            threads,
-                            separation,
-                            deadline,
-                            budget,
-                        },
-                        f,
-                    ),
-                },
-            },
-        },
-    }
+    read_up_to(bytes, at, most, Refusal::Zero(at), Refusal::Over(at))
 }
 
-// The row at a place with its label, on so many processors.
-pub(crate) fn read_entry(bytes: &[u8], at: usize, processors: u64) -> EntryRead
+// The four numbers of a row at a place, on so many processors, and the place after them.
+fn read_numbers(bytes: &[u8], at: usize, processors: u64) -> Result<(Row, usize), Refusal>
+    ensures { step result ≡ numbers processors bytes.now at }
+{
+    let (threads, second) = read_one(bytes, at, processors)?;
+    let (separation, third) = read_one(bytes, second, MOST_SEPARATION)?;
+    let (deadline, fourth) = read_one(bytes, third, separation)?;
+    let (budget, next) = read_one(bytes, fourth, deadline)?;
+    let row = Row {
+        threads,
+        separation,
+        deadline,
+        budget,
+    };
+    Ok((row, next))
+}
+
+// The row at a place with its label, on so many processors, and the place after both.
+pub(crate) fn read_entry(
+    bytes: &[u8],
+    at: usize,
+    processors: u64,
+) -> Result<(Entry, usize), Refusal>
     ensures { (entry_step result ≡ map_step entry_row (entry processors bytes.now at)) × (EntryAt bytes.now at result) }
 {
-    match read_label(bytes, at) {
-        LabelRead::Refused(k, p) => EntryRead::Refused(k, p),
-        LabelRead::Is(part, next) => match read_numbers(bytes, next, processors) {
-            RowRead::Refused(k, p) => EntryRead::Refused(k, p),
-            RowRead::Is(row, after) => EntryRead::Is(row, part, after),
-        },
-    }
+    let (label, middle) = read_label(bytes, at)?;
+    let (row, next) = read_numbers(bytes, middle, processors)?;
+    Ok((Entry { row, label }, next))
 }

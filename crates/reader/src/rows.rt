@@ -1,13 +1,14 @@
 // The rows of a sheet, one after another, into lists.
 ghost use Rattle.std.specs.Prelude.{◌≡◌, ◌+◌, ◌≤◌, ◌<◌, length};
 ghost use Rattle.basis.specs.Limits.{most_rows};
-ghost use Rattle.basis.specs.Readers.{map_step};
+ghost use Rattle.basis.specs.Readers.{map_step, passed_step};
 ghost use Rattle.sheet.specs.Lists.{sheet_long};
 ghost use Rattle.reader.specs.Form.{entries};
 ghost use Rattle.reader.specs.Lists.{labels_long};
-ghost use Rattle.reader.specs.Inside.Steps.{passed_step, nothing, put_row, put_part, Took};
+ghost use Rattle.reader.specs.Inside.Steps.{nothing, put_row, put_part, Took};
 
-use crate::row::{EntryRead, Part, Passed, read_entry};
+use crate::row::{Part, read_entry};
+use basis::Refusal;
 use sheet::Row;
 
 // Makes row k of a list.
@@ -30,7 +31,7 @@ fn put_part(labels: &mut [u64], k: usize, part: Part)
     labels[k * 2 + 1] = part.long as u64;
 }
 
-// So many rows from a place on, into a list with the numbers that stand before them, and into another where their labels lie.
+// So many rows from a place on, into a list with the numbers that stand before them, and into another where their labels lie; the answer is the place after them.
 pub(crate) fn take_rows(
     bytes: &[u8],
     at: usize,
@@ -38,7 +39,7 @@ pub(crate) fn take_rows(
     count: usize,
     list: &mut [u64],
     labels: &mut [u64],
-) -> Passed
+) -> Result<usize, Refusal>
     requires { (count ≤ most_rows) × (sheet_long count ≤ length list.old) × (labels_long count ≤ length labels.old) }
     ensures { (passed_step result ≡ map_step nothing (entries processors count bytes.now at))
         × (Took processors count bytes.now at list.old labels.old list.new labels.new result) }
@@ -46,19 +47,11 @@ pub(crate) fn take_rows(
     list[0] = processors;
     list[1] = count as u64;
     let mut next = at;
-    let mut i: usize = 0;
-    while i < count {
-        match read_entry(bytes, next, processors) {
-            EntryRead::Refused(number, place) => {
-                return Passed::Refused(number, place);
-            }
-            EntryRead::Is(row, part, after) => {
-                put_row(list, i, row);
-                put_part(labels, i, part);
-                next = after;
-                i = i + 1;
-            }
-        }
+    for i in 0..count {
+        let (entry, after) = read_entry(bytes, next, processors)?;
+        put_row(list, i, entry.row);
+        put_part(labels, i, entry.label);
+        next = after;
     }
-    Passed::To(next)
+    Ok(next)
 }

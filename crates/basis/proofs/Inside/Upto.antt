@@ -1,5 +1,5 @@
 -- Laws of `upto`: what a loop that stores once a turn has made, read at a place, and its length. Assumes nothing.
-use Rattle.basis.specs.Prelude.{ℕ, zero, suc, ◌+◌, ◌≤◌, ◌<◌, ◌≡◌, refl, sym, ap, ◌∙◌, List, ⊎_elim, length, get_or, set, length-set, get_or-set_same, get_or-set_other, ext_get_or, add-one, arith, le_refl, eq-or-lt_of_le}
+use Rattle.basis.specs.Prelude.{◌∷◌, ◌++◌, take, drop, take-suc, drop-cons, append_snoc, set_at, length-take-le, ℕ, zero, suc, ◌+◌, ◌≤◌, ◌<◌, ◌≡◌, refl, sym, ap, ◌∙◌, List, ⊎_elim, length, get_or, set, length-set, get_or-set_same, get_or-set_other, ext_get_or, add-one, arith, le_refl, eq-or-lt_of_le}
 use Rattle.basis.specs.Upto.{upto}
 use Rattle.basis.proofs.Inside.Words.{lt_or_le}
 
@@ -58,3 +58,12 @@ module _ {A : Type 0} where
 
     pub upto_whole : i ≤ n → n ≤ i → l ≡ upto n f l₀
     upto_whole h g = let e : i ≡ n = omega arith in rw e at so_far
+
+-- a front that is copied is one that is filled
+pub upto_front : (n : ℕ) (own list : List ℕ) → n ≤ length own → n ≤ length list → take n own ++ drop n list ≡ upto n (λ i. get_or own i 0) list
+unfolding upto
+upto_front zero own list h r = refl
+upto_front (suc n) own list h r =
+    let k : length (take n own) ≡ n = length-take-le n own (omega arith) in
+    rw (take-suc own n 0 h) (append_snoc (take n own) (get_or own n 0) (drop (suc n) list)) ∙ sym (set_at (take n own) (get_or list n 0) (drop (suc n) list) (get_or own n 0) n k)
+    ∙ ap (λ (z : List ℕ). set (take n own ++ z) n (get_or own n 0)) (sym (drop-cons list n 0 r)) ∙ ap (λ (z : List ℕ). set z n (get_or own n 0)) (upto_front n own list (omega arith) (omega arith))

@@ -1,32 +1,39 @@
 -- Reading into lent lists: each way out of the functions that read and hand over. Assumes nothing.
-use Rattle.basis.specs.Prelude.{ℕ, ◌≤◌, ◌<◌, ◌≡◌, sym, ap, subst, ◌∙◌, List, arith, length, lt-ltb, le-ltb, le-leb}
-use Rattle.reader.proofs.Names.{most_rows, upto, ok, map_step, Outcome, accepted, refused, pairs_agree, got, map_step_ok, map_step_no, upto_agree, upto_below, bounded, row_at, number_at, list_cell, sheet_long, rows_agree, Entry, Held, entries, body_by, head, sheet_by, sheet, label_head, sheet_held, label_in, labels_long, label_cell, into_lists, read_into, passed_step, nothing, head_of, head_step, row_after, label_from, label_after, rows_in, parts_in, Took, handed_over, Part, Passed}
-use Rattle.reader.specs.declared.head.HeadRead.{HeadRead}
-use Rattle.reader.specs.declared.head.HeadRead.TheVariants as head-variants
-use Rattle.reader.specs.declared.row.Passed.TheVariants as passed-variants
+use Rattle.std.specs.Prelude.{Result, Ok, Err}
+use Rattle.basis.specs.Prelude.{ℕ, ◌≤◌, ◌<◌, ◌≡◌, sym, ap, subst, ◌∙◌, List, arith, length, take, drop, ◌++◌, lt-leb, lt-ltb, le-ltb, le-leb}
+use Rattle.reader.proofs.Names.{most_rows, upto, ok, refuse, map_step, Outcome, accepted, refused, pairs_agree, map_step_ok, map_step_no, upto_agree, upto_below, bounded, row_at, number_at, list_cell, sheet_long, rows_agree, Entry, Held, entries, body_by, head, sheet_by, sheet, label_head, sheet_held, label_in, labels_long, label_cell, into_lists, read_into, nothing, row_after, label_from, label_after, rows_in, parts_in, handed_over, Part}
+use Rattle.basis.specs.declared.refusal.Refusal.{Refusal}
+use Rattle.reader.specs.declared.head.Head as code
+use Rattle.basis.proofs.Inside.Upto.{upto_front}
 use Rattle.reader.proofs.LegalSheets.{row_held}
 use Rattle.reader.proofs.Inside.LabelPlaces.{entries_length, row_was_read}
 use Rattle.reader.proofs.Inside.Heads.{headed}
 
 -- `hand_over`
-pub both_handed_over : (n : ℕ) (own parts list labels : List ℕ) → sheet_long n ≤ length list → labels_long n ≤ length labels → (l b : List ℕ) → l ≡ upto (sheet_long n) (number_at own) list
-    → b ≡ upto (labels_long n) (number_at parts) labels → (accepted, (l, b)) ≡ handed_over n own parts list labels
-unfolding handed_over
-both_handed_over n own parts list labels r q l b el eb = simp (le-leb (sheet_long n) (length list) r, le-leb (labels_long n) (length labels) q, el, eb)
+module _ (n : ℕ) (own parts list labels : List ℕ) where
+  pub no_room_for_list : length list < sheet_long n → (refused 15 0, (list, labels)) ≡ handed_over n own parts list labels
+  unfolding handed_over
+  no_room_for_list h = simp (lt-leb (sheet_long n) (length list) h)
+
+  pub no_room_for_labels : sheet_long n ≤ length list → length labels < labels_long n → (refused 15 0, (list, labels)) ≡ handed_over n own parts list labels
+  unfolding handed_over
+  no_room_for_labels r h = simp (le-leb (sheet_long n) (length list) r, lt-leb (labels_long n) (length labels) h)
+
+  pub both_handed_over : sheet_long n ≤ length own → labels_long n ≤ length parts → sheet_long n ≤ length list → labels_long n ≤ length labels
+      → (accepted, (take (sheet_long n) own ++ drop (sheet_long n) list, take (labels_long n) parts ++ drop (labels_long n) labels)) ≡ handed_over n own parts list labels
+  unfolding handed_over
+  both_handed_over ro rp r q =
+      simp (le-leb (sheet_long n) (length list) r, le-leb (labels_long n) (length labels) q, upto_front (sheet_long n) own list ro r, upto_front (labels_long n) parts labels rp q)
 
 -- `read_into`
-module _ (s : List ℕ) (x : HeadRead) (e : head_step x ≡ head s 0) where
-  pub head_refused : (k p : ℕ) → x ≡ head-variants.Refused k p → (list labels : List ℕ) → (refused k p, (list, labels)) ≡ read_into s list labels
-  unfolding read_into into_lists sheet_by
-  head_refused k p g list labels = simp (got head_step e g)
-
-  pub head_told : (m n z : ℕ) → x ≡ head-variants.Is m n z → head s 0 ≡ ok (head_of m n) z
-  head_told m n z g = got head_step e g
+pub head_refused : (s : List ℕ) (k p : ℕ) → refuse k p ≡ head s 0 → (list labels : List ℕ) → (refused k p, (list, labels)) ≡ read_into s list labels
+unfolding read_into into_lists sheet_by
+head_refused s k p e list labels = simp (sym e)
 
 -- `read_body`
-module _ (s : List ℕ) (m n at : ℕ) (e : head s 0 ≡ ok (head_of m n) at) where
+module _ (s : List ℕ) (m n at : ℕ) (e : head s 0 ≡ ok (record { processors = m; count = n }) at) where
   pub few_rows : n ≤ most_rows
-  few_rows = (bounded most_rows 5 5 _ _ _ _ (headed s (head_of m n) at e).count).not_over
+  few_rows = (bounded most_rows 5 5 _ _ _ _ (headed s (record { processors = m; count = n }) at e).count).not_over
 
   pub own_inside : (long : ℕ) → long ≡ sheet_long most_rows → sheet_long n ≤ long
   own_inside long e = omega (arith, few_rows)
@@ -34,15 +41,15 @@ module _ (s : List ℕ) (m n at : ℕ) (e : head s 0 ≡ ok (head_of m n) at) wh
   pub parts_inside : (long : ℕ) → long ≡ labels_long most_rows → labels_long n ≤ long
   parts_inside long e = omega (arith, few_rows)
 
-  module _ (x : Passed) (q : passed_step x ≡ map_step nothing (entries m n s at)) (list labels : List ℕ) where
-    pub rows_refused : (k p : ℕ) → x ≡ passed-variants.Refused k p → (refused k p, (list, labels)) ≡ read_into s list labels
+  module _ (list labels : List ℕ) where
+    pub rows_refused : (k p : ℕ) → refuse k p ≡ map_step nothing (entries m n s at) → (refused k p, (list, labels)) ≡ read_into s list labels
     unfolding read_into into_lists sheet_by body_by
-    rows_refused k p g = simp (e, map_step_no nothing (entries m n s at) (got passed_step q g))
+    rows_refused k p q = simp (e, map_step_no nothing (entries m n s at) (sym q))
 
-    module _ (next : ℕ) (g : x ≡ passed-variants.To next) where
+    module _ (next : ℕ) (q : ok tt next ≡ map_step nothing (entries m n s at)) where
       pub bytes_over : next < length s → (refused 9 next, (list, labels)) ≡ read_into s list labels
       unfolding read_into into_lists sheet_by body_by
-      bytes_over l = simp (e, (map_step_ok nothing (entries m n s at) (got passed_step q g)).1, lt-ltb next (length s) l)
+      bytes_over l = simp (e, (map_step_ok nothing (entries m n s at) (sym q)).1, lt-ltb next (length s) l)
 
       module _ (l : length s ≤ next) (es : List Entry) (ee : entries m n s at ≡ ok es next) where
         abbrev this : Held
@@ -81,9 +88,8 @@ module _ (s : List ℕ) (m n at : ℕ) (e : head s 0 ≡ ok (head_of m n) at) wh
           handed_is eo ep = rw (list_is eo, labels_are ep, ← many, was_read)
 
       -- the last byte is accepted
-      pub whole_read : length s ≤ next → (own₀ parts₀ own parts : List ℕ) → sheet_long n ≤ length own₀ → labels_long n ≤ length parts₀ → Took m n s at own₀ parts₀ own parts x
+      pub whole_read : length s ≤ next → (own₀ parts₀ own parts : List ℕ) → sheet_long n ≤ length own₀ → labels_long n ≤ length parts₀ → own ≡ rows_in m n s at n own₀ → parts ≡ parts_in m s at n parts₀
           → (a : Outcome × (List ℕ × List ℕ)) → a ≡ handed_over n own parts list labels → a ≡ read_into s list labels
-      whole_read l own₀ parts₀ own parts ro rp took a ea =
-          let (es, ee, _) = map_step_ok nothing (entries m n s at) (got passed_step q g) in
-          let (eo, ep) = subst (Took m n s at own₀ parts₀ own parts) g took in
+      whole_read l own₀ parts₀ own parts ro rp eo ep a ea =
+          let (es, ee, _) = map_step_ok nothing (entries m n s at) (sym q) in
           ea ∙ handed_is l es ee own₀ parts₀ own parts ro rp eo ep

@@ -1,26 +1,26 @@
 -- What stands before the rows: each way out of the function that reads it, and what is known where it is accepted. Assumes nothing.
 use Rattle.basis.specs.Prelude.{ℕ, ◌≡◌, sym, ap, ap₂, ◌∙◌, List, Bool, true, false}
-use Rattle.reader.proofs.Names.{most_processors, most_rows, ok, refuse, begins, marked, got, after_ok, ok_same, marked_ok, step, up_to, Number, Is, Refused, Head, mark_bytes, head_by, head}
+use Rattle.reader.proofs.Names.{most_processors, most_rows, ok, refuse, begins, marked, after_ok, ok_same, marked_ok, up_to, Head, mark_bytes, head_by, head}
 
 -- the ways out of `read_head`
-module _ (s : List ℕ) (b : Bool) (e : b ≡ begins mark_bytes s) where
-  pub head_unmarked : b ≡ false → refuse 1 0 ≡ head s 0
+module _ (s : List ℕ) where
+  pub head_unmarked : false ≡ begins mark_bytes s → refuse 1 0 ≡ head s 0
   unfolding head_by
-  head_unmarked q = simp (sym e ∙ q)
+  head_unmarked q = simp (sym q)
 
-  module _ (q : b ≡ true) (r : Number) (m : step r ≡ up_to most_processors 4 4 s 4) where
-    pub head_no_processors : (k p : ℕ) → r ≡ Refused k p → refuse k p ≡ head s 0
+  module _ (q : true ≡ begins mark_bytes s) where
+    pub head_no_processors : (k p : ℕ) → refuse k p ≡ up_to most_processors 4 4 s 4 → refuse k p ≡ head s 0
     unfolding head_by
-    head_no_processors k p g = simp (sym e ∙ q, got step m g)
+    head_no_processors k p e = simp (sym q, sym e)
 
-    module _ (v a : ℕ) (g : r ≡ Is v a) (r₂ : Number) (n : step r₂ ≡ up_to most_rows 5 5 s a) where
-      pub head_no_count : (k p : ℕ) → r₂ ≡ Refused k p → refuse k p ≡ head s 0
+    module _ (v a : ℕ) (m : ok v a ≡ up_to most_processors 4 4 s 4) where
+      pub head_no_count : (k p : ℕ) → refuse k p ≡ up_to most_rows 5 5 s a → refuse k p ≡ head s 0
       unfolding head_by
-      head_no_count k p g₂ = simp (sym e ∙ q, got step m g, got step n g₂)
+      head_no_count k p e = simp (sym q, sym m, sym e)
 
-      pub head_whole : (c z : ℕ) → r₂ ≡ Is c z → ok (record { processors = v; count = c }) z ≡ head s 0
+      pub head_whole : (c z : ℕ) → ok c z ≡ up_to most_rows 5 5 s a → ok (record { processors = v; count = c }) z ≡ head s 0
       unfolding head_by
-      head_whole c z g₂ = simp (sym e ∙ q, got step m g, got step n g₂)
+      head_whole c z e = simp (sym q, sym m, sym e)
 
 -- what is known where it is accepted
 pub record Headed (s : List ℕ) (h : Head) (n : ℕ) : Type 0 where

@@ -1,8 +1,6 @@
 -- The loop over the rows: what its lists have, a row more, and its ends. Assumes nothing.
-use Rattle.basis.specs.Prelude.{ℕ, zero, suc, ◌+◌, ◌-◌, ◌≤◌, ◌<◌, ◌≡◌, refl, sym, ap, subst, ◌∙◌, List, ◌∷◌, arith, le_antisymm, length, set, length-set}
-use Rattle.reader.proofs.Names.{upto, ok, refuse, map_step, pair_stored, got, ok_same, after_ok, map_step_ok, map_step_no, map_step_after, length_upto, upto_over, list_cell, sheet_long, Row, row_stored, Entry, entry_row, entry, entries_by, entries, labels_long, entry_step, EntryAt, nothing, row_from, row_after, label_from, label_after, put_row, put_part, rows_in, parts_in, Part}
-use Rattle.reader.specs.declared.row.EntryRead.{EntryRead}
-use Rattle.reader.specs.declared.row.EntryRead.TheVariants as entry-variants
+use Rattle.basis.specs.Prelude.{ℕ, zero, suc, ◌+◌, ◌-◌, ◌≤◌, ◌<◌, ◌≡◌, refl, sym, ap, ◌∙◌, List, ◌∷◌, arith, le_antisymm, length, set, length-set}
+use Rattle.reader.proofs.Names.{upto, ok, refuse, map_step, pair_stored, ok_same, after_ok, map_step_ok, map_step_no, map_step_after, length_upto, upto_over, list_cell, sheet_long, Row, row_stored, Entry, entry_row, entry, entries_by, entries, labels_long, up_to, longest_label, part_after, nothing, row_from, row_after, label_from, label_after, put_row, put_part, rows_in, parts_in, Part}
 
 -- what follows the first i rows is read as if it began there
 split : (m i k : ℕ) (s : List ℕ) (at : ℕ) (es : List Entry) (next : ℕ) → entries m i s at ≡ ok es next → map_step nothing (entries m (i + k) s at) ≡ map_step nothing (entries m k s next)
@@ -34,33 +32,32 @@ module _ (m n : ℕ) (s : List ℕ) (at i next : ℕ) (so_far : map_step nothing
   left : (k j : ℕ) → i + k ≡ j → map_step nothing (entries m j s at) ≡ map_step nothing (entries m k s next)
   left k j e = let (es, q, _) = map_step_ok nothing (entries m i s at) so_far in ap (λ (z : ℕ). map_step nothing (entries m z s at)) (sym e) ∙ split m i k s at es next q
 
-  module _ (x : EntryRead) (q : entry_step x ≡ map_step entry_row (entry m s next)) where
-    -- a row is refused
-    pub row_refused : i < n → (k p : ℕ) → x ≡ entry-variants.Refused k p → refuse k p ≡ map_step nothing (entries m n s at)
+  -- a row is refused
+  pub row_refused : i < n → (k p : ℕ) → refuse k p ≡ map_step entry_row (entry m s next) → refuse k p ≡ map_step nothing (entries m n s at)
+  unfolding entries_by map_step
+  row_refused h k p q = sym (left (suc (n - (i + 1))) n (omega arith) ∙ simp (map_step_no entry_row (entry m s next) (sym q)))
+
+  module _ (r : Row) (e : ℕ) (q : ok r e ≡ map_step entry_row (entry m s next)) where
+    -- a row more is passed
+    pub one_passed : map_step nothing (entries m (i + 1) s at) ≡ ok tt e
     unfolding entries_by map_step
-    row_refused h k p g = sym (left (suc (n - (i + 1))) n (omega arith) ∙ simp (map_step_no entry_row (entry m s next) (got entry_step q g)))
+    one_passed = left 1 (i + 1) refl ∙ simp (map_step_ok entry_row (entry m s next) (sym q)).1
 
-    module _ (r : Row) (p : Part) (e : ℕ) (g : x ≡ entry-variants.Is r p e) where
-      -- a row more is passed
-      pub one_passed : map_step nothing (entries m (i + 1) s at) ≡ ok tt e
-      unfolding entries_by map_step
-      one_passed = left 1 (i + 1) refl ∙ simp (map_step_ok entry_row (entry m s next) (got entry_step q g)).1
+    -- and stands in the list
+    pub row_put : (l l₀ : List ℕ) → l ≡ rows_in m n s at i l₀ → (l' : List ℕ) → l' ≡ put_row l i r → l' ≡ rows_in m n s at (i + 1) l₀
+    unfolding rows_in put_row row_after row_from
+    row_put l l₀ el l' e' =
+        let (es, q₀, _) = map_step_ok nothing (entries m i s at) so_far in
+        let (en, q₁, er) = map_step_ok entry_row (entry m s next) (sym q) in
+        e' ∙ row_stored m n (row_after m s at) i l l₀ el r (sym (simp (q₀, q₁) er))
 
-      -- and stands in the list
-      pub row_put : (l l₀ : List ℕ) → l ≡ rows_in m n s at i l₀ → (l' : List ℕ) → l' ≡ put_row l i r → l' ≡ rows_in m n s at (i + 1) l₀
-      unfolding rows_in put_row row_after row_from
-      row_put l l₀ el l' e' =
-          let (es, q₀, _) = map_step_ok nothing (entries m i s at) so_far in
-          let (en, q₁, er) = map_step_ok entry_row (entry m s next) (got entry_step q g) in
-          e' ∙ row_stored m n (row_after m s at) i l l₀ el r (sym (simp (q₀, q₁) er))
-
-      -- and where its label lies
-      pub part_put : EntryAt s next x → (b b₀ : List ℕ) → b ≡ parts_in m s at i b₀ → (b' : List ℕ) → b' ≡ put_part b i p → b' ≡ parts_in m s at (i + 1) b₀
-      unfolding parts_in put_part label_after label_from
-      part_put lies b b₀ eb b' e' =
-          let (es, q₀, _) = map_step_ok nothing (entries m i s at) so_far in
-          let this : p ≡ label_after m s at i = subst (EntryAt s next) g lies ∙ sym (simp q₀) in
-          e' ∙ pair_stored (λ k. (label_after m s at k).start) (λ k. (label_after m s at k).long) i b b₀ eb p.start p.long (ap (λ (z : Part). z.start) this) (ap (λ (z : Part). z.long) this)
+    -- and where its label lies
+    pub part_put : (p : Part) → p ≡ part_after (up_to longest_label 6 6 s next) → (b b₀ : List ℕ) → b ≡ parts_in m s at i b₀ → (b' : List ℕ) → b' ≡ put_part b i p → b' ≡ parts_in m s at (i + 1) b₀
+    unfolding parts_in put_part label_after label_from
+    part_put p lies b b₀ eb b' e' =
+        let (es, q₀, _) = map_step_ok nothing (entries m i s at) so_far in
+        let this : p ≡ label_after m s at i = lies ∙ sym (simp q₀) in
+        e' ∙ pair_stored (λ k. (label_after m s at k).start) (λ k. (label_after m s at k).long) i b b₀ eb p.start p.long (ap (λ (z : Part). z.start) this) (ap (λ (z : Part). z.long) this)
 
   -- the last row is passed
   module _ (h : i ≤ n) (g : n ≤ i) where

@@ -78,6 +78,15 @@ module _ (s : List ℕ) (o : Outcome) (l b : List ℕ) (e : lists o l b ≡ read
       ep ∙ ap₂ (λ (x y : ℕ). record { start = x; long = y }) (number (k * 2) (omega arith) ∙ first_cell (λ j. (label_in s j).start) (λ j. (label_in s j).long) k)
       (number (k * 2 + 1) (omega arith) ∙ second_cell (λ j. (label_in s j).start) (λ j. (label_in s j).long) k)
 
+-- `read` where it is refused
+pub none_was_read : (s : List ℕ) (k p : ℕ) (l b : List ℕ) → lists (refused k p) l b ≡ read_into s (zeros (sheet_long most_rows)) (zeros (labels_long most_rows))
+    → ◌≡◌ {A = Outcome × Sheet} (refused k p, no_sheet) (reading s)
+none_was_read s k p l b e = go (sheet s 0) refl
+  where
+    go : (x : Step Held) → sheet s 0 ≡ x → ◌≡◌ {A = Outcome × Sheet} (refused k p, no_sheet) (reading_of x)
+    go (refuse j q) f = ap (λ (o : Outcome). (o, no_sheet)) (ap (λ (x : Lists). x.0) (whole s (refused k p) l b e) ∙ ap (λ (x : Step Held). (reading_of x).0) f)
+    go (ok h n) f = let z : refused k p ≡ accepted = ap (λ (x : Lists). x.0) (whole s (refused k p) l b e) ∙ ap (λ (x : Step Held). (reading_of x).0) f in cc
+
 -- no label past the rows that a sheet may have
 pub no_part : (s : List ℕ) (k : ℕ) → most_rows ≤ k → nowhere ≡ label_in s k
 no_part s k h = sym (no_label s k (omega (arith, rows_fit s)))

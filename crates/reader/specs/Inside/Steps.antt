@@ -1,9 +1,10 @@
 -- What the functions inside the reader answer. No promise of a public function speaks of it.
-use Rattle.std.specs.Prelude.{◌+◌, ◌*◌, ◌≡◌}
+use Rattle.std.specs.Prelude.{◌+◌, ◌*◌, ◌≡◌, Result, Ok, Err}
 use Rattle.basis.specs.Prelude.{ℕ, List, length, set}
 use Rattle.basis.specs.Limits.{longest_label, most_separation}
 use Rattle.basis.specs.Readers.{Step, ok, refuse, Reader, ◌>>=◌, ◌>>◌, give}
-use Rattle.basis.specs.Refusals.{Outcome, or_else, room_for, handed}
+use Rattle.basis.specs.Refusals.{Outcome, told, or_else, room_for, handed}
+use Rattle.basis.specs.declared.refusal.Refusal.{Refusal}
 use Rattle.basis.specs.Upto.{upto, pair_cell}
 use Rattle.numbers.specs.Numbers.{up_to}
 use Rattle.sheet.specs.Legal.{no_row}
@@ -12,32 +13,19 @@ use Rattle.sheet.specs.declared.row.Row.{Row}
 use Rattle.reader.specs.Form.{Entry, entry, entries, Head}
 use Rattle.reader.specs.Answers.{part_after}
 use Rattle.reader.specs.Lists.{labels_long}
-use Rattle.reader.specs.declared.head.HeadRead.{HeadRead}
-use Rattle.reader.specs.declared.head.HeadRead.TheVariants as head-variants
+use Rattle.reader.specs.declared.head.Head as code
 use Rattle.reader.specs.declared.row.Part.{Part}
-use Rattle.reader.specs.declared.row.Passed.{Passed}
-use Rattle.reader.specs.declared.row.Passed.TheVariants as passed-variants
-use Rattle.reader.specs.declared.row.LabelRead.{LabelRead}
-use Rattle.reader.specs.declared.row.LabelRead.TheVariants as label-variants
-use Rattle.reader.specs.declared.row.RowRead.{RowRead}
-use Rattle.reader.specs.declared.row.RowRead.TheVariants as row-variants
-use Rattle.reader.specs.declared.row.EntryRead.{EntryRead}
-use Rattle.reader.specs.declared.row.EntryRead.TheVariants as entry-variants
-
--- The step that passing over some bytes stands for.
-abbrev pub passed_step : Passed → Step (Unit {0})
-passed_step (passed-variants.To n) = ok tt n
-passed_step (passed-variants.Refused number place) = refuse number place
+use Rattle.reader.specs.declared.row.Entry as rows
 
 -- The step that reading a label stands for, of which its length is told,
-abbrev pub label_step : LabelRead → Step ℕ
-label_step (label-variants.Is p n) = ok p.long n
-label_step (label-variants.Refused number place) = refuse number place
+abbrev pub label_step : Result (Part × ℕ) Refusal → Step ℕ
+label_step (Ok (p, n)) = ok p.long n
+label_step (Err r) = refuse (told r).0 (told r).1
 
 -- and the part that it is.
-abbrev pub LabelAt : List ℕ → ℕ → LabelRead → Type 0
-LabelAt s at (label-variants.Is p n) = p ≡ part_after (up_to longest_label 6 6 s at)
-LabelAt s at (label-variants.Refused number place) = Unit {0}
+abbrev pub LabelAt : List ℕ → ℕ → Result (Part × ℕ) Refusal → Type 0
+LabelAt s at (Ok (p, n)) = p ≡ part_after (up_to longest_label 6 6 s at)
+LabelAt s at (Err r) = Unit {0}
 
 -- The four numbers of a row on m processors.
 unfoldable pub numbers : ℕ → Reader Row
@@ -48,29 +36,24 @@ numbers m = do
   C ← up_to D 7 8
   give (record { threads = t; separation = T; deadline = D; budget = C })
 
--- The step that reading them stands for.
-abbrev pub row_step : RowRead → Step Row
-row_step (row-variants.Is r n) = ok r n
-row_step (row-variants.Refused number place) = refuse number place
-
 -- The step that reading a row with its label stands for, of which the row is told,
-abbrev pub entry_step : EntryRead → Step Row
-entry_step (entry-variants.Is r p n) = ok r n
-entry_step (entry-variants.Refused number place) = refuse number place
+abbrev pub entry_step : Result (rows.Entry × ℕ) Refusal → Step Row
+entry_step (Ok (e, n)) = ok e.row n
+entry_step (Err r) = refuse (told r).0 (told r).1
 
 -- and the part that is its label.
-abbrev pub EntryAt : List ℕ → ℕ → EntryRead → Type 0
-EntryAt s at (entry-variants.Is r p n) = p ≡ part_after (up_to longest_label 6 6 s at)
-EntryAt s at (entry-variants.Refused number place) = Unit {0}
+abbrev pub EntryAt : List ℕ → ℕ → Result (rows.Entry × ℕ) Refusal → Type 0
+EntryAt s at (Ok (e, n)) = e.label ≡ part_after (up_to longest_label 6 6 s at)
+EntryAt s at (Err r) = Unit {0}
 
 -- What stands before the rows.
-abbrev pub head_of : ℕ → ℕ → Head
-head_of m n = record { processors = m; count = n }
+abbrev pub head_of : code.Head → Head
+head_of h = record { processors = h.processors; count = h.count }
 
 -- The step that reading it stands for.
-abbrev pub head_step : HeadRead → Step Head
-head_step (head-variants.Is m n next) = ok (head_of m n) next
-head_step (head-variants.Refused number place) = refuse number place
+abbrev pub head_step : Result (code.Head × ℕ) Refusal → Step Head
+head_step (Ok (h, n)) = ok (head_of h) n
+head_step (Err r) = refuse (told r).0 (told r).1
 
 -- Nothing of a value.
 abbrev pub nothing : {A : Type 0} → A → Unit {0}
@@ -118,9 +101,9 @@ unfoldable pub parts_in : ℕ → List ℕ → ℕ → ℕ → List ℕ → List
 parts_in m s at i l = upto (labels_long i) (pair_cell (λ k. (label_after m s at k).start) (λ k. (label_after m s at k).long)) l
 
 -- Where n rows from a place on are accepted, both lists have them.
-abbrev pub Took : ℕ → ℕ → List ℕ → ℕ → List ℕ → List ℕ → List ℕ → List ℕ → Passed → Type 0
-Took m n s at l b l' b' (passed-variants.To next) = (l' ≡ rows_in m n s at n l) × (b' ≡ parts_in m s at n b)
-Took m n s at l b l' b' (passed-variants.Refused number place) = Unit {0}
+abbrev pub Took : ℕ → ℕ → List ℕ → ℕ → List ℕ → List ℕ → List ℕ → List ℕ → Result ℕ Refusal → Type 0
+Took m n s at l b l' b' (Ok next) = (l' ≡ rows_in m n s at n l) × (b' ≡ parts_in m s at n b)
+Took m n s at l b l' b' (Err r) = Unit {0}
 
 -- Both lists after n rows are handed over, or as they were where one has no room.
 unfoldable pub handed_over : ℕ → List ℕ → List ℕ → List ℕ → List ℕ → Outcome × (List ℕ × List ℕ)

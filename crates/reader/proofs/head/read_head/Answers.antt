@@ -1,15 +1,17 @@
 -- `read_head` meets its promise: each way out is a law of `head`. Assumes nothing.
+use Rattle.basis.specs.Prelude.{refl}
+use Rattle.reader.proofs.Names.{passed_on, up_to_ok, up_to_no}
 use Rattle.reader.proofs.Inside.Heads.{head_unmarked, head_no_processors, head_no_count, head_whole}
 use Rattle.reader.proofs.head.read_head.Goals as goal
 
-pub returns-in-Refused : goal.returns-in-Refused
-returns-in-Refused c = search head_no_processors
+pub returns-then-not-begins_with : goal.returns-then-not-begins_with
+returns-then-not-begins_with c = head_unmarked _ c.if-not-begins_with.ensures
 
-pub returns-in-Refused-read_up_to : goal.returns-in-Refused-read_up_to
-returns-in-Refused-read_up_to c = search head_no_count
+pub returns-in_err-processors : goal.returns-in_err-processors
+returns-in_err-processors c = rw (passed_on _ _ c.from_residual.ensures.1) (head_no_processors _ c.if-not-begins_with.ensures _ _ (up_to_no _ 4 4 _ _ _ _ _ refl refl c.in_err-processors.ensures))
 
-pub returns-in-Is-read_up_to : goal.returns-in-Is-read_up_to
-returns-in-Is-read_up_to c = search head_whole
+pub returns-in_err-count : goal.returns-in_err-count
+returns-in_err-count c = rw (passed_on _ _ c.from_residual-in_err-count.ensures.1) (head_no_count _ c.if-not-begins_with.ensures _ _ (up_to_ok _ 4 4 _ _ _ _ _ _ refl refl c.in_ok-processors.ensures) _ _ (up_to_no _ 5 5 _ _ _ _ _ refl refl c.in_err-count.ensures))
 
-pub returns-else-begins_with : goal.returns-else-begins_with
-returns-else-begins_with c = search head_unmarked
+pub returns : goal.returns
+returns c = head_whole _ c.if-not-begins_with.ensures _ _ (up_to_ok _ 4 4 _ _ _ _ _ _ refl refl c.in_ok-processors.ensures) _ _ (up_to_ok _ 5 5 _ _ _ _ _ _ refl refl c.in_ok-count.ensures)

@@ -3,8 +3,8 @@ use Rattle.basis.specs.Prelude.{rules}
 use Rattle.reader.proofs.RowLabels.{part_fits, part_ends, part_shown}
 use Rattle.reader.proofs.labels.label.Goals as goal
 
-pub overflow_add-end : goal.overflow_add-end
-overflow_add-end c = search (rules, part_ends)
+pub overflow_add-result : goal.overflow_add-result
+overflow_add-result c = search (rules, part_ends)
 
 pub slice_bounds-result-end : goal.slice_bounds-result-end
 slice_bounds-result-end c = search part_fits
