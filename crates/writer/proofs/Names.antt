@@ -5,7 +5,7 @@ pub use Rattle.basis.proofs.Inside.Stores.{sets_after}
 pub use Rattle.basis.proofs.Inside.Sums.{sum_grows, sum_one_more}
 pub use Rattle.basis.proofs.Inside.Words.{all_at, all_fails, all_one_more, all_true, at_least, at_most, both_left, both_right, both_true, lt_or_le, within_true}
 pub use Rattle.basis.proofs.Lent.{put_refused, written_same, written_whole, wrote}
-pub use Rattle.basis.proofs.Refusals.{needed_holds}
+pub use Rattle.basis.proofs.Refusals.{needed_holds, passed_on}
 pub use Rattle.basis.specs.Lent.{Answer, answer, nothing_by, written_by, written_told}
 pub use Rattle.basis.specs.Limits.{longest_label, most_processors, most_rows, most_separation}
 pub use Rattle.basis.specs.Readers.{Bytes, enough, marked, ok}
@@ -15,7 +15,6 @@ unfoldable pub use Rattle.basis.specs.Refusals.{first_of}
 pub use Rattle.basis.specs.Words.{Each, both, pick, within}
 unfoldable pub use Rattle.basis.specs.Words.{all_of, sum}
 pub use Rattle.basis.specs.declared.refusal.Refusal.{Refusal}
-pub use Rattle.basis.specs.declared.refusal.Refusal.TheVariants.{Accepted, Refused}
 pub use Rattle.numbers.proofs.Back.{Reads, at_place, reads_end, reads_give, reads_then, reads_up_to}
 pub use Rattle.numbers.proofs.Inside.Bounds.{bounded}
 pub use Rattle.numbers.proofs.Inside.Covers.{Covers, covers_all, covers_as, covers_mark, covers_none, covers_part, covers_then, covers_up_to}

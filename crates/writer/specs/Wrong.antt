@@ -5,7 +5,8 @@ use Rattle.basis.specs.Limits.{most_groups}
 use Rattle.basis.specs.Words.{pick}
 use Rattle.basis.specs.Refusals.{Outcome, accepted, refused, is_accepted, or_else, first_of, needed, room_for}
 use Rattle.basis.specs.Lent.{Answer, answer, written_told, written_by}
-use Rattle.basis.specs.declared.stored.Written.{Written}
+use Rattle.std.specs.Prelude.{Result}
+use Rattle.basis.specs.declared.refusal.Refusal.{Refusal}
 use Rattle.sheet.specs.Legal.{legal}
 use Rattle.sheet.specs.declared.row.Sheet.{Sheet}
 use Rattle.reader.specs.Form.{Entry, Held, mark_bytes}
@@ -14,7 +15,7 @@ use Rattle.writer.specs.Form.{sheet_bytes}
 use Rattle.writer.specs.Answers.{part_of, held_by, is_label, label_at, check_sheet, write_sheet}
 
 -- The code's answer with the buffer after it.
-abbrev pub written_answer : Written × List ℕ → Answer
+abbrev pub written_answer : Result ℕ Refusal × List ℕ → Answer
 written_answer (r, out) = written_told r out
 
 -- A sheet written by another rule of its bytes.

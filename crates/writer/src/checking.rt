@@ -25,16 +25,10 @@ pub(crate) fn part_of(labels: &[u64], k: usize) -> Part
 fn is_plain(label: &[u8]) -> bool
     ensures { result ≡ all_of (length label.now) (plain_at label.now) }
 {
-    let mut i: usize = 0;
-    while i < label.len() {
-        let b = label[i];
-        if b < 0x21 {
+    for b in label {
+        if *b < 0x21 || 0x7E < *b {
             return false;
         }
-        if 0x7E < b {
-            return false;
-        }
-        i += 1;
     }
     true
 }
@@ -43,50 +37,34 @@ fn is_plain(label: &[u8]) -> bool
 fn label_lies(bytes: &[u8], part: Part) -> bool
     ensures { result ≡ label_lies bytes.now part }
 {
-    let start = part.start;
-    let long = part.long;
-    if long < 1 {
+    if part.long < 1 || (LONGEST_LABEL as usize) < part.long {
         return false;
     }
-    if (LONGEST_LABEL as usize) < long {
+    if bytes.len() < part.long || bytes.len() - part.long < part.start {
         return false;
     }
-    if bytes.len() < long {
-        return false;
-    }
-    if bytes.len() - long < start {
-        return false;
-    }
-    let end = start + long;
-    is_plain(&bytes[start..end])
+    is_plain(&bytes[part.start..part.start + part.long])
 }
 
 // 6 for the first of n rows that has no such label.
-fn check_labels(bytes: &[u8], labels: &[u64], n: usize) -> Refusal
+fn check_labels(bytes: &[u8], labels: &[u64], n: usize) -> Result<(), Refusal>
     requires { n ≤ most_rows }
     ensures { outcome result ≡ first_of n (label_at bytes.now labels.now) }
 {
-    let mut i: usize = 0;
-    while i < n {
-        let part = part_of(labels, i);
-        let fine = label_lies(bytes, part);
-        if fine {
-            i += 1;
-        } else {
-            return Refusal::Refused(6, i);
+    for row in 0..n {
+        if !label_lies(bytes, part_of(labels, row)) {
+            return Err(Refusal::Label(row));
         }
     }
-    Refusal::Accepted
+    Ok(())
 }
 
 // 10, 6.
-pub(crate) fn check_sheet(sheet: &[u64], bytes: &[u8], labels: &[u64]) -> Refusal
+pub(crate) fn check_sheet(sheet: &[u64], bytes: &[u8], labels: &[u64]) -> Result<(), Refusal>
     ensures { outcome result ≡ check_sheet (sheet_in sheet.now) bytes.now labels.now }
 {
-    let fine = sheet::is_legal(sheet);
-    if fine {
-        let n = sheet::count(sheet) as usize;
-        return check_labels(bytes, labels, n);
+    if !sheet::is_legal(sheet) {
+        return Err(Refusal::Sheet);
     }
-    Refusal::Refused(10, 0)
+    check_labels(bytes, labels, sheet::count(sheet) as usize)
 }

@@ -17,17 +17,17 @@ const LONGEST_SHEET: usize = 870;
 fn row_length(row: Row) -> usize
     ensures { (result ≡ row_long row) × (result ≤ most_row) }
 {
-    let first = number_length(row.threads) + number_length(row.separation);
-    let second = number_length(row.deadline) + number_length(row.budget);
-    first + second
+    number_length(row.threads)
+        + number_length(row.separation)
+        + number_length(row.deadline)
+        + number_length(row.budget)
 }
 
 // What stands before the rows.
 fn head_length(processors: u64, count: u64) -> usize
     ensures { (result ≡ head_long processors count) × (result ≤ most_head) }
 {
-    let numbers = number_length(processors) + number_length(count);
-    4 + numbers
+    4 + number_length(processors) + number_length(count)
 }
 
 // Whether a sheet of n rows has room in so many bytes; where the longest has, nothing is measured.
@@ -43,8 +43,7 @@ pub(crate) fn fits(sheet: &[u64], labels: &[u64], n: usize, room: usize) -> bool
         return false;
     }
     let mut left = room - head;
-    let mut i: usize = 0;
-    while i < n {
+    for i in 0..n {
         let long = part_of(labels, i).long;
         if left < long {
             return false;
@@ -54,7 +53,6 @@ pub(crate) fn fits(sheet: &[u64], labels: &[u64], n: usize, room: usize) -> bool
             return false;
         }
         left = left - long - rest;
-        i += 1;
     }
     true
 }

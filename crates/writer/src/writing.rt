@@ -11,7 +11,7 @@ ghost use Rattle.writer.specs.Inside.Bounds.{most_head, most_label, most_row, mo
 
 use crate::checking::{check_sheet, part_of};
 use crate::measuring::fits;
-use basis::{Refusal, Written};
+use basis::Refusal;
 use numbers::write_number;
 use reader::MARK;
 use sheet::Row;
@@ -21,8 +21,7 @@ fn write_label(label: &[u8], out: &mut [u8], at: usize) -> usize
     requires { (length label.now ≤ longest_label) × (at ≤ most_sheet) }
     ensures { (result ≡ at + length (label_bytes label.now)) × (result ≤ at + most_label) × (out.new ≡ sets out.old at (label_bytes label.now)) }
 {
-    let long = write_number(out, at, label.len() as u64);
-    let start = at + long;
+    let start = at + write_number(out, at, label.len() as u64);
     basis::put_bytes(out, start, label);
     start + label.len()
 }
@@ -32,14 +31,10 @@ fn write_row(row: Row, out: &mut [u8], at: usize) -> usize
     requires { at ≤ most_sheet + most_label }
     ensures { (result ≡ at + length (row_bytes row)) × (result ≤ at + most_row) × (out.new ≡ sets out.old at (row_bytes row)) }
 {
-    let threads = write_number(out, at, row.threads);
-    let second = at + threads;
-    let separation = write_number(out, second, row.separation);
-    let third = second + separation;
-    let deadline = write_number(out, third, row.deadline);
-    let fourth = third + deadline;
-    let budget = write_number(out, fourth, row.budget);
-    fourth + budget
+    let second = at + write_number(out, at, row.threads);
+    let third = second + write_number(out, second, row.separation);
+    let fourth = third + write_number(out, third, row.deadline);
+    fourth + write_number(out, fourth, row.budget)
 }
 
 // Writes row k with its label, and answers the place after it.
@@ -57,9 +52,8 @@ fn write_entry(
         × (out.new ≡ sets out.old at (entry_bytes (entry_of (sheet_in sheet.now) bytes.now labels.now k))) }
 {
     let part = part_of(labels, k);
-    let start = part.start;
-    let end = start + part.long;
-    let next = write_label(&bytes[start..end], out, at);
+    let label = &bytes[part.start..part.start + part.long];
+    let next = write_label(label, out, at);
     write_row(sheet::row_at(sheet, k), out, next)
 }
 
@@ -77,10 +71,8 @@ fn write_rows(
         × (out.new ≡ sets out.old at (entries_bytes (first_rows n (entry_of (sheet_in sheet.now) bytes.now labels.now)))) }
 {
     let mut next = at;
-    let mut i: usize = 0;
-    while i < n {
+    for i in 0..n {
         next = write_entry(sheet, bytes, labels, i, out, next);
-        i += 1;
     }
     next
 }
@@ -90,9 +82,8 @@ fn write_head(processors: u64, count: u64, out: &mut [u8]) -> usize
     ensures { (result ≡ length (head_bytes processors count)) × (result ≤ most_head) × (out.new ≡ sets out.old 0 (head_bytes processors count)) }
 {
     basis::put_bytes(out, 0, &MARK);
-    let first = write_number(out, 4, processors);
-    let second = write_number(out, 4 + first, count);
-    4 + first + second
+    let second = 4 + write_number(out, 4, processors);
+    second + write_number(out, second, count)
 }
 
 // Writes a sheet, and answers how many bytes it takes.
@@ -107,33 +98,31 @@ fn write_all(sheet: &[u64], bytes: &[u8], labels: &[u64], out: &mut [u8]) -> usi
 }
 
 // The same where there is room, and 15 where there is not.
-fn write_checked(sheet: &[u64], bytes: &[u8], labels: &[u64], out: &mut [u8]) -> Written
+fn write_checked(
+    sheet: &[u64],
+    bytes: &[u8],
+    labels: &[u64],
+    out: &mut [u8],
+) -> Result<usize, Refusal>
     requires { check_sheet (sheet_in sheet.now) bytes.now labels.now ≡ accepted }
     ensures { written_told result out.new ≡ write_sheet (sheet_in sheet.now) bytes.now labels.now out.old }
 {
     let n = sheet::count(sheet) as usize;
-    if fits(sheet, labels, n, out.len()) {
-        let length = write_all(sheet, bytes, labels, out);
-        return Written {
-            refusal: Refusal::Accepted,
-            length,
-        };
+    if !fits(sheet, labels, n, out.len()) {
+        return Err(Refusal::Room);
     }
-    Written {
-        refusal: Refusal::Refused(15, 0),
-        length: 0,
-    }
+    Ok(write_all(sheet, bytes, labels, out))
 }
 
 // Writes a sheet from its numbers and the labels of its rows, which are parts of some bytes; the number of bytes, or the one refusal.
-pub fn write_sheet(sheet: &[u64], bytes: &[u8], labels: &[u64], out: &mut [u8]) -> Written
+pub fn write_sheet(
+    sheet: &[u64],
+    bytes: &[u8],
+    labels: &[u64],
+    out: &mut [u8],
+) -> Result<usize, Refusal>
     ensures { written_told result out.new ≡ write_sheet (sheet_in sheet.now) bytes.now labels.now out.old }
 {
-    match check_sheet(sheet, bytes, labels) {
-        Refusal::Refused(number, place) => Written {
-            refusal: Refusal::Refused(number, place),
-            length: 0,
-        },
-        Refusal::Accepted => write_checked(sheet, bytes, labels, out),
-    }
+    check_sheet(sheet, bytes, labels)?;
+    write_checked(sheet, bytes, labels, out)
 }

@@ -6,12 +6,12 @@ use Rattle.writer.proofs.Inside.Rows.{rows_count, entries_both}
 
 -- `row_length`
 pub row_measured : (row : Row) (a b c d : ℕ) → a ≡ width row.threads → b ≡ width row.separation → c ≡ width row.deadline → d ≡ width row.budget
-    → a + b + (c + d) ≡ row_long row
+    → a + b + c + d ≡ row_long row
 unfolding row_long
 row_measured row a b c d ea eb ec ed = omega (arith, ea, eb, ec, ed)
 
 -- `head_length`
-pub head_measured : (m n a b : ℕ) → a ≡ width m → b ≡ width n → 4 + (a + b) ≡ head_long m n
+pub head_measured : (m n a b : ℕ) → a ≡ width m → b ≡ width n → 4 + a + b ≡ head_long m n
 unfolding head_long
 head_measured m n a b ea eb = omega (arith, ea, eb)
 

@@ -1,6 +1,6 @@
 -- The functions that write: each part is stored after the one before it. Assumes nothing.
 use Rattle.basis.specs.Prelude.{ℕ, ◌+◌, ◌-◌, ◌^◌, ◌≤◌, ◌<◌, ◌≡◌, refl, sym, ap, ap₂, ◌∙◌, Bool, true, false, leb, leb-true, List, ◌++◌, arith, add-zero, zero-add, length, length-append, take, drop, sets, w64, Fits}
-use Rattle.writer.proofs.Names.{written_whole, answer, nothing_by, written_by, Outcome, outcome, refused, Refusal, Accepted, Refused, sheet_length, write_sheet, sets_after, first_at, first_of, most_rows, longest_label, accepted, spell, width, Entry, mark_bytes, part_in, Part, row_at, Row, Sheet, part_of, entry_of, held_by, first_rows, label_at, check_sheet, sheet_bytes, label_bytes, row_bytes, entry_bytes, entries_bytes, head_bytes}
+use Rattle.writer.proofs.Names.{written_whole, answer, nothing_by, written_by, Outcome, refused, sheet_length, write_sheet, sets_after, first_at, first_of, most_rows, longest_label, accepted, spell, width, Entry, mark_bytes, part_in, Part, row_at, Row, Sheet, part_of, entry_of, held_by, first_rows, label_at, check_sheet, sheet_bytes, label_bytes, row_bytes, entry_bytes, entries_bytes, head_bytes}
 use Rattle.writer.proofs.Inside.Checks.{label_inside, label_long, label_short, checked_few, checked_labels}
 use Rattle.writer.proofs.Inside.Lengths.{row_measured, head_measured, row_bytes_long, head_bytes_long, long_sheet}
 use Rattle.writer.proofs.Inside.Rows.{rows_count, rows_more}
@@ -135,10 +135,6 @@ module _ (h : Sheet) (s labels : List ℕ) (e : check_sheet h s labels ≡ accep
       ap₂ (λ (x : ℕ) (y : List ℕ). answer accepted x y) ek eo ∙ sym (written_whole (check_sheet h s labels) (sheet_bytes (held_by h s labels)) out e room)
 
 -- `write_sheet`
-module _ (h : Sheet) (s labels : List ℕ) (c : Refusal) (ec : outcome c ≡ check_sheet h s labels) where
-  pub sheet_refused : (out : List ℕ) (a b : ℕ) → c ≡ Refused a b → nothing_by (refused a b) out ≡ write_sheet h s labels out
-  unfolding write_sheet
-  sheet_refused out a b f = ap (λ (o : Outcome). written_by o (sheet_bytes (held_by h s labels)) out) (sym (ap outcome f) ∙ ec)
-
-  pub sheet_fine : c ≡ Accepted → check_sheet h s labels ≡ accepted
-  sheet_fine f = sym ec ∙ ap outcome f
+pub sheet_refused : (h : Sheet) (s labels out : List ℕ) (a b : ℕ) → refused a b ≡ check_sheet h s labels → nothing_by (refused a b) out ≡ write_sheet h s labels out
+unfolding write_sheet
+sheet_refused h s labels out a b e = ap (λ (o : Outcome). written_by o (sheet_bytes (held_by h s labels)) out) e

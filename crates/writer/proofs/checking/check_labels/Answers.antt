@@ -4,17 +4,17 @@ use Rattle.writer.proofs.Names.{first_of}
 use Rattle.writer.proofs.Inside.Checks.{labels_more, labels_refused, labels_fine}
 use Rattle.writer.proofs.checking.check_labels.Goals as goal
 
-pub loop-i-init : goal.loop-i-init
+pub loop-row-init : goal.loop-row-init
 unfolding first_of
-loop-i-init c = (search rules, search rules, refl)
+loop-row-init c = (search rules, refl)
 
-pub loop-i-preserved : goal.loop-i-preserved
+pub loop-row-preserved : goal.loop-row-preserved
 unfolding first_of
-loop-i-preserved c = (search rules, search rules, search labels_more)
+loop-row-preserved c = (search rules, search labels_more)
 
-pub returns-else-fine : goal.returns-else-fine
+pub returns-then-not-label_lies : goal.returns-then-not-label_lies
 unfolding first_of
-returns-else-fine c = search labels_refused
+returns-then-not-label_lies c = search labels_refused
 
 pub returns : goal.returns
 unfolding first_of

@@ -10,7 +10,7 @@ pub returns-then-room-head : goal.returns-then-room-head
 returns-then-room-head c = search fits_no_head
 
 pub loop-i-init : goal.loop-i-init
-loop-i-init c = (search rules, search rules, search rules, search head_is, search fits_none)
+loop-i-init c = (search rules, search rules, search head_is, search fits_none)
 
 pub returns-then-left-long : goal.returns-then-left-long
 returns-then-left-long c = search fits_no_label
@@ -19,7 +19,7 @@ pub returns-then-left-long-2 : goal.returns-then-left-long-2
 returns-then-left-long-2 c = search fits_no_row
 
 pub loop-i-preserved : goal.loop-i-preserved
-loop-i-preserved c = (search rules, search rules, search rules, search rules, search fits_more)
+loop-i-preserved c = (search rules, search rules, search rules, search fits_more)
 
 pub returns : goal.returns
 returns c = search fits_all

@@ -7,8 +7,8 @@ use Rattle.writer.proofs.writing.write_checked.Goals as goal
 pub fits-requires : goal.fits-requires
 fits-requires c = (search rules, search all_few, search all_short)
 
-pub returns-then-fits : goal.returns-then-fits
-returns-then-fits c = search all_written
+pub returns-then-not-fits : goal.returns-then-not-fits
+returns-then-not-fits c = search no_room
 
 pub returns : goal.returns
-returns c = search no_room
+returns c = search all_written

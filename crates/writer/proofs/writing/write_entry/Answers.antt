@@ -3,11 +3,11 @@ use Rattle.basis.specs.Prelude.{rules}
 use Rattle.writer.proofs.Inside.Stored.{part_lies, part_ends, cut_short, entry_next, entry_stored}
 use Rattle.writer.proofs.writing.write_entry.Goals as goal
 
-pub overflow_add-end : goal.overflow_add-end
-overflow_add-end c = search (rules, part_ends)
+pub overflow_add-label : goal.overflow_add-label
+overflow_add-label c = search (rules, part_ends)
 
-pub slice_bounds-write_label-end : goal.slice_bounds-write_label-end
-slice_bounds-write_label-end c = search part_lies
+pub slice_bounds-label-end : goal.slice_bounds-label-end
+slice_bounds-label-end c = search part_lies
 
 pub write_label-next-requires : goal.write_label-next-requires
 write_label-next-requires c = (search cut_short, search rules)
