@@ -72,12 +72,10 @@ pub(crate) fn judge_rows(sheet: &[u64], results: &mut [u64], n: usize) -> bool
         × (results.new ≡ upto (results_long n) (result_cell (words (sheet_in sheet.now))) results.old) }
 {
     let mut reached = true;
-    let mut i: usize = 0;
-    while i < n {
+    for i in 0..n {
         let result = judge_row(sheet, results, i, reached);
         put_result(results, i, result);
         reached = is_bound(result);
-        i += 1;
     }
     reached
 }

@@ -100,10 +100,8 @@ fn results_of(results: &[u64], judgement: Judgement) -> Results
     let mut rows = [Judged {
         result: Result::Unreached,
     }; MOST_ROWS];
-    let mut i: usize = 0;
-    while i < MOST_ROWS {
+    for i in 0..MOST_ROWS {
         rows[i] = judged_at(results, i);
-        i += 1;
     }
     Results {
         refusal,

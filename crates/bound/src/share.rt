@@ -39,13 +39,11 @@ fn shares_above(sheet: &[u64], results: &[u64], k: usize, length: Duration) -> F
     let q = q_of(sheet, k);
     let X = window_of(sheet, k, length);
     let mut sum = FineAmount::none();
-    let mut i: usize = 0;
-    while i < k {
+    for i in 0..k {
         let row = row_inside(sheet, i);
         let bound = Duration(results[i * 2 + 1]);
         let share = share_above(row, bound, length, X, q);
         sum = sum.plus(share);
-        i += 1;
     }
     sum
 }

@@ -31,13 +31,11 @@ pub(crate) fn first_length(sheet: &[u64], results: &[u64], k: usize) -> Duration
     let m = processors(sheet);
     let row = row_inside(sheet, k);
     let mut first = Duration(row.budget);
-    let mut j: usize = 0;
-    while j < k {
+    for j in 0..k {
         let above = row_inside(sheet, j);
         let bound = Duration(results[j * 2 + 1]);
         let later = carried(m, row, above, bound);
         first = first.greater(later);
-        j += 1;
     }
     first
 }

@@ -147,10 +147,8 @@ fn ends_of_rows(sheet: &[u64], results: &[u64], k: usize, s: Stretch, spare: Fin
         then: FineAmount::none(),
         spare,
     };
-    let mut i: usize = 0;
-    while i < k {
+    for i in 0..k {
         ends = with_row(sheet, results, k, s, i, ends);
-        i += 1;
     }
     ends
 }

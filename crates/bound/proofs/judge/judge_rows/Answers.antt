@@ -5,13 +5,13 @@ use Rattle.bound.proofs.Inside.Rows.{lists_are_lent, so_far_none, so_far_long, r
 use Rattle.bound.proofs.judge.judge_rows.Goals as goal
 
 pub loop-i-init : goal.loop-i-init
-loop-i-init c = (search rules, search rules, search legal_is, search lists_are_lent, search so_far_none)
+loop-i-init c = (search rules, search legal_is, search lists_are_lent, search so_far_none)
 
 pub judge_row-result-requires : goal.judge_row-result-requires
 judge_row-result-requires c = (search rules, search rules, search rules, search (rows_above, rules))
 
 pub loop-i-preserved : goal.loop-i-preserved
-loop-i-preserved c = (search rules, search rules, search rules, search still_lent, search so_far_more)
+loop-i-preserved c = (search rules, search rules, search still_lent, search so_far_more)
 
 pub shape_of-results : goal.shape_of-results
 shape_of-results c = search so_far_long

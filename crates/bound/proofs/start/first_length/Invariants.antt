@@ -1,10 +1,6 @@
 -- `first_length` is a length before which none passes: the latest that the rows above give. Assumes nothing.
-use Rattle.basis.specs.Prelude.{◌≤◌, ◌-◌}
 use Rattle.bound.proofs.Names.{sheet_in, held_in, Starts}
 use Rattle.bound.proofs.start.first_length.Given as goal
 
 abbrev pub invariant-loop-j : goal.invariant-loop-j
-invariant-loop-j l = (l.j ≤ l.k) × (Starts (sheet_in l.sheet) (held_in l.results) l.k l.first)
-
-abbrev pub decreases-loop-j : goal.decreases-loop-j
-decreases-loop-j l = l.k - l.j
+invariant-loop-j l = Starts (sheet_in l.sheet) (held_in l.results) l.k l.first
