@@ -1,5 +1,6 @@
 -- The quantities of one row above: each fits, and each is the definition's. Assumes nothing.
-use Rattle.basis.specs.Prelude.{ℕ, ◌+◌, ◌*◌, ◌-◌, ◌/◌, ◌%◌, ◌≤◌, ◌<◌, min, ◌≡◌, refl, ap, div-mul-le_self, div-add-mod', mod-lt, mul-le-mul_left, mul-le-mul, arith, Fits, w64}
+use Rattle.basis.specs.Prelude.{ℕ, ◌+◌, ◌*◌, ◌-◌, ◌/◌, ◌%◌, ◌≤◌, ◌<◌, min, ◌≡◌, refl, ap, div-mul-le_self, div-add-mod', mod-lt, mul-le-mul_left, mul-le-mul, arith, rules, Bool, leb, ltb, Fits, w64}
+use Rattle.std.proofs.Common.{is_lt, is_le, nat_cmp}
 use Rattle.bound.proofs.Names.{most_processors, Row, widest_rows, widest_separation, slots, on, x, W, duration_of, Above, Spans, stay_of, Duration, Amount, FineAmount}
 
 -- equal quantities have equal numbers, and amounts of equal numbers are equal
@@ -14,6 +15,13 @@ number_in e = ap (λ (d : FineAmount). d.0) e
 
 pub same_amount : {a b : Amount} → a.0 ≡ b.0 → a ≡ b
 same_amount e = ap (λ (n : ℕ). record { 0 = n }) e
+
+-- what a comparison of two quantities tells of their numbers
+pub less_is : (a b : ℕ) (t : Bool) → t ≡ is_lt (nat_cmp a b) → t ≡ ltb a b
+less_is a b t e = search rules
+
+pub at_most_is : (a b : ℕ) (t : Bool) → t ≡ is_le (nat_cmp a b) → t ≡ leb a b
+at_most_is a b t e = search rules
 
 -- the largest amount, and the largest in 256ths
 pub most_amount : (d g : ℕ) → d ≤ widest_separation → g ≤ most_processors → d * g ≤ widest_separation * most_processors

@@ -13,19 +13,16 @@ pub use Rattle.basis.specs.Words.{Each, both, pick}
 unfoldable pub use Rattle.basis.specs.Words.{all_of, sum}
 pub use Rattle.bound.specs.Bound.{Answer, Word, all_unreached, answer, bound, bounded, bounds, bounds_of, is_bound, none, not_legal, passes_at, unreached, value_of, word, word_in}
 unfoldable pub use Rattle.bound.specs.Bound.{bound_by, bounds_by, holds, judge, least, result_of, results_to}
-pub use Rattle.bound.specs.Inside.Parts.{on_fine, parts, pieces}
+pub use Rattle.bound.specs.Inside.Parts.{on_fine, parts, pieces, FineAmount}
 pub use Rattle.bound.specs.Inside.Ready.{Above, Length, Lent, Ready, RowsAbove, SoFar, Spans, held_in}
 pub use Rattle.bound.specs.Inside.Skipping.{Adds, AllFail, Along, Fills, Paces, RowMeets, RowsMeet, Says, Shares, Skips, Starts, Steep, Stretches, amount_along, way}
 unfoldable pub use Rattle.bound.specs.Inside.Skipping.{carried_of, joined, lasts, share_of, stay_of}
 pub use Rattle.bound.specs.Lists.{bound_number, results_long, word_number, words}
 unfoldable pub use Rattle.bound.specs.Lists.{bounds_on, judged_bytes, put_result, result_cell, results_on, word_at}
-pub use Rattle.bound.specs.Quantities.{lesser, minus, on, plus, slots, widest_rows, widest_separation}
+pub use Rattle.bound.specs.Quantities.{lesser, minus, on, plus, slots, widest_rows, widest_separation, Amount, Duration}
 pub use Rattle.bound.specs.Test.{C, Test}
 unfoldable pub use Rattle.bound.specs.Test.{W, X, amount_of, amounts, duration_of, passes, q, room, x}
 pub use Rattle.bound.specs.declared.pace.Pace.{Pace}
-pub use Rattle.bound.specs.declared.quantity.Amount.{Amount}
-pub use Rattle.bound.specs.declared.quantity.Duration.{Duration}
-pub use Rattle.bound.specs.declared.quantity.FineAmount.{FineAmount}
 pub use Rattle.bound.specs.declared.results.Judgement.{Judgement}
 pub use Rattle.bound.specs.declared.results.Result.{Result}
 pub use Rattle.bound.specs.declared.stretch.Stretch.{Stretch}

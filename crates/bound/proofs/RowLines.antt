@@ -1,5 +1,5 @@
 -- A straight line that a row's amount is never below along a stretch, for each of three ways to choose it: its own amounts, its shares, and level. Assumes nothing.
-use Rattle.basis.specs.Prelude.{ℕ, ◌+◌, ◌*◌, ◌-◌, ◌%◌, ◌≤◌, min, ◌≡◌, true, mul-le-mul_left, mul-le-mul_right, le_of_mul-le-mul_right, div-mul-le_self, mod-lt, arith, leb-true, leb, Fits, w64}
+use Rattle.basis.specs.Prelude.{Bool, ◌∙◌, ℕ, ◌+◌, ◌*◌, ◌-◌, ◌%◌, ◌≤◌, min, ◌≡◌, true, mul-le-mul_left, mul-le-mul_right, le_of_mul-le-mul_right, div-mul-le_self, mod-lt, arith, leb-true, leb, Fits, w64}
 use Rattle.bound.proofs.Names.{most_processors, lesser_evenly, Row, widest_separation, slots, plus, on, on_fine, x, W, duration_of, share_of, way, Along, RowMeets, lasts, Duration, Amount, FineAmount, Stretch}
 use Rattle.bound.proofs.Durations.{most_fine}
 use Rattle.bound.proofs.Workload.{W_mono, W_shares, W_evenly}
@@ -66,9 +66,9 @@ module _ (row : Row) (R : Duration) (s : Stretch) (b : ℕ) (al : Along row R s 
     pub lasts_fits : Fits w64 (ran.0 + w.0)
     lasts_fits = omega (arith, mod-lt z.0 some_separation)
 
-    pub lasts_is : (e : Duration) → z ≡ x row R s.from → e.0 ≡ ran.0 + w.0 → leb e.0 row.separation ≡ lasts row R s
+    pub lasts_is : (e : Duration) (t : Bool) → t ≡ leb e.0 row.separation → z ≡ x row R s.from → e.0 ≡ ran.0 + w.0 → t ≡ lasts row R s
     unfolding lasts
-    lasts_is e ez ee = rw (ee, er, ew, ez)
+    lasts_is e t et ez ee = et ∙ rw (ee, er, ew, ez)
 
   -- the code's three choices
   module _ (n t : Amount) (p z o : FineAmount) (ep : p.0 ≡ 256 * n.0) (ez : z.0 ≡ 256 * t.0) (sn : n.0 ≤ widest_separation * most_processors) (st : t.0 ≤ widest_separation * most_processors) where

@@ -1,11 +1,11 @@
 -- Shares: in proportion to X, the amounts in a shorter length are no less than the shares in a longer one. So where these leave no room, no shorter length passes. Assumes nothing.
 use Rattle.basis.specs.Prelude.{ℕ, ◌+◌, ◌*◌, ◌-◌, ◌/◌, ◌≤◌, ◌<◌, min, ◌≡◌, sym, ap, ◌∙◌, Bool, true, false, ⊎_elim, mul-le-mul_left, mul-le-mul_right, le_of_mul-le-mul_left, le_of_mul-le-mul_right, div-mul-le_self, arith, ltb-true, ltb, Fits, w64}
 use Rattle.bound.proofs.Names.{most_processors, lt_or_le, row_at, LegalRow, Row, Sheet, widest_separation, slots, parts, pieces, on_fine, q, X, x, duration_of, amount_of, amounts, room, Ready, Length, Skips, share_of, Shares, AllFail, Duration, Amount, FineAmount}
-use Rattle.bound.specs.declared.quantity.Fine.{Fine}
 use Rattle.bound.proofs.Inside.Lengths.{never}
 use Rattle.bound.proofs.Durations.{number_in, most_fine}
 use Rattle.bound.proofs.Workload.{W_shares}
 use Rattle.bound.proofs.Amounts.{few_rows, row, own_row, q_small, X_small, X_some, X_mono, room_by_q, fails_where, amounts_more}
+use Rattle.bound.specs.Inside.Parts.{Fine}
 
 -- ---- one row
 

@@ -7,9 +7,8 @@ use Rattle.basis.specs.Upto.{upto}
 use Rattle.basis.specs.Refusals.{Outcome, accepted, refused, outcome}
 use Rattle.sheet.specs.Legal.{row_at, legal}
 use Rattle.sheet.specs.declared.row.Sheet.{Sheet}
-use Rattle.bound.specs.Quantities.{slots}
+use Rattle.bound.specs.Quantities.{slots, Duration}
 use Rattle.bound.specs.Test.{D, C, Test, passes}
-use Rattle.bound.specs.declared.quantity.Duration.{Duration}
 use Rattle.bound.specs.declared.results.Result.{Result}
 use Rattle.bound.specs.declared.results.Result.TheVariants.{Unreached, Bound, NoBound}
 use Rattle.bound.specs.declared.results.Judged.{Judged}

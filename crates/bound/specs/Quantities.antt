@@ -3,8 +3,7 @@
 use Rattle.std.specs.Prelude.{◌+◌, ◌-◌, ◌*◌, ◌/◌, ◌%◌}
 use Rattle.basis.specs.Prelude.{ℕ, min, max, Bool, ltb}
 use Rattle.basis.specs.Words.{sum}
-use Rattle.bound.specs.declared.quantity.Duration.{Duration}
-use Rattle.bound.specs.declared.quantity.Amount.{Amount}
+use Rattle.bound.specs.declared.quantity.Quantity.{Quantity}
 
 -- The longest separation, and the most rows, for which every sum and product of these is proved to fit: as far as the limits of a sheet may ever be raised.
 abbrev pub widest_separation : ℕ
@@ -12,6 +11,13 @@ widest_separation = 100000000
 
 abbrev pub widest_rows : ℕ
 widest_rows = 160
+
+-- Slots, and slots times processors: quantities that are no amount and that are one, of which each has one part.
+abbrev pub Duration : Type 0
+Duration = Quantity 0 1
+
+abbrev pub Amount : Type 0
+Amount = Quantity 1 1
 
 -- So many slots.
 abbrev pub slots : ℕ → Duration

@@ -5,9 +5,7 @@ use Rattle.basis.specs.Prelude.{ℕ, min, Bool}
 use Rattle.sheet.specs.Legal.{row_at}
 use Rattle.sheet.specs.declared.row.Row.{Row}
 use Rattle.sheet.specs.declared.row.Sheet.{Sheet}
-use Rattle.bound.specs.Quantities.{slots, plus, minus, lesser, times, into, on, together, less}
-use Rattle.bound.specs.declared.quantity.Duration.{Duration}
-use Rattle.bound.specs.declared.quantity.Amount.{Amount}
+use Rattle.bound.specs.Quantities.{slots, plus, minus, lesser, times, into, on, together, less, Duration, Amount}
 
 -- T, a row's separation, as a duration.
 abbrev pub T : Row → Duration

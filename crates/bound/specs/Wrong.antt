@@ -8,12 +8,10 @@ use Rattle.sheet.specs.Legal.{row_at}
 use Rattle.sheet.specs.Lists.{filled, sheet_in}
 use Rattle.sheet.specs.declared.row.Sheet.{Sheet}
 use Rattle.reader.specs.Lists.{read_into}
-use Rattle.bound.specs.Quantities.{minus, lesser, on, no_amount, together, less}
+use Rattle.bound.specs.Quantities.{minus, lesser, on, no_amount, together, less, Duration, Amount}
 use Rattle.bound.specs.Test.{C, q, X, W, duration_of, amounts, room, Test, passes}
 use Rattle.bound.specs.Bound.{Word, bound, none, unreached, bounds, bound_by, all_unreached, holds, Answer, bounds_of}
 use Rattle.bound.specs.Lists.{results_long, result_cell}
-use Rattle.bound.specs.declared.quantity.Duration.{Duration}
-use Rattle.bound.specs.declared.quantity.Amount.{Amount}
 use Rattle.tables.specs.Tables.{row, sheet_of}
 
 -- ---- wrong tests

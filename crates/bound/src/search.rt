@@ -8,7 +8,7 @@ ghost use Rattle.bound.specs.Inside.Ready.{held_in, Lent, Ready, Length};
 ghost use Rattle.bound.specs.Inside.Skipping.{Adds, Fills, Skips, Says};
 
 use crate::pace::steep;
-use crate::quantity::{Duration, FineAmount};
+use crate::quantity::{Duration, FineAmount, Quantity};
 use crate::results::Result;
 use crate::row::row_inside;
 use crate::share::no_room;
@@ -49,8 +49,8 @@ fn next_length(sheet: &[u64], results: &[u64], k: usize, length: Duration, added
     let pace = added.pace;
     let over = sum.minus(room);
     let count = over.fills(q);
-    let further = steep(over, q, pace).greater(Duration(count));
-    length.plus(further).plus(Duration(1))
+    let further = steep(over, q, pace).greater(Quantity(count));
+    length.plus(further).plus(Quantity(1))
 }
 
 // The trial of a length of row `k`.
@@ -61,7 +61,7 @@ fn try_length(sheet: &[u64], results: &[u64], k: usize, length: Duration) -> Tri
     let tested = sum_above(sheet, results, k, length);
     let room = room_of(sheet, k, length);
     let reached = tested.sum;
-    if reached.is_less(room) {
+    if reached < room {
         return Tried::Passes;
     }
     let added = rows_to_plan_by(sheet, results, k, length, tested);
@@ -102,18 +102,18 @@ fn leap(
             calm: 0,
         };
     }
-    let reach = reach_of(length, next, Duration(row.deadline), guess);
+    let reach = reach_of(length, next, Quantity(row.deadline), guess);
     let end = length.plus(reach);
     if all_fail(sheet, results, k, length, end, spare) {
         return Pursuit {
-            length: end.plus(Duration(1)),
+            length: end.plus(Quantity(1)),
             guess: reach.times(2),
             calm: 0,
         };
     }
     Pursuit {
         length: next,
-        guess: Duration(reach.0 / 2),
+        guess: Quantity(reach.0 / 2),
         calm: 0,
     }
 }
@@ -124,11 +124,11 @@ fn by_shares(sheet: &[u64], results: &[u64], k: usize, at: Pursuit, next: Durati
     ensures { Skips (sheet_in sheet.now) (held_in results.now) k at.length result.length }
 {
     let row = row_inside(sheet, k);
-    let deadline = Duration(row.deadline);
+    let deadline = Quantity(row.deadline);
     let guess = at.guess;
     if no_room(sheet, results, k, deadline) {
         return Pursuit {
-            length: deadline.plus(Duration(1)),
+            length: deadline.plus(Quantity(1)),
             guess,
             calm: 0,
         };
@@ -173,14 +173,13 @@ pub(crate) fn bound_of(sheet: &[u64], results: &[u64], k: usize) -> Result
     ensures { word result ≡ bound_by passes (sheet_in sheet.now) (held_in results.now) k }
 {
     let row = row_inside(sheet, k);
-    let deadline = Duration(row.deadline);
     let first = first_length(sheet, results, k);
     let mut at = Pursuit {
         length: first,
-        guess: Duration(0),
+        guess: Quantity(0),
         calm: CALM,
     };
-    while at.length.0 <= deadline.0 {
+    while at.length.0 <= row.deadline {
         let length = at.length;
         let tried = try_length(sheet, results, k, length);
         let Tried::Next(next, spare) = tried else {

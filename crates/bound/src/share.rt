@@ -8,7 +8,7 @@ ghost use Rattle.bound.specs.Inside.Parts.{on_fine};
 ghost use Rattle.bound.specs.Inside.Ready.{held_in, Lent, Ready, Length, Above};
 ghost use Rattle.bound.specs.Inside.Skipping.{share_of, Shares, AllFail};
 
-use crate::quantity::{Duration, FineAmount};
+use crate::quantity::{Duration, FineAmount, Quantity};
 use crate::row::row_inside;
 use crate::test::{fewer, q_of, room_of, span_of, window_of};
 use sheet::Row;
@@ -25,7 +25,7 @@ pub(crate) fn share_above(
     ensures { result ≡ on_fine (share_of row bound length X) (min row.threads q) }
 {
     let x = span_of(row, bound, length);
-    let part = x.part(row.budget, Duration(row.separation));
+    let part = x.part(row.budget, Quantity(row.separation));
     let share = part.lesser(X.fine());
     let capped = fewer(row.threads, q);
     share.on(capped)
@@ -41,7 +41,7 @@ fn shares_above(sheet: &[u64], results: &[u64], k: usize, length: Duration) -> F
     let mut sum = FineAmount::none();
     for i in 0..k {
         let row = row_inside(sheet, i);
-        let bound = Duration(results[i * 2 + 1]);
+        let bound = Quantity(results[i * 2 + 1]);
         let share = share_above(row, bound, length, X, q);
         sum = sum.plus(share);
     }

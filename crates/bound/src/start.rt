@@ -6,7 +6,7 @@ ghost use Rattle.bound.specs.Test.{C};
 ghost use Rattle.bound.specs.Inside.Ready.{held_in, Lent, Ready, Above};
 ghost use Rattle.bound.specs.Inside.Skipping.{carried_of, Starts};
 
-use crate::quantity::Duration;
+use crate::quantity::{Duration, Quantity};
 use crate::row::row_inside;
 use sheet::{Row, processors};
 
@@ -15,8 +15,8 @@ fn carried(m: u64, row: Row, above: Row, bound: Duration) -> Duration
     requires { (Above above bound (C row)) × (row.threads ≤ most_processors) }
     ensures { result ≡ carried_of m row above bound }
 {
-    let budget = Duration(row.budget);
-    let waits = bound.after(Duration(above.budget));
+    let budget = Quantity(row.budget);
+    let waits = bound.after(Quantity(above.budget));
     let longer = waits.plus(budget);
     let together = bound.where_so(m < above.threads + row.threads, budget);
     let later = longer.where_so(above.budget <= row.budget, together);
@@ -30,10 +30,10 @@ pub(crate) fn first_length(sheet: &[u64], results: &[u64], k: usize) -> Duration
 {
     let m = processors(sheet);
     let row = row_inside(sheet, k);
-    let mut first = Duration(row.budget);
+    let mut first = Quantity(row.budget);
     for j in 0..k {
         let above = row_inside(sheet, j);
-        let bound = Duration(results[j * 2 + 1]);
+        let bound = Quantity(results[j * 2 + 1]);
         let later = carried(m, row, above, bound);
         first = first.greater(later);
     }

@@ -6,7 +6,7 @@ ghost use Rattle.sheet.specs.Lists.{sheet_in};
 ghost use Rattle.bound.specs.Inside.Ready.{held_in, Long, Lent, Ready, Length};
 ghost use Rattle.bound.specs.Inside.Skipping.{Stretches, Along, RowMeets, RowsMeet, lasts, AllFail};
 
-use crate::quantity::{Duration, FineAmount};
+use crate::quantity::{Duration, FineAmount, Quantity};
 use crate::row::row_inside;
 use crate::share::share_above;
 use crate::test::{amount_above, q_of, room_of, span_of, window_of};
@@ -37,9 +37,9 @@ fn lasts(row: Row, bound: Duration, s: Stretch, q: u64) -> bool
     let from = s.from;
     let to = s.to;
     let x = span_of(row, bound, from);
-    let ran = x.left(Duration(row.separation));
+    let ran = x.left(Quantity(row.separation));
     let end = ran.plus(to.after(from));
-    end.0 <= row.separation
+    end <= Quantity(row.separation)
 }
 
 // The ends of a row above whose present separation lasts: its own amounts.
@@ -105,7 +105,7 @@ fn ends_above(row: Row, bound: Duration, s: Stretch, q: u64, spare: FineAmount) 
     let now = shared.now;
     let then = shared.then;
     let lost = full.minus(now);
-    if spare.covers(lost) {
+    if lost <= spare {
         return Ends {
             now,
             then,
@@ -122,7 +122,7 @@ fn with_row(sheet: &[u64], results: &[u64], k: usize, s: Stretch, i: usize, ends
 {
     let q = q_of(sheet, k);
     let row = row_inside(sheet, i);
-    let bound = Duration(results[i * 2 + 1]);
+    let bound = Quantity(results[i * 2 + 1]);
     let now = ends.now;
     let then = ends.then;
     let spare = ends.spare;

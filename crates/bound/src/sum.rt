@@ -8,7 +8,7 @@ ghost use Rattle.bound.specs.Inside.Ready.{held_in, Lent, Ready, Length};
 ghost use Rattle.bound.specs.Inside.Skipping.{Adds, Fills};
 
 use crate::pace::{Pace, joined, stay_of_row};
-use crate::quantity::{Amount, Duration};
+use crate::quantity::{Amount, Duration, Quantity};
 use crate::row::row_inside;
 use crate::test::{amount_above, fewer, q_of, room_of, window_of};
 use basis::MOST_SEPARATION;
@@ -36,7 +36,7 @@ fn add_next(
 {
     let i = added.rows;
     let row = row_inside(sheet, i);
-    let bound = Duration(results[i * 2 + 1]);
+    let bound = Quantity(results[i * 2 + 1]);
     let amount = amount_above(row, bound, length, X, q);
     let stay = stay_of_row(row, bound, length, X);
     let capped = fewer(row.threads, q);
@@ -61,14 +61,14 @@ pub(crate) fn sum_above(sheet: &[u64], results: &[u64], k: usize, length: Durati
         sum: Amount::none(),
         pace: Pace {
             width: 0,
-            stay: Duration(MOST_SEPARATION),
+            stay: Quantity(MOST_SEPARATION),
         },
         rows: 0,
     };
     while added.rows < k {
         added = add_next(sheet, results, k, length, X, q, added);
         let sum = added.sum;
-        if sum.reaches(room) {
+        if room <= sum {
             return added;
         }
     }
@@ -95,7 +95,7 @@ fn tells_enough(q: u64, X: Duration, pace: Pace) -> bool {
     if pace.width < q {
         return false;
     }
-    X.0 <= stay.0
+    X <= stay
 }
 
 // The rows that the length after one that fails is planned by: those that the test added where they tell enough, else all.

@@ -7,7 +7,7 @@ ghost use Rattle.bound.specs.Quantities.{widest_separation, on};
 ghost use Rattle.bound.specs.Test.{q, X, x, W, duration_of, room};
 ghost use Rattle.bound.specs.Inside.Ready.{Long, Length, Above, Spans};
 
-use crate::quantity::{Amount, Duration};
+use crate::quantity::{Amount, Duration, Quantity};
 use crate::row::row_inside;
 use sheet::{Row, processors};
 
@@ -33,8 +33,8 @@ pub(crate) fn window_of(sheet: &[u64], k: usize, length: Duration) -> Duration
     ensures { result ≡ X (sheet_in sheet.now) k length }
 {
     let row = row_inside(sheet, k);
-    let before = length.after(Duration(row.budget));
-    before.plus(Duration(1))
+    let before = length.after(Quantity(row.budget));
+    before.plus(Quantity(1))
 }
 
 // x, of a row above with this bound.
@@ -43,7 +43,7 @@ pub(crate) fn span_of(row: Row, bound: Duration, length: Duration) -> Duration
     ensures { result ≡ x row bound length }
 {
     let end = length.plus(bound);
-    end.after(Duration(row.budget))
+    end.after(Quantity(row.budget))
 }
 
 // W, of a row above in so many slots.
@@ -51,8 +51,8 @@ pub(crate) fn work_of(row: Row, x: Duration) -> Duration
     requires { Spans row x }
     ensures { result ≡ W row x }
 {
-    let budget = Duration(row.budget);
-    let separation = Duration(row.separation);
+    let budget = Quantity(row.budget);
+    let separation = Quantity(row.separation);
     let periods = x.rounds(separation);
     let jobs = budget.times(periods);
     let rest = x.left(separation);

@@ -2,10 +2,15 @@
 -- Only `on_fine` leads from one kind to the other, and no sum adds one kind to another, nor 256ths to what is whole.
 use Rattle.std.specs.Prelude.{◌+◌, ◌-◌, ◌*◌, ◌/◌}
 use Rattle.basis.specs.Prelude.{ℕ, min, Bool, ltb}
-use Rattle.bound.specs.declared.quantity.Duration.{Duration}
-use Rattle.bound.specs.declared.quantity.Amount.{Amount}
-use Rattle.bound.specs.declared.quantity.Fine.{Fine}
-use Rattle.bound.specs.declared.quantity.FineAmount.{FineAmount}
+use Rattle.bound.specs.declared.quantity.Quantity.{Quantity}
+use Rattle.bound.specs.Quantities.{Duration, Amount}
+
+-- 256ths of slots, and of slots times processors.
+abbrev pub Fine : Type 0
+Fine = Quantity 0 256
+
+abbrev pub FineAmount : Type 0
+FineAmount = Quantity 1 256
 
 -- So many 256ths of a slot.
 abbrev pub parts : ℕ → Fine

@@ -8,11 +8,10 @@ use Rattle.sheet.specs.Legal.{row_at, Legal}
 use Rattle.sheet.specs.declared.row.Row.{Row}
 use Rattle.sheet.specs.declared.row.Sheet.{Sheet}
 use Rattle.sheet.specs.Lists.{number_at, sheet_in, sheet_long}
-use Rattle.bound.specs.Quantities.{widest_separation, slots}
+use Rattle.bound.specs.Quantities.{widest_separation, slots, Duration}
 use Rattle.bound.specs.Test.{passes}
 use Rattle.bound.specs.Bound.{bounds, bounded, result_of}
 use Rattle.bound.specs.Lists.{results_long, result_cell, words}
-use Rattle.bound.specs.declared.quantity.Duration.{Duration}
 
 -- The bounds that a list of results holds.
 abbrev pub held_in : List ℕ → ℕ → Duration

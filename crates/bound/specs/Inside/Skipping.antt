@@ -6,14 +6,10 @@ use Rattle.basis.specs.Words.{pick}
 use Rattle.sheet.specs.Legal.{row_at}
 use Rattle.sheet.specs.declared.row.Row.{Row}
 use Rattle.sheet.specs.declared.row.Sheet.{Sheet}
-use Rattle.bound.specs.Quantities.{widest_separation, slots, plus, minus, lesser, left, on}
-use Rattle.bound.specs.Inside.Parts.{fine, part_of, lesser_fine}
+use Rattle.bound.specs.Quantities.{widest_separation, slots, plus, minus, lesser, left, on, Duration, Amount}
+use Rattle.bound.specs.Inside.Parts.{fine, part_of, lesser_fine, Fine, FineAmount}
 use Rattle.bound.specs.Test.{T, C, X, x, W, duration_of, amounts, room, passes}
 use Rattle.bound.specs.Inside.Ready.{Length, Above}
-use Rattle.bound.specs.declared.quantity.Duration.{Duration}
-use Rattle.bound.specs.declared.quantity.Amount.{Amount}
-use Rattle.bound.specs.declared.quantity.Fine.{Fine}
-use Rattle.bound.specs.declared.quantity.FineAmount.{FineAmount}
 use Rattle.bound.specs.declared.pace.Pace.{Pace}
 use Rattle.bound.specs.declared.sum.Added.{Added}
 use Rattle.bound.specs.declared.stretch.Stretch.{Stretch}

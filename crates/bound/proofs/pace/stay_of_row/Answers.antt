@@ -10,7 +10,7 @@ pub left-ran-requires : goal.left-ran-requires
 left-ran-requires c = (search rules, search rules, search span_small)
 
 pub plus-requires : goal.plus-requires
-plus-requires c = search stay_fits
+plus-requires c = search (stay_fits, rules)
 
 pub returns : goal.returns
 returns c = search stay_is

@@ -7,7 +7,7 @@ pub fills-count-requires : goal.fills-count-requires
 fills-count-requires c = search divides
 
 pub plus-requires : goal.plus-requires
-plus-requires c = search next_fits
+plus-requires c = search (next_fits, rules)
 
 pub plus-requires-2 : goal.plus-requires-2
 plus-requires-2 c = search (one_more_fits, rules)

@@ -8,7 +8,7 @@ pub part-part-requires : goal.part-part-requires
 part-part-requires c = (part_fits _ _ (search span_small) (search rules), search rules)
 
 pub on-requires : goal.on-requires
-on-requires c = fine_fits _ _ (search rules) (search rules)
+on-requires c = search (fine_fits, rules)
 
 pub returns : goal.returns
 returns c = search share_amount_is

@@ -11,7 +11,7 @@ pub stay_of_row-stay-requires : goal.stay_of_row-stay-requires
 stay_of_row-stay-requires c = search row_above
 
 pub plus-requires : goal.plus-requires
-plus-requires c = search sum_fits
+plus-requires c = search (sum_fits, rules)
 
 pub joined-requires : goal.joined-requires
 joined-requires c = (search rules, search capped_small)

@@ -7,7 +7,7 @@ pub work_of-W-requires : goal.work_of-W-requires
 work_of-W-requires c = search spans
 
 pub on-requires : goal.on-requires
-on-requires c = amount_fits _ _ (search rules) (search rules)
+on-requires c = search (amount_fits, rules)
 
 pub returns : goal.returns
 returns c = search amount_is
