@@ -37,5 +37,5 @@ module _ (h : Sheet) (R : ℕ → Duration) (k : ℕ) (L : Duration) (d : Added)
   all_tell l = let e : d.rows ≡ k = omega (arith, adds.within) in rw (adds.sum, e)
 
 -- more rows reach q × X still
-pub fills_still : (h : Sheet) (R : ℕ → Duration) (k : ℕ) (L : Duration) (d n : Added) → d.rows < n.rows → Adds h R k L d → Adds h R k L n → Fills h k L d → Fills h k L n
+pub fills_still : (h : Sheet) (R : ℕ → Duration) (k : ℕ) (L : Duration) (d n : Added) → n.rows ≡ d.rows + 1 → Adds h R k L d → Adds h R k L n → Fills h k L d → Fills h k L n
 fills_still h R k L d n l adds more full = omega (arith, number_of_lem adds.sum, number_of_lem more.sum, more_rows_add h R k L d.rows n.rows (omega arith))

@@ -28,9 +28,8 @@ fn bound_number(res: Result) -> u64
     ensures { result ≡ bound_number (word res) }
 {
     match res {
-        Result::Unreached => 0,
         Result::Bound(bound) => bound,
-        Result::NoBound => 0,
+        Result::Unreached | Result::NoBound => 0,
     }
 }
 
@@ -38,11 +37,7 @@ fn bound_number(res: Result) -> u64
 fn is_bound(res: Result) -> bool
     ensures { result ≡ is_bound (word res) }
 {
-    match res {
-        Result::Unreached => false,
-        Result::Bound(_) => true,
-        Result::NoBound => false,
-    }
+    matches!(res, Result::Bound(_))
 }
 
 // Puts result `k` into a list of results, which has room for it.

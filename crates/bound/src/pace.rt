@@ -33,10 +33,7 @@ pub(crate) fn stay_of_row(row: Row, bound: Duration, length: Duration, X: Durati
 fn taken(stays: bool, capped: u64) -> u64
     ensures { result ≡ pick stays capped 0 }
 {
-    if stays {
-        return capped;
-    }
-    0
+    if stays { capped } else { 0 }
 }
 
 // The pace with a row more.
@@ -57,11 +54,9 @@ pub(crate) fn joined(pace: Pace, capped: u64, stay: Duration) -> Pace
 pub(crate) fn steep(over: Amount, q: u64, pace: Pace) -> Duration
     ensures { Steep over q pace result }
 {
-    let width = pace.width;
-    let stay = pace.stay;
-    if q <= width {
-        return stay;
+    if q <= pace.width {
+        return pace.stay;
     }
-    let count = over.fills(q - width);
-    stay.lesser(Quantity(count))
+    let count = over.fills(q - pace.width);
+    pace.stay.lesser(Quantity(count))
 }

@@ -17,13 +17,6 @@ use crate::stretch::all_fail;
 use crate::sum::{Added, rows_to_plan_by, sum_above};
 use crate::test::{q_of, room_of};
 
-// What the trial of a length tells: it passes, or the next length that can, and what its sum can spare, a guide of which nothing is promised.
-#[derive(Clone, Copy)]
-pub enum Tried {
-    Passes,
-    Next(Duration, FineAmount),
-}
-
 // The trials that go by what is known, before stretches are guessed.
 const CALM: u64 = 8;
 
@@ -45,30 +38,31 @@ fn next_length(sheet: &[u64], results: &[u64], k: usize, length: Duration, added
 {
     let q = q_of(sheet, k);
     let room = room_of(sheet, k, length);
-    let sum = added.sum;
-    let pace = added.pace;
-    let over = sum.minus(room);
+    let over = added.sum.minus(room);
     let count = over.fills(q);
-    let further = steep(over, q, pace).greater(Quantity(count));
+    let further = steep(over, q, added.pace).greater(Quantity(count));
     length.plus(further).plus(Quantity(1))
 }
 
-// The trial of a length of row `k`.
-fn try_length(sheet: &[u64], results: &[u64], k: usize, length: Duration) -> Tried
+// The trial of a length of row `k`: nothing where it passes, else the next length that can, and what its sum can spare, a guide of which nothing is promised.
+fn try_length(
+    sheet: &[u64],
+    results: &[u64],
+    k: usize,
+    length: Duration,
+) -> Option<(Duration, FineAmount)>
     requires { (Lent sheet.now results.now) × (Ready (sheet_in sheet.now) (held_in results.now) k) × (Length (sheet_in sheet.now) k length) }
     ensures { Says (sheet_in sheet.now) (held_in results.now) k length result }
 {
     let tested = sum_above(sheet, results, k, length);
     let room = room_of(sheet, k, length);
-    let reached = tested.sum;
-    if reached < room {
-        return Tried::Passes;
+    if tested.sum < room {
+        return None;
     }
     let added = rows_to_plan_by(sheet, results, k, length, tested);
     let next = next_length(sheet, results, k, length, added);
-    let sum = added.sum;
-    let over = sum.minus(room);
-    Tried::Next(next, over.spare())
+    let over = added.sum.minus(room);
+    Some((next, over.spare()))
 }
 
 // How far a stretch is guessed to fail: twice as far as the next length is, or as guessed before, and at most to the deadline.
@@ -93,18 +87,16 @@ fn leap(
     ensures { Skips (sheet_in sheet.now) (held_in results.now) k at.length result.length }
 {
     let row = row_inside(sheet, k);
-    let length = at.length;
-    let guess = at.guess;
     if row.deadline < next.0 {
         return Pursuit {
             length: next,
-            guess,
             calm: 0,
+            ..at
         };
     }
-    let reach = reach_of(length, next, Quantity(row.deadline), guess);
-    let end = length.plus(reach);
-    if all_fail(sheet, results, k, length, end, spare) {
+    let reach = reach_of(at.length, next, Quantity(row.deadline), at.guess);
+    let end = at.length.plus(reach);
+    if all_fail(sheet, results, k, at.length, end, spare) {
         return Pursuit {
             length: end.plus(Quantity(1)),
             guess: reach.times(2),
@@ -125,18 +117,17 @@ fn by_shares(sheet: &[u64], results: &[u64], k: usize, at: Pursuit, next: Durati
 {
     let row = row_inside(sheet, k);
     let deadline = Quantity(row.deadline);
-    let guess = at.guess;
     if no_room(sheet, results, k, deadline) {
         return Pursuit {
             length: deadline.plus(Quantity(1)),
-            guess,
             calm: 0,
+            ..at
         };
     }
     Pursuit {
         length: next,
-        guess,
         calm: ASKED - 1,
+        ..at
     }
 }
 
@@ -152,16 +143,14 @@ fn further(
     requires { (Lent sheet.now results.now) × (Ready (sheet_in sheet.now) (held_in results.now) k) × (Length (sheet_in sheet.now) k at.length) × (Skips (sheet_in sheet.now) (held_in results.now) k at.length next) }
     ensures { Skips (sheet_in sheet.now) (held_in results.now) k at.length result.length }
 {
-    let guess = at.guess;
-    let calm = at.calm;
-    if calm == ASKED {
+    if at.calm == ASKED {
         return by_shares(sheet, results, k, at, next);
     }
-    if 0 < calm {
+    if 0 < at.calm {
         return Pursuit {
             length: next,
-            guess,
-            calm: calm - 1,
+            calm: at.calm - 1,
+            ..at
         };
     }
     leap(sheet, results, k, at, next, spare)
@@ -173,17 +162,14 @@ pub(crate) fn bound_of(sheet: &[u64], results: &[u64], k: usize) -> Result
     ensures { word result ≡ bound_by passes (sheet_in sheet.now) (held_in results.now) k }
 {
     let row = row_inside(sheet, k);
-    let first = first_length(sheet, results, k);
     let mut at = Pursuit {
-        length: first,
+        length: first_length(sheet, results, k),
         guess: Quantity(0),
         calm: CALM,
     };
     while at.length.0 <= row.deadline {
-        let length = at.length;
-        let tried = try_length(sheet, results, k, length);
-        let Tried::Next(next, spare) = tried else {
-            return Result::Bound(length.0);
+        let Some((next, spare)) = try_length(sheet, results, k, at.length) else {
+            return Result::Bound(at.length.0);
         };
         at = further(sheet, results, k, at, next, spare);
     }

@@ -10,7 +10,7 @@ ghost use Rattle.bound.specs.Inside.Skipping.{share_of, Shares, AllFail};
 
 use crate::quantity::{Duration, FineAmount, Quantity};
 use crate::row::row_inside;
-use crate::test::{fewer, q_of, room_of, span_of, window_of};
+use crate::test::{q_of, room_of, span_of, window_of};
 use sheet::Row;
 
 // The amount of a row above with this bound, by its share: its budget of every separation.
@@ -27,8 +27,7 @@ pub(crate) fn share_above(
     let x = span_of(row, bound, length);
     let part = x.part(row.budget, Quantity(row.separation));
     let share = part.lesser(X.fine());
-    let capped = fewer(row.threads, q);
-    share.on(capped)
+    share.on(row.threads.min(q))
 }
 
 // The sum of the amounts above row `k` by their shares.

@@ -34,11 +34,9 @@ fn lasts(row: Row, bound: Duration, s: Stretch, q: u64) -> bool
     requires { Along row bound s q }
     ensures { result ≡ lasts row bound s }
 {
-    let from = s.from;
-    let to = s.to;
-    let x = span_of(row, bound, from);
+    let x = span_of(row, bound, s.from);
     let ran = x.left(Quantity(row.separation));
-    let end = ran.plus(to.after(from));
+    let end = ran.plus(s.to.after(s.from));
     end <= Quantity(row.separation)
 }
 
@@ -47,12 +45,8 @@ fn exact_ends(row: Row, bound: Duration, s: Stretch, q: u64, spare: FineAmount) 
     requires { (Along row bound s q) × (lasts row bound s ≡ true) }
     ensures { RowMeets row bound s q result }
 {
-    let from = s.from;
-    let early = s.early;
-    let to = s.to;
-    let late = s.late;
-    let now = amount_above(row, bound, from, early, q);
-    let then = amount_above(row, bound, to, late, q);
+    let now = amount_above(row, bound, s.from, s.early, q);
+    let then = amount_above(row, bound, s.to, s.late, q);
     Ends {
         now: now.fine(),
         then: then.fine(),
@@ -65,11 +59,8 @@ fn level_ends(row: Row, bound: Duration, s: Stretch, q: u64, spare: FineAmount) 
     requires { Along row bound s q }
     ensures { RowMeets row bound s q result }
 {
-    let from = s.from;
-    let early = s.early;
-    let late = s.late;
-    let now = amount_above(row, bound, from, early, q);
-    let then = amount_above(row, bound, from, late, q);
+    let now = amount_above(row, bound, s.from, s.early, q);
+    let then = amount_above(row, bound, s.from, s.late, q);
     Ends {
         now: now.fine(),
         then: then.fine(),
@@ -82,13 +73,11 @@ fn share_ends(row: Row, bound: Duration, s: Stretch, q: u64, spare: FineAmount) 
     requires { Along row bound s q }
     ensures { RowMeets row bound s q result }
 {
-    let from = s.from;
-    let early = s.early;
-    let to = s.to;
-    let late = s.late;
-    let now = share_above(row, bound, from, early, q);
-    let then = share_above(row, bound, to, late, q);
-    Ends { now, then, spare }
+    Ends {
+        now: share_above(row, bound, s.from, s.early, q),
+        then: share_above(row, bound, s.to, s.late, q),
+        spare,
+    }
 }
 
 // The ends of a row above: its own amounts, or by its share if what that loses at the first end can be spared, or level.
@@ -101,18 +90,11 @@ fn ends_above(row: Row, bound: Duration, s: Stretch, q: u64, spare: FineAmount) 
     }
     let level = level_ends(row, bound, s, q, spare);
     let shared = share_ends(row, bound, s, q, spare);
-    let full = level.now;
-    let now = shared.now;
-    let then = shared.then;
-    let lost = full.minus(now);
-    if lost <= spare {
-        return Ends {
-            now,
-            then,
-            spare: spare.minus(lost),
-        };
+    let lost = level.now.minus(shared.now);
+    match spare.without(lost) {
+        Some(spare) => Ends { spare, ..shared },
+        None => level,
     }
-    level
 }
 
 // The ends of the first `i` rows above row `k`, and of row `i`.
@@ -123,17 +105,11 @@ fn with_row(sheet: &[u64], results: &[u64], k: usize, s: Stretch, i: usize, ends
     let q = q_of(sheet, k);
     let row = row_inside(sheet, i);
     let bound = Quantity(results[i * 2 + 1]);
-    let now = ends.now;
-    let then = ends.then;
-    let spare = ends.spare;
-    let more = ends_above(row, bound, s, q, spare);
-    let now_more = more.now;
-    let then_more = more.then;
-    let spare_more = more.spare;
+    let more = ends_above(row, bound, s, q, ends.spare);
     Ends {
-        now: now.plus(now_more),
-        then: then.plus(then_more),
-        spare: spare_more,
+        now: ends.now.plus(more.now),
+        then: ends.then.plus(more.then),
+        spare: more.spare,
     }
 }
 
@@ -184,10 +160,5 @@ pub(crate) fn all_fail(
     let ends = ends_of_rows(sheet, results, k, s, spare);
     let first = room_of(sheet, k, from);
     let last = room_of(sheet, k, to);
-    let now = ends.now;
-    let then = ends.then;
-    if now.reaches(first) {
-        return then.reaches(last);
-    }
-    false
+    ends.now.reaches(first) && ends.then.reaches(last)
 }

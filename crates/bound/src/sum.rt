@@ -1,6 +1,6 @@
 // The sum of the amounts of the rows above, added from the top, with the pace at which it grows. The test of one length leaves it once it reaches q × X; what plans the next length goes on from the
 // row where the test left, unless the rows that are added tell enough.
-ghost use Rattle.std.specs.Prelude.{◌≡◌, ◌<◌};
+ghost use Rattle.std.specs.Prelude.{◌≡◌, ◌+◌, ◌<◌, min};
 ghost use Rattle.sheet.specs.Lists.{sheet_in};
 ghost use Rattle.bound.specs.Quantities.{less};
 ghost use Rattle.bound.specs.Test as test;
@@ -10,7 +10,7 @@ ghost use Rattle.bound.specs.Inside.Skipping.{Adds, Fills};
 use crate::pace::{Pace, joined, stay_of_row};
 use crate::quantity::{Amount, Duration, Quantity};
 use crate::row::row_inside;
-use crate::test::{amount_above, fewer, q_of, room_of, window_of};
+use crate::test::{amount_above, q_of, room_of, window_of};
 use basis::MOST_SEPARATION;
 
 // The first rows above a row, which are added: the sum of their amounts, the pace at which it grows, and how many they are.
@@ -32,19 +32,16 @@ fn add_next(
     added: Added,
 ) -> Added
     requires { (Lent sheet.now results.now) × (Ready (sheet_in sheet.now) (held_in results.now) k) × (Length (sheet_in sheet.now) k length) × (X ≡ test.X (sheet_in sheet.now) k length) × (q ≡ test.q (sheet_in sheet.now) k) × (Adds (sheet_in sheet.now) (held_in results.now) k length added) × (added.rows < k) }
-    ensures { (Adds (sheet_in sheet.now) (held_in results.now) k length result) × (added.rows < result.rows) }
+    ensures { (Adds (sheet_in sheet.now) (held_in results.now) k length result) × (result.rows ≡ added.rows + 1) }
 {
     let i = added.rows;
     let row = row_inside(sheet, i);
     let bound = Quantity(results[i * 2 + 1]);
     let amount = amount_above(row, bound, length, X, q);
     let stay = stay_of_row(row, bound, length, X);
-    let capped = fewer(row.threads, q);
-    let sum = added.sum;
-    let pace = added.pace;
     Added {
-        sum: sum.plus(amount),
-        pace: joined(pace, capped, stay),
+        sum: added.sum.plus(amount),
+        pace: joined(added.pace, row.threads.min(q), stay),
         rows: i + 1,
     }
 }
@@ -65,10 +62,9 @@ pub(crate) fn sum_above(sheet: &[u64], results: &[u64], k: usize, length: Durati
         },
         rows: 0,
     };
-    while added.rows < k {
+    for _row in 0..k {
         added = add_next(sheet, results, k, length, X, q, added);
-        let sum = added.sum;
-        if room <= sum {
+        if room <= added.sum {
             return added;
         }
     }
@@ -83,7 +79,7 @@ fn add_rest(sheet: &[u64], results: &[u64], k: usize, length: Duration, added: A
     let q = q_of(sheet, k);
     let X = window_of(sheet, k, length);
     let mut all = added;
-    while all.rows < k {
+    for _row in added.rows..k {
         all = add_next(sheet, results, k, length, X, q, all);
     }
     all
@@ -91,11 +87,7 @@ fn add_rest(sheet: &[u64], results: &[u64], k: usize, length: Duration, added: A
 
 // Whether rows that are added tell enough to plan by: they keep pace by themselves for as long as X again. A guide, of which nothing is promised.
 fn tells_enough(q: u64, X: Duration, pace: Pace) -> bool {
-    let stay = pace.stay;
-    if pace.width < q {
-        return false;
-    }
-    X <= stay
+    q <= pace.width && X <= pace.stay
 }
 
 // The rows that the length after one that fails is planned by: those that the test added where they tell enough, else all.
@@ -111,8 +103,7 @@ pub(crate) fn rows_to_plan_by(
 {
     let q = q_of(sheet, k);
     let X = window_of(sheet, k, length);
-    let pace = added.pace;
-    if tells_enough(q, X, pace) {
+    if tells_enough(q, X, added.pace) {
         return added;
     }
     add_rest(sheet, results, k, length, added)

@@ -11,13 +11,6 @@ use crate::quantity::{Amount, Duration, Quantity};
 use crate::row::row_inside;
 use sheet::{Row, processors};
 
-// The smaller of two counts.
-pub(crate) fn fewer(a: u64, b: u64) -> u64
-    ensures { result ≡ min a b }
-{
-    if a < b { a } else { b }
-}
-
 // q, of row `k`.
 pub(crate) fn q_of(sheet: &[u64], k: usize) -> u64
     requires { (Long sheet.now) × (Legal (sheet_in sheet.now)) × (k < (sheet_in sheet.now).count) }
@@ -73,8 +66,7 @@ pub(crate) fn amount_above(
     let x = span_of(row, bound, length);
     let W = work_of(row, x);
     let duration = W.lesser(X);
-    let capped = fewer(row.threads, q);
-    duration.on(capped)
+    duration.on(row.threads.min(q))
 }
 
 // q × X, of row `k` and a length.

@@ -1,8 +1,7 @@
 -- The smallest number of which a test holds: found, passed over, in range; and the turns of the search. Assumes nothing.
 use Rattle.basis.specs.Prelude.{ℕ, zero, suc, ◌+◌, ◌-◌, ◌≤◌, ◌<◌, ◌≡◌, refl, sym, ◌∙◌, Bool, true, false, ◌⊎◌, inl, inr, ⊎_elim, eq-or-lt_of_le, arith}
 use Rattle.bound.proofs.Names.{lt_or_le, row_at, Row, Sheet, passes, bound, none, unreached, least, passes_at, bound_by, Length, Skips, Starts, Says, Duration, FineAmount}
-use Rattle.bound.specs.declared.search.Tried.{Tried}
-use Rattle.bound.specs.declared.search.Tried.TheVariants.{Passes, Next}
+use Rattle.std.specs.Prelude.{Option, None, Some}
 
 -- what cannot be: two words for one result
 pub never : {A : Type 0} → ◌≡◌ {A = ℕ} 0 1 → A
@@ -88,19 +87,19 @@ module _ (h : Sheet) (R : ℕ → Duration) (k : ℕ) (row : Row) (er : row ≡ 
   length_of_row L a b = record { low = a; high = rw er at b }
 
   module _ (L : Duration) where
-    told_passes : (t : Tried) → Says h R k L t → t ≡ Passes → passes h R k L ≡ true
-    told_passes Passes s e = s
-    told_passes (Next n o) s e = never (cc)
+    told_passes : (t : Option (Duration × FineAmount)) → Says h R k L t → t ≡ None → passes h R k L ≡ true
+    told_passes None s e = s
+    told_passes (Some n) s e = never (cc)
 
-    pub told_next : (t : Tried) (n : Duration) (o : FineAmount) → Says h R k L t → t ≡ Next n o → Skips h R k L n
-    told_next Passes n o s e = never (cc)
-    told_next (Next m u) n o s e = let z : m ≡ n = cc in rw z at s
+    pub told_next : (t : Option (Duration × FineAmount)) (n : Duration) (o : FineAmount) → Says h R k L t → t ≡ Some (n, o) → Skips h R k L n
+    told_next None n o s e = never (cc)
+    told_next (Some m) n o s e = let z : m ≡ (n, o) = cc in rw z at s
 
     pub search_less : (n : Duration) → Skips h R k L n → L.0 ≤ row.deadline → (row_at h k).deadline + 1 - n.0 < (row_at h k).deadline + 1 - L.0
     search_less n s b = omega (arith, rw er at b)
 
     module _ (i : least (passes_at passes h R k) L.0 ((row_at h k).deadline + 1 - L.0) ≡ bound_by passes h R k) where
-      pub search_found : (t : Tried) → Says h R k L t → t ≡ Passes → L.0 ≤ row.deadline → bound L.0 ≡ bound_by passes h R k
+      pub search_found : (t : Option (Duration × FineAmount)) → Says h R k L t → t ≡ None → L.0 ≤ row.deadline → bound L.0 ≡ bound_by passes h R k
       search_found t s e b = sym (least_hit (passes_at passes h R k) L.0 ((row_at h k).deadline + 1) (omega (arith, rw er at b)) (told_passes t s e)) ∙ i
 
       pub search_more : (n : Duration) → Skips h R k L n → least (passes_at passes h R k) n.0 ((row_at h k).deadline + 1 - n.0) ≡ bound_by passes h R k

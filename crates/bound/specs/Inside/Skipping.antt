@@ -1,5 +1,5 @@
 -- Which lengths may be skipped: what the functions of the search say of lengths that fail. No promise of a public function speaks of it.
-use Rattle.std.specs.Prelude.{◌+◌, ◌*◌, ◌-◌, ◌≤◌, ◌<◌, ◌≡◌}
+use Rattle.std.specs.Prelude.{Option, None, Some, ◌+◌, ◌*◌, ◌-◌, ◌≤◌, ◌<◌, ◌≡◌}
 use Rattle.basis.specs.Prelude.{ℕ, min, Bool, true, false, leb, ltb}
 use Rattle.basis.specs.Limits.{most_processors}
 use Rattle.basis.specs.Words.{pick}
@@ -14,8 +14,6 @@ use Rattle.bound.specs.declared.pace.Pace.{Pace}
 use Rattle.bound.specs.declared.sum.Added.{Added}
 use Rattle.bound.specs.declared.stretch.Stretch.{Stretch}
 use Rattle.bound.specs.declared.stretch.Ends.{Ends}
-use Rattle.bound.specs.declared.search.Tried.{Tried}
-use Rattle.bound.specs.declared.search.Tried.TheVariants.{Passes, Next}
 
 -- r is further than L, and every length from L on that it steps over fails.
 pub record Skips (h : Sheet) (R : ℕ → Duration) (k : ℕ) (L r : Duration) : Type 0 where
@@ -36,9 +34,9 @@ carried_of m row above R =
     (pick (ltb m (above.threads + row.threads)) R (C row)))
 
 -- What the trial of a length tells: it passes, or the next length that can. What is spare is a guide only.
-abbrev pub Says : Sheet → (ℕ → Duration) → ℕ → Duration → Tried → Type 0
-Says h R k L Passes = passes h R k L ≡ true
-Says h R k L (Next r spare) = Skips h R k L r
+abbrev pub Says : Sheet → (ℕ → Duration) → ℕ → Duration → Option (Duration × FineAmount) → Type 0
+Says h R k L None = passes h R k L ≡ true
+Says h R k L (Some t) = Skips h R k L t.0
 
 -- The slots for which a row's duration grows by one with each slot that the length grows by: what is left of its present job, and what X cut off.
 unfoldable pub stay_of : Row → Duration → Duration → Duration → Duration

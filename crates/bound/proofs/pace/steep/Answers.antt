@@ -2,8 +2,8 @@
 use Rattle.bound.proofs.Steps.{steep_whole, steep_part}
 use Rattle.bound.proofs.pace.steep.Goals as goal
 
-pub returns-then-q-width : goal.returns-then-q-width
-returns-then-q-width c = search steep_whole
+pub returns-then-q-pace : goal.returns-then-q-pace
+returns-then-q-pace c = search steep_whole
 
 pub returns : goal.returns
 returns c = search steep_part

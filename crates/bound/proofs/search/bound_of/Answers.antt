@@ -6,8 +6,8 @@ use Rattle.bound.proofs.search.bound_of.Goals as goal
 pub loop-at-init : goal.loop-at-init
 loop-at-init c = (search rules, search search_starts)
 
-pub try_length-tried-requires : goal.try_length-tried-requires
-try_length-tried-requires c = (search rules, search rules, search length_of_row)
+pub try_length-requires : goal.try_length-requires
+try_length-requires c = (search rules, search rules, search length_of_row)
 
 pub returns-in_default : goal.returns-in_default
 returns-in_default c = search search_found

@@ -1,10 +1,7 @@
 -- `sum_above` adds rows until their sum reaches q × X, and its yes or no is the test's. Assumes nothing.
-use Rattle.basis.specs.Prelude.{◌-◌}
+use Rattle.basis.specs.Prelude.{◌≡◌}
 use Rattle.bound.proofs.Names.{sheet_in, held_in, Adds}
 use Rattle.bound.proofs.sum.sum_above.Given as goal
 
-abbrev pub invariant-loop-added : goal.invariant-loop-added
-invariant-loop-added l = Adds (sheet_in l.sheet) (held_in l.results) l.k l.length l.added
-
-abbrev pub decreases-loop-added : goal.decreases-loop-added
-decreases-loop-added l = l.k - l.added.rows
+abbrev pub invariant-loop-row : goal.invariant-loop-row
+invariant-loop-row l = (l.added.rows ≡ l._row) × (Adds (sheet_in l.sheet) (held_in l.results) l.k l.length l.added)
