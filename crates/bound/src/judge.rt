@@ -11,6 +11,7 @@ ghost use Rattle.bound.specs.Inside.Ready.{Lent, RowsAbove};
 
 use crate::results::Result;
 use crate::search::bound_of;
+use crate::turn::Turn;
 
 // A result's word: 0 unreached, 1 bound, 2 none.
 fn word_number(res: Result) -> u64
@@ -55,7 +56,7 @@ fn judge_row(sheet: &[u64], results: &[u64], k: usize, reached: bool) -> Result
     ensures { word result ≡ result_of passes (sheet_in sheet.now) k }
 {
     if reached {
-        return bound_of(sheet, results, k);
+        return bound_of(&Turn { sheet, results, k });
     }
     Result::Unreached
 }

@@ -13,6 +13,7 @@ mod start;
 mod stretch;
 mod sum;
 mod test;
+mod turn;
 
 pub use bytes::judge_bytes;
 pub use results::{Judged, Judgement, RESULTS_LONG, Result, Results, bounds, bounds_on};

@@ -4,18 +4,18 @@ ghost use Rattle.sheet.specs.Lists.{sheet_in};
 ghost use Rattle.bound.specs.Quantities.{widest_separation};
 ghost use Rattle.bound.specs.Test.{passes};
 ghost use Rattle.bound.specs.Bound.{word, bound_by};
-ghost use Rattle.bound.specs.Inside.Ready.{held_in, Lent, Ready, Length};
+ghost use Rattle.bound.specs.Inside.Ready.{held_in, Length};
 ghost use Rattle.bound.specs.Inside.Skipping.{Adds, Fills, Skips, Says};
 
 use crate::pace::steep;
 use crate::quantity::{Duration, FineAmount, Quantity};
 use crate::results::Result;
-use crate::row::row_inside;
 use crate::share::no_room;
 use crate::start::first_length;
 use crate::stretch::all_fail;
 use crate::sum::{Added, rows_to_plan_by, sum_above};
 use crate::test::{q_of, room_of};
+use crate::turn::Turn;
 
 // The trials that go by what is known, before stretches are guessed.
 const CALM: u64 = 8;
@@ -32,12 +32,12 @@ pub struct Pursuit {
 }
 
 // The first length after one that fails that is not known to fail, by rows whose sum reaches q × X.
-fn next_length(sheet: &[u64], results: &[u64], k: usize, length: Duration, added: Added) -> Duration
-    requires { (Lent sheet.now results.now) × (Ready (sheet_in sheet.now) (held_in results.now) k) × (Length (sheet_in sheet.now) k length) × (Adds (sheet_in sheet.now) (held_in results.now) k length added) × (Fills (sheet_in sheet.now) k length added) }
-    ensures { Skips (sheet_in sheet.now) (held_in results.now) k length result }
+fn next_length(turn: &Turn, length: Duration, added: Added) -> Duration
+    requires { (Length (sheet_in turn.now.sheet.now) turn.now.k length) × (Adds (sheet_in turn.now.sheet.now) (held_in turn.now.results.now) turn.now.k length added) × (Fills (sheet_in turn.now.sheet.now) turn.now.k length added) }
+    ensures { Skips (sheet_in turn.now.sheet.now) (held_in turn.now.results.now) turn.now.k length result }
 {
-    let q = q_of(sheet, k);
-    let room = room_of(sheet, k, length);
+    let q = q_of(turn);
+    let room = room_of(turn, length);
     let over = added.sum.minus(room);
     let count = over.fills(q);
     let further = steep(over, q, added.pace).greater(Quantity(count));
@@ -45,22 +45,17 @@ fn next_length(sheet: &[u64], results: &[u64], k: usize, length: Duration, added
 }
 
 // The trial of a length of row `k`: nothing where it passes, else the next length that can, and what its sum can spare, a guide of which nothing is promised.
-fn try_length(
-    sheet: &[u64],
-    results: &[u64],
-    k: usize,
-    length: Duration,
-) -> Option<(Duration, FineAmount)>
-    requires { (Lent sheet.now results.now) × (Ready (sheet_in sheet.now) (held_in results.now) k) × (Length (sheet_in sheet.now) k length) }
-    ensures { Says (sheet_in sheet.now) (held_in results.now) k length result }
+fn try_length(turn: &Turn, length: Duration) -> Option<(Duration, FineAmount)>
+    requires { Length (sheet_in turn.now.sheet.now) turn.now.k length }
+    ensures { Says (sheet_in turn.now.sheet.now) (held_in turn.now.results.now) turn.now.k length result }
 {
-    let tested = sum_above(sheet, results, k, length);
-    let room = room_of(sheet, k, length);
+    let tested = sum_above(turn, length);
+    let room = room_of(turn, length);
     if tested.sum < room {
         return None;
     }
-    let added = rows_to_plan_by(sheet, results, k, length, tested);
-    let next = next_length(sheet, results, k, length, added);
+    let added = rows_to_plan_by(turn, length, tested);
+    let next = next_length(turn, length, added);
     let over = added.sum.minus(room);
     Some((next, over.spare()))
 }
@@ -75,18 +70,11 @@ fn reach_of(length: Duration, next: Duration, deadline: Duration, guess: Duratio
 }
 
 // A step by a guess: over a whole stretch if it is known to fail, else to the next length that is known.
-fn leap(
-    sheet: &[u64],
-    results: &[u64],
-    k: usize,
-    at: Pursuit,
-    next: Duration,
-    spare: FineAmount,
-) -> Pursuit
-    requires { (Lent sheet.now results.now) × (Ready (sheet_in sheet.now) (held_in results.now) k) × (Length (sheet_in sheet.now) k at.length) × (Skips (sheet_in sheet.now) (held_in results.now) k at.length next) }
-    ensures { Skips (sheet_in sheet.now) (held_in results.now) k at.length result.length }
+fn leap(turn: &Turn, at: Pursuit, next: Duration, spare: FineAmount) -> Pursuit
+    requires { (Length (sheet_in turn.now.sheet.now) turn.now.k at.length) × (Skips (sheet_in turn.now.sheet.now) (held_in turn.now.results.now) turn.now.k at.length next) }
+    ensures { Skips (sheet_in turn.now.sheet.now) (held_in turn.now.results.now) turn.now.k at.length result.length }
 {
-    let row = row_inside(sheet, k);
+    let row = turn.row();
     if row.deadline < next.0 {
         return Pursuit {
             length: next,
@@ -96,7 +84,7 @@ fn leap(
     }
     let reach = reach_of(at.length, next, Quantity(row.deadline), at.guess);
     let end = at.length.plus(reach);
-    if all_fail(sheet, results, k, at.length, end, spare) {
+    if all_fail(turn, at.length, end, spare) {
         return Pursuit {
             length: end.plus(Quantity(1)),
             guess: reach.times(2),
@@ -111,13 +99,13 @@ fn leap(
 }
 
 // The step from a length at which the shares are asked: past the deadline where the rows above leave no room up to it, else to the next that is known.
-fn by_shares(sheet: &[u64], results: &[u64], k: usize, at: Pursuit, next: Duration) -> Pursuit
-    requires { (Lent sheet.now results.now) × (Ready (sheet_in sheet.now) (held_in results.now) k) × (Length (sheet_in sheet.now) k at.length) × (Skips (sheet_in sheet.now) (held_in results.now) k at.length next) }
-    ensures { Skips (sheet_in sheet.now) (held_in results.now) k at.length result.length }
+fn by_shares(turn: &Turn, at: Pursuit, next: Duration) -> Pursuit
+    requires { (Length (sheet_in turn.now.sheet.now) turn.now.k at.length) × (Skips (sheet_in turn.now.sheet.now) (held_in turn.now.results.now) turn.now.k at.length next) }
+    ensures { Skips (sheet_in turn.now.sheet.now) (held_in turn.now.results.now) turn.now.k at.length result.length }
 {
-    let row = row_inside(sheet, k);
+    let row = turn.row();
     let deadline = Quantity(row.deadline);
-    if no_room(sheet, results, k, deadline) {
+    if no_room(turn, deadline) {
         return Pursuit {
             length: deadline.plus(Quantity(1)),
             calm: 0,
@@ -132,19 +120,12 @@ fn by_shares(sheet: &[u64], results: &[u64], k: usize, at: Pursuit, next: Durati
 }
 
 // The step from a length that fails: to the next that is known, once by the shares, and after some trials by a guess.
-fn further(
-    sheet: &[u64],
-    results: &[u64],
-    k: usize,
-    at: Pursuit,
-    next: Duration,
-    spare: FineAmount,
-) -> Pursuit
-    requires { (Lent sheet.now results.now) × (Ready (sheet_in sheet.now) (held_in results.now) k) × (Length (sheet_in sheet.now) k at.length) × (Skips (sheet_in sheet.now) (held_in results.now) k at.length next) }
-    ensures { Skips (sheet_in sheet.now) (held_in results.now) k at.length result.length }
+fn further(turn: &Turn, at: Pursuit, next: Duration, spare: FineAmount) -> Pursuit
+    requires { (Length (sheet_in turn.now.sheet.now) turn.now.k at.length) × (Skips (sheet_in turn.now.sheet.now) (held_in turn.now.results.now) turn.now.k at.length next) }
+    ensures { Skips (sheet_in turn.now.sheet.now) (held_in turn.now.results.now) turn.now.k at.length result.length }
 {
     if at.calm == ASKED {
-        return by_shares(sheet, results, k, at, next);
+        return by_shares(turn, at, next);
     }
     if 0 < at.calm {
         return Pursuit {
@@ -153,25 +134,24 @@ fn further(
             ..at
         };
     }
-    leap(sheet, results, k, at, next, spare)
+    leap(turn, at, next, spare)
 }
 
 // The bound of row `k`, by the bounds above: the smallest length that passes.
-pub(crate) fn bound_of(sheet: &[u64], results: &[u64], k: usize) -> Result
-    requires { (Lent sheet.now results.now) × (Ready (sheet_in sheet.now) (held_in results.now) k) }
-    ensures { word result ≡ bound_by passes (sheet_in sheet.now) (held_in results.now) k }
+pub(crate) fn bound_of(turn: &Turn) -> Result
+    ensures { word result ≡ bound_by passes (sheet_in turn.now.sheet.now) (held_in turn.now.results.now) turn.now.k }
 {
-    let row = row_inside(sheet, k);
+    let row = turn.row();
     let mut at = Pursuit {
-        length: first_length(sheet, results, k),
+        length: first_length(turn),
         guess: Quantity(0),
         calm: CALM,
     };
     while at.length.0 <= row.deadline {
-        let Some((next, spare)) = try_length(sheet, results, k, at.length) else {
+        let Some((next, spare)) = try_length(turn, at.length) else {
             return Result::Bound(at.length.0);
         };
-        at = further(sheet, results, k, at, next, spare);
+        at = further(turn, at, next, spare);
     }
     Result::NoBound
 }

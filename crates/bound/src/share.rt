@@ -5,12 +5,12 @@ ghost use Rattle.sheet.specs.Legal.{row_at};
 ghost use Rattle.sheet.specs.Lists.{sheet_in};
 ghost use Rattle.bound.specs.Quantities.{widest_separation};
 ghost use Rattle.bound.specs.Inside.Parts.{on_fine};
-ghost use Rattle.bound.specs.Inside.Ready.{held_in, Lent, Ready, Length, Above};
+ghost use Rattle.bound.specs.Inside.Ready.{held_in, Length, Above};
 ghost use Rattle.bound.specs.Inside.Skipping.{share_of, Shares, AllFail};
 
 use crate::quantity::{Duration, FineAmount, Quantity};
-use crate::row::row_inside;
 use crate::test::{q_of, room_of, span_of, window_of};
+use crate::turn::Turn;
 use sheet::Row;
 
 // The amount of a row above with this bound, by its share: its budget of every separation.
@@ -31,16 +31,15 @@ pub(crate) fn share_above(
 }
 
 // The sum of the amounts above row `k` by their shares.
-fn shares_above(sheet: &[u64], results: &[u64], k: usize, length: Duration) -> FineAmount
-    requires { (Lent sheet.now results.now) × (Ready (sheet_in sheet.now) (held_in results.now) k) × (Length (sheet_in sheet.now) k length) }
-    ensures { Shares (sheet_in sheet.now) (held_in results.now) k length k result }
+fn shares_above(turn: &Turn, length: Duration) -> FineAmount
+    requires { Length (sheet_in turn.now.sheet.now) turn.now.k length }
+    ensures { Shares (sheet_in turn.now.sheet.now) (held_in turn.now.results.now) turn.now.k length turn.now.k result }
 {
-    let q = q_of(sheet, k);
-    let X = window_of(sheet, k, length);
+    let q = q_of(turn);
+    let X = window_of(turn, length);
     let mut sum = FineAmount::none();
-    for i in 0..k {
-        let row = row_inside(sheet, i);
-        let bound = Quantity(results[i * 2 + 1]);
+    for i in 0..turn.k {
+        let (row, bound) = turn.above(i);
         let share = share_above(row, bound, length, X, q);
         sum = sum.plus(share);
     }
@@ -48,11 +47,11 @@ fn shares_above(sheet: &[u64], results: &[u64], k: usize, length: Duration) -> F
 }
 
 // Whether the shares leave no room in a length; where it says so, no length up to it passes.
-pub(crate) fn no_room(sheet: &[u64], results: &[u64], k: usize, length: Duration) -> bool
-    requires { (Lent sheet.now results.now) × (Ready (sheet_in sheet.now) (held_in results.now) k) × (Length (sheet_in sheet.now) k length) }
-    ensures { AllFail (sheet_in sheet.now) (held_in results.now) k (row_at (sheet_in sheet.now) k).budget length.0 result }
+pub(crate) fn no_room(turn: &Turn, length: Duration) -> bool
+    requires { Length (sheet_in turn.now.sheet.now) turn.now.k length }
+    ensures { AllFail (sheet_in turn.now.sheet.now) (held_in turn.now.results.now) turn.now.k (row_at (sheet_in turn.now.sheet.now) turn.now.k).budget length.0 result }
 {
-    let sum = shares_above(sheet, results, k, length);
-    let room = room_of(sheet, k, length);
+    let sum = shares_above(turn, length);
+    let room = room_of(turn, length);
     sum.reaches(room)
 }

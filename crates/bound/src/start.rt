@@ -3,11 +3,11 @@ ghost use Rattle.std.specs.Prelude.{◌≡◌, ◌≤◌};
 ghost use Rattle.basis.specs.Limits.{most_processors};
 ghost use Rattle.sheet.specs.Lists.{sheet_in};
 ghost use Rattle.bound.specs.Test.{C};
-ghost use Rattle.bound.specs.Inside.Ready.{held_in, Lent, Ready, Above};
+ghost use Rattle.bound.specs.Inside.Ready.{held_in, Above};
 ghost use Rattle.bound.specs.Inside.Skipping.{carried_of, Starts};
 
 use crate::quantity::{Duration, Quantity};
-use crate::row::row_inside;
+use crate::turn::Turn;
 use sheet::{Row, processors};
 
 // The length that the bound of a row above gives a row to begin with.
@@ -24,16 +24,14 @@ fn carried(m: u64, row: Row, above: Row, bound: Duration) -> Duration
 }
 
 // The length of row `k` that the search begins with.
-pub(crate) fn first_length(sheet: &[u64], results: &[u64], k: usize) -> Duration
-    requires { (Lent sheet.now results.now) × (Ready (sheet_in sheet.now) (held_in results.now) k) }
-    ensures { Starts (sheet_in sheet.now) (held_in results.now) k result }
+pub(crate) fn first_length(turn: &Turn) -> Duration
+    ensures { Starts (sheet_in turn.now.sheet.now) (held_in turn.now.results.now) turn.now.k result }
 {
-    let m = processors(sheet);
-    let row = row_inside(sheet, k);
+    let m = processors(turn.sheet);
+    let row = turn.row();
     let mut first = Quantity(row.budget);
-    for j in 0..k {
-        let above = row_inside(sheet, j);
-        let bound = Quantity(results[j * 2 + 1]);
+    for j in 0..turn.k {
+        let (above, bound) = turn.above(j);
         let later = carried(m, row, above, bound);
         first = first.greater(later);
     }

@@ -1,15 +1,14 @@
 // A stretch of lengths, decided at its two ends: where the rows above reach the room at both, by amounts that grow evenly from one to the other and that they never
 // fall below, every length between fails. All of it in 256ths.
 ghost use Rattle.std.specs.Prelude.{◌≡◌, true, ◌+◌, ◌<◌};
-ghost use Rattle.sheet.specs.Legal.{Legal};
 ghost use Rattle.sheet.specs.Lists.{sheet_in};
-ghost use Rattle.bound.specs.Inside.Ready.{held_in, Long, Lent, Ready, Length};
+ghost use Rattle.bound.specs.Inside.Ready.{held_in, Length};
 ghost use Rattle.bound.specs.Inside.Skipping.{Stretches, Along, RowMeets, RowsMeet, lasts, AllFail};
 
 use crate::quantity::{Duration, FineAmount, Quantity};
-use crate::row::row_inside;
 use crate::share::share_above;
 use crate::test::{amount_above, q_of, room_of, span_of, window_of};
+use crate::turn::Turn;
 use sheet::Row;
 
 // Two lengths, and X of each.
@@ -98,13 +97,12 @@ fn ends_above(row: Row, bound: Duration, s: Stretch, q: u64, spare: FineAmount) 
 }
 
 // The ends of the first `i` rows above row `k`, and of row `i`.
-fn with_row(sheet: &[u64], results: &[u64], k: usize, s: Stretch, i: usize, ends: Ends) -> Ends
-    requires { (Lent sheet.now results.now) × (Ready (sheet_in sheet.now) (held_in results.now) k) × (Stretches (sheet_in sheet.now) k s) × (i < k) × (RowsMeet (sheet_in sheet.now) (held_in results.now) k s i ends) }
-    ensures { RowsMeet (sheet_in sheet.now) (held_in results.now) k s (i + 1) result }
+fn with_row(turn: &Turn, s: Stretch, i: usize, ends: Ends) -> Ends
+    requires { (Stretches (sheet_in turn.now.sheet.now) turn.now.k s) × (i < turn.now.k) × (RowsMeet (sheet_in turn.now.sheet.now) (held_in turn.now.results.now) turn.now.k s i ends) }
+    ensures { RowsMeet (sheet_in turn.now.sheet.now) (held_in turn.now.results.now) turn.now.k s (i + 1) result }
 {
-    let q = q_of(sheet, k);
-    let row = row_inside(sheet, i);
-    let bound = Quantity(results[i * 2 + 1]);
+    let q = q_of(turn);
+    let (row, bound) = turn.above(i);
     let more = ends_above(row, bound, s, q, ends.spare);
     Ends {
         now: ends.now.plus(more.now),
@@ -114,28 +112,28 @@ fn with_row(sheet: &[u64], results: &[u64], k: usize, s: Stretch, i: usize, ends
 }
 
 // The ends of all rows above row `k`.
-fn ends_of_rows(sheet: &[u64], results: &[u64], k: usize, s: Stretch, spare: FineAmount) -> Ends
-    requires { (Lent sheet.now results.now) × (Ready (sheet_in sheet.now) (held_in results.now) k) × (Stretches (sheet_in sheet.now) k s) }
-    ensures { RowsMeet (sheet_in sheet.now) (held_in results.now) k s k result }
+fn ends_of_rows(turn: &Turn, s: Stretch, spare: FineAmount) -> Ends
+    requires { Stretches (sheet_in turn.now.sheet.now) turn.now.k s }
+    ensures { RowsMeet (sheet_in turn.now.sheet.now) (held_in turn.now.results.now) turn.now.k s turn.now.k result }
 {
     let mut ends = Ends {
         now: FineAmount::none(),
         then: FineAmount::none(),
         spare,
     };
-    for i in 0..k {
-        ends = with_row(sheet, results, k, s, i, ends);
+    for i in 0..turn.k {
+        ends = with_row(turn, s, i, ends);
     }
     ends
 }
 
 // The stretch of row `k` from one length to another.
-fn stretch_of(sheet: &[u64], k: usize, from: Duration, to: Duration) -> Stretch
-    requires { (Long sheet.now) × (Legal (sheet_in sheet.now)) × (k < (sheet_in sheet.now).count) × (Length (sheet_in sheet.now) k from) × (Length (sheet_in sheet.now) k to) × (from.0 < to.0) }
-    ensures { (Stretches (sheet_in sheet.now) k result) × (result.from ≡ from) × (result.to ≡ to) }
+fn stretch_of(turn: &Turn, from: Duration, to: Duration) -> Stretch
+    requires { (Length (sheet_in turn.now.sheet.now) turn.now.k from) × (Length (sheet_in turn.now.sheet.now) turn.now.k to) × (from.0 < to.0) }
+    ensures { (Stretches (sheet_in turn.now.sheet.now) turn.now.k result) × (result.from ≡ from) × (result.to ≡ to) }
 {
-    let early = window_of(sheet, k, from);
-    let late = window_of(sheet, k, to);
+    let early = window_of(turn, from);
+    let late = window_of(turn, to);
     Stretch {
         from,
         to,
@@ -145,20 +143,13 @@ fn stretch_of(sheet: &[u64], k: usize, from: Duration, to: Duration) -> Stretch
 }
 
 // Whether all lengths from one to another are known to fail.
-pub(crate) fn all_fail(
-    sheet: &[u64],
-    results: &[u64],
-    k: usize,
-    from: Duration,
-    to: Duration,
-    spare: FineAmount,
-) -> bool
-    requires { (Lent sheet.now results.now) × (Ready (sheet_in sheet.now) (held_in results.now) k) × (Length (sheet_in sheet.now) k from) × (Length (sheet_in sheet.now) k to) × (from.0 < to.0) }
-    ensures { AllFail (sheet_in sheet.now) (held_in results.now) k from.0 to.0 result }
+pub(crate) fn all_fail(turn: &Turn, from: Duration, to: Duration, spare: FineAmount) -> bool
+    requires { (Length (sheet_in turn.now.sheet.now) turn.now.k from) × (Length (sheet_in turn.now.sheet.now) turn.now.k to) × (from.0 < to.0) }
+    ensures { AllFail (sheet_in turn.now.sheet.now) (held_in turn.now.results.now) turn.now.k from.0 to.0 result }
 {
-    let s = stretch_of(sheet, k, from, to);
-    let ends = ends_of_rows(sheet, results, k, s, spare);
-    let first = room_of(sheet, k, from);
-    let last = room_of(sheet, k, to);
+    let s = stretch_of(turn, from, to);
+    let ends = ends_of_rows(turn, s, spare);
+    let first = room_of(turn, from);
+    let last = room_of(turn, to);
     ends.now.reaches(first) && ends.then.reaches(last)
 }

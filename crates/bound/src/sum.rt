@@ -1,16 +1,16 @@
 // The sum of the amounts of the rows above, added from the top, with the pace at which it grows. The test of one length leaves it once it reaches q × X; what plans the next length goes on from the
 // row where the test left, unless the rows that are added tell enough.
-ghost use Rattle.std.specs.Prelude.{◌≡◌, ◌+◌, ◌<◌, min};
+ghost use Rattle.std.specs.Prelude.{◌≡◌, ◌+◌, ◌<◌};
 ghost use Rattle.sheet.specs.Lists.{sheet_in};
 ghost use Rattle.bound.specs.Quantities.{less};
 ghost use Rattle.bound.specs.Test as test;
-ghost use Rattle.bound.specs.Inside.Ready.{held_in, Lent, Ready, Length};
+ghost use Rattle.bound.specs.Inside.Ready.{held_in, Length};
 ghost use Rattle.bound.specs.Inside.Skipping.{Adds, Fills};
 
 use crate::pace::{Pace, joined, stay_of_row};
 use crate::quantity::{Amount, Duration, Quantity};
-use crate::row::row_inside;
 use crate::test::{amount_above, q_of, room_of, window_of};
+use crate::turn::Turn;
 use basis::MOST_SEPARATION;
 
 // The first rows above a row, which are added: the sum of their amounts, the pace at which it grows, and how many they are.
@@ -22,21 +22,12 @@ pub struct Added {
 }
 
 // The rows that are added, and the next.
-fn add_next(
-    sheet: &[u64],
-    results: &[u64],
-    k: usize,
-    length: Duration,
-    X: Duration,
-    q: u64,
-    added: Added,
-) -> Added
-    requires { (Lent sheet.now results.now) × (Ready (sheet_in sheet.now) (held_in results.now) k) × (Length (sheet_in sheet.now) k length) × (X ≡ test.X (sheet_in sheet.now) k length) × (q ≡ test.q (sheet_in sheet.now) k) × (Adds (sheet_in sheet.now) (held_in results.now) k length added) × (added.rows < k) }
-    ensures { (Adds (sheet_in sheet.now) (held_in results.now) k length result) × (result.rows ≡ added.rows + 1) }
+fn add_next(turn: &Turn, length: Duration, X: Duration, q: u64, added: Added) -> Added
+    requires { (Length (sheet_in turn.now.sheet.now) turn.now.k length) × (X ≡ test.X (sheet_in turn.now.sheet.now) turn.now.k length) × (q ≡ test.q (sheet_in turn.now.sheet.now) turn.now.k) × (Adds (sheet_in turn.now.sheet.now) (held_in turn.now.results.now) turn.now.k length added) × (added.rows < turn.now.k) }
+    ensures { (Adds (sheet_in turn.now.sheet.now) (held_in turn.now.results.now) turn.now.k length result) × (result.rows ≡ added.rows + 1) }
 {
     let i = added.rows;
-    let row = row_inside(sheet, i);
-    let bound = Quantity(results[i * 2 + 1]);
+    let (row, bound) = turn.above(i);
     let amount = amount_above(row, bound, length, X, q);
     let stay = stay_of_row(row, bound, length, X);
     Added {
@@ -47,13 +38,13 @@ fn add_next(
 }
 
 // The test of a length of row `k`: rows above are added until their sum reaches q × X. It passes where the sum does not.
-pub(crate) fn sum_above(sheet: &[u64], results: &[u64], k: usize, length: Duration) -> Added
-    requires { (Lent sheet.now results.now) × (Ready (sheet_in sheet.now) (held_in results.now) k) × (Length (sheet_in sheet.now) k length) }
-    ensures { (Adds (sheet_in sheet.now) (held_in results.now) k length result) × (test.passes (sheet_in sheet.now) (held_in results.now) k length ≡ less result.sum (test.room (sheet_in sheet.now) k length)) }
+pub(crate) fn sum_above(turn: &Turn, length: Duration) -> Added
+    requires { Length (sheet_in turn.now.sheet.now) turn.now.k length }
+    ensures { (Adds (sheet_in turn.now.sheet.now) (held_in turn.now.results.now) turn.now.k length result) × (test.passes (sheet_in turn.now.sheet.now) (held_in turn.now.results.now) turn.now.k length ≡ less result.sum (test.room (sheet_in turn.now.sheet.now) turn.now.k length)) }
 {
-    let q = q_of(sheet, k);
-    let X = window_of(sheet, k, length);
-    let room = room_of(sheet, k, length);
+    let q = q_of(turn);
+    let X = window_of(turn, length);
+    let room = room_of(turn, length);
     let mut added = Added {
         sum: Amount::none(),
         pace: Pace {
@@ -62,8 +53,8 @@ pub(crate) fn sum_above(sheet: &[u64], results: &[u64], k: usize, length: Durati
         },
         rows: 0,
     };
-    for _row in 0..k {
-        added = add_next(sheet, results, k, length, X, q, added);
+    for _row in 0..turn.k {
+        added = add_next(turn, length, X, q, added);
         if room <= added.sum {
             return added;
         }
@@ -72,15 +63,15 @@ pub(crate) fn sum_above(sheet: &[u64], results: &[u64], k: usize, length: Durati
 }
 
 // The rows that are added, and all others above row `k`.
-fn add_rest(sheet: &[u64], results: &[u64], k: usize, length: Duration, added: Added) -> Added
-    requires { (Lent sheet.now results.now) × (Ready (sheet_in sheet.now) (held_in results.now) k) × (Length (sheet_in sheet.now) k length) × (Adds (sheet_in sheet.now) (held_in results.now) k length added) × (Fills (sheet_in sheet.now) k length added) }
-    ensures { (Adds (sheet_in sheet.now) (held_in results.now) k length result) × (Fills (sheet_in sheet.now) k length result) }
+fn add_rest(turn: &Turn, length: Duration, added: Added) -> Added
+    requires { (Length (sheet_in turn.now.sheet.now) turn.now.k length) × (Adds (sheet_in turn.now.sheet.now) (held_in turn.now.results.now) turn.now.k length added) × (Fills (sheet_in turn.now.sheet.now) turn.now.k length added) }
+    ensures { (Adds (sheet_in turn.now.sheet.now) (held_in turn.now.results.now) turn.now.k length result) × (Fills (sheet_in turn.now.sheet.now) turn.now.k length result) }
 {
-    let q = q_of(sheet, k);
-    let X = window_of(sheet, k, length);
+    let q = q_of(turn);
+    let X = window_of(turn, length);
     let mut all = added;
-    for _row in added.rows..k {
-        all = add_next(sheet, results, k, length, X, q, all);
+    for _row in added.rows..turn.k {
+        all = add_next(turn, length, X, q, all);
     }
     all
 }
@@ -91,20 +82,14 @@ fn tells_enough(q: u64, X: Duration, pace: Pace) -> bool {
 }
 
 // The rows that the length after one that fails is planned by: those that the test added where they tell enough, else all.
-pub(crate) fn rows_to_plan_by(
-    sheet: &[u64],
-    results: &[u64],
-    k: usize,
-    length: Duration,
-    added: Added,
-) -> Added
-    requires { (Lent sheet.now results.now) × (Ready (sheet_in sheet.now) (held_in results.now) k) × (Length (sheet_in sheet.now) k length) × (Adds (sheet_in sheet.now) (held_in results.now) k length added) × (Fills (sheet_in sheet.now) k length added) }
-    ensures { (Adds (sheet_in sheet.now) (held_in results.now) k length result) × (Fills (sheet_in sheet.now) k length result) }
+pub(crate) fn rows_to_plan_by(turn: &Turn, length: Duration, added: Added) -> Added
+    requires { (Length (sheet_in turn.now.sheet.now) turn.now.k length) × (Adds (sheet_in turn.now.sheet.now) (held_in turn.now.results.now) turn.now.k length added) × (Fills (sheet_in turn.now.sheet.now) turn.now.k length added) }
+    ensures { (Adds (sheet_in turn.now.sheet.now) (held_in turn.now.results.now) turn.now.k length result) × (Fills (sheet_in turn.now.sheet.now) turn.now.k length result) }
 {
-    let q = q_of(sheet, k);
-    let X = window_of(sheet, k, length);
+    let q = q_of(turn);
+    let X = window_of(turn, length);
     if tells_enough(q, X, added.pace) {
         return added;
     }
-    add_rest(sheet, results, k, length, added)
+    add_rest(turn, length, added)
 }

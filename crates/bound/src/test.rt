@@ -1,31 +1,29 @@
 // What the test of one length is made of: q, X, q × X, and x, N, W, the duration and the amount of each row above.
-ghost use Rattle.std.specs.Prelude.{◌≡◌, ◌≤◌, ◌<◌, min};
+ghost use Rattle.std.specs.Prelude.{◌≡◌, ◌≤◌, min};
 ghost use Rattle.basis.specs.Limits.{most_processors};
-ghost use Rattle.sheet.specs.Legal.{Legal};
 ghost use Rattle.sheet.specs.Lists.{sheet_in};
 ghost use Rattle.bound.specs.Quantities.{widest_separation, on};
 ghost use Rattle.bound.specs.Test.{q, X, x, W, duration_of, room};
-ghost use Rattle.bound.specs.Inside.Ready.{Long, Length, Above, Spans};
+ghost use Rattle.bound.specs.Inside.Ready.{Length, Above, Spans};
 
 use crate::quantity::{Amount, Duration, Quantity};
-use crate::row::row_inside;
+use crate::turn::Turn;
 use sheet::{Row, processors};
 
 // q, of row `k`.
-pub(crate) fn q_of(sheet: &[u64], k: usize) -> u64
-    requires { (Long sheet.now) × (Legal (sheet_in sheet.now)) × (k < (sheet_in sheet.now).count) }
-    ensures { result ≡ q (sheet_in sheet.now) k }
+pub(crate) fn q_of(turn: &Turn) -> u64
+    ensures { result ≡ q (sheet_in turn.now.sheet.now) turn.now.k }
 {
-    let row = row_inside(sheet, k);
-    processors(sheet) - row.threads + 1
+    let row = turn.row();
+    processors(turn.sheet) - row.threads + 1
 }
 
 // X, of row `k` and a length.
-pub(crate) fn window_of(sheet: &[u64], k: usize, length: Duration) -> Duration
-    requires { (Long sheet.now) × (Legal (sheet_in sheet.now)) × (k < (sheet_in sheet.now).count) × (Length (sheet_in sheet.now) k length) }
-    ensures { result ≡ X (sheet_in sheet.now) k length }
+pub(crate) fn window_of(turn: &Turn, length: Duration) -> Duration
+    requires { Length (sheet_in turn.now.sheet.now) turn.now.k length }
+    ensures { result ≡ X (sheet_in turn.now.sheet.now) turn.now.k length }
 {
-    let row = row_inside(sheet, k);
+    let row = turn.row();
     let before = length.after(Quantity(row.budget));
     before.plus(Quantity(1))
 }
@@ -70,11 +68,11 @@ pub(crate) fn amount_above(
 }
 
 // q × X, of row `k` and a length.
-pub(crate) fn room_of(sheet: &[u64], k: usize, length: Duration) -> Amount
-    requires { (Long sheet.now) × (Legal (sheet_in sheet.now)) × (k < (sheet_in sheet.now).count) × (Length (sheet_in sheet.now) k length) }
-    ensures { result ≡ room (sheet_in sheet.now) k length }
+pub(crate) fn room_of(turn: &Turn, length: Duration) -> Amount
+    requires { Length (sheet_in turn.now.sheet.now) turn.now.k length }
+    ensures { result ≡ room (sheet_in turn.now.sheet.now) turn.now.k length }
 {
-    let q = q_of(sheet, k);
-    let X = window_of(sheet, k, length);
+    let q = q_of(turn);
+    let X = window_of(turn, length);
     X.on(q)
 }

@@ -7,13 +7,13 @@ pub loop-at-init : goal.loop-at-init
 loop-at-init c = (search rules, search search_starts)
 
 pub try_length-requires : goal.try_length-requires
-try_length-requires c = (search rules, search rules, search length_of_row)
+try_length-requires c = search length_of_row
 
 pub returns-in_default : goal.returns-in_default
 returns-in_default c = search search_found
 
 pub further-at-requires : goal.further-at-requires
-further-at-requires c = (search rules, search rules, search length_of_row, search told_next)
+further-at-requires c = (search length_of_row, search told_next)
 
 pub loop-at-smaller : goal.loop-at-smaller
 loop-at-smaller c = search (search_less, le_of_lt)

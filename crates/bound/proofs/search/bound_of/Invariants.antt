@@ -5,8 +5,8 @@ use Rattle.bound.proofs.search.bound_of.Given as goal
 
 abbrev pub invariant-loop-at : goal.invariant-loop-at
 invariant-loop-at l =
-    ((row_at (sheet_in l.sheet) l.k).budget ≤ l.at.length.0)
-    × (least (passes_at passes (sheet_in l.sheet) (held_in l.results) l.k) l.at.length.0 ((row_at (sheet_in l.sheet) l.k).deadline + 1 - l.at.length.0) ≡ bound_by passes (sheet_in l.sheet) (held_in l.results) l.k)
+    ((row_at (sheet_in l.turn.sheet.now) l.turn.k).budget ≤ l.at.length.0)
+    × (least (passes_at passes (sheet_in l.turn.sheet.now) (held_in l.turn.results.now) l.turn.k) l.at.length.0 ((row_at (sheet_in l.turn.sheet.now) l.turn.k).deadline + 1 - l.at.length.0) ≡ bound_by passes (sheet_in l.turn.sheet.now) (held_in l.turn.results.now) l.turn.k)
 
 abbrev pub decreases-loop-at : goal.decreases-loop-at
-decreases-loop-at l = (row_at (sheet_in l.sheet) l.k).deadline + 1 - l.at.length.0
+decreases-loop-at l = (row_at (sheet_in l.turn.sheet.now) l.turn.k).deadline + 1 - l.at.length.0

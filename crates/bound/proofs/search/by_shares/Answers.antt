@@ -4,7 +4,7 @@ use Rattle.bound.proofs.Shares.{deadline_is_length, after_deadline_fits, past_de
 use Rattle.bound.proofs.search.by_shares.Goals as goal
 
 pub no_room-requires : goal.no_room-requires
-no_room-requires c = (search rules, search rules, search deadline_is_length)
+no_room-requires c = search deadline_is_length
 
 pub plus-requires : goal.plus-requires
 plus-requires c = search (after_deadline_fits, rules)

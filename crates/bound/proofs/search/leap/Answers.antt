@@ -7,7 +7,7 @@ pub reach_of-reach-requires : goal.reach_of-reach-requires
 reach_of-reach-requires c = (search rules, search rules, search deadline_small)
 
 pub all_fail-requires : goal.all_fail-requires
-all_fail-requires c = (search rules, search rules, search rules, search end_is_length, search rules)
+all_fail-requires c = (search rules, search end_is_length, search rules)
 
 pub plus-requires : goal.plus-requires
 plus-requires c = search (after_end_fits, rules)

@@ -8,7 +8,7 @@ pub returns-then-lt : goal.returns-then-lt
 returns-then-lt c = search (trial_passes, less_is)
 
 pub rows_to_plan_by-added-requires : goal.rows_to_plan_by-added-requires
-rows_to_plan_by-added-requires c = (search rules, search rules, search rules, search rules, search (trial_fills, less_is))
+rows_to_plan_by-added-requires c = (search rules, search rules, search (trial_fills, less_is))
 
 pub spare-requires : goal.spare-requires
 spare-requires c = search spare_fits

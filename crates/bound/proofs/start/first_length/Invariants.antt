@@ -3,4 +3,4 @@ use Rattle.bound.proofs.Names.{sheet_in, held_in, Starts}
 use Rattle.bound.proofs.start.first_length.Given as goal
 
 abbrev pub invariant-loop-j : goal.invariant-loop-j
-invariant-loop-j l = Starts (sheet_in l.sheet) (held_in l.results) l.k l.first
+invariant-loop-j l = Starts (sheet_in l.turn.sheet.now) (held_in l.turn.results.now) l.turn.k l.first

@@ -3,4 +3,4 @@ use Rattle.bound.proofs.Names.{sheet_in, held_in, RowsMeet}
 use Rattle.bound.proofs.stretch.ends_of_rows.Given as goal
 
 abbrev pub invariant-loop-i : goal.invariant-loop-i
-invariant-loop-i l = RowsMeet (sheet_in l.sheet) (held_in l.results) l.k l.s l.i l.ends
+invariant-loop-i l = RowsMeet (sheet_in l.turn.sheet.now) (held_in l.turn.results.now) l.turn.k l.s l.i l.ends

@@ -4,4 +4,4 @@ use Rattle.bound.proofs.Names.{sheet_in, held_in, Adds, Fills}
 use Rattle.bound.proofs.sum.add_rest.Given as goal
 
 abbrev pub invariant-loop-row : goal.invariant-loop-row
-invariant-loop-row l = (l.all.rows ≡ l._row) × (Adds (sheet_in l.sheet) (held_in l.results) l.k l.length l.all) × (Fills (sheet_in l.sheet) l.k l.length l.all)
+invariant-loop-row l = (l.all.rows ≡ l._row) × (Adds (sheet_in l.turn.sheet.now) (held_in l.turn.results.now) l.turn.k l.length l.all) × (Fills (sheet_in l.turn.sheet.now) l.turn.k l.length l.all)
