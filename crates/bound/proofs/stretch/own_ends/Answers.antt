@@ -1,0 +1,17 @@
+-- `own_ends` has ends whose line the row's amount is never below. Assumes nothing.
+use Rattle.basis.specs.Prelude.{rules}
+use Rattle.bound.proofs.Durations.{amount_most}
+use Rattle.bound.proofs.RowLines.{last_along, own_meets}
+use Rattle.bound.proofs.stretch.own_ends.Goals as goal
+
+pub amount_above-then-requires : goal.amount_above-then-requires
+amount_above-then-requires c = (search last_along, search rules, search rules)
+
+pub fine-requires : goal.fine-requires
+fine-requires c = search (amount_most, rules)
+
+pub fine-requires-2 : goal.fine-requires-2
+fine-requires-2 c = search (amount_most, rules)
+
+pub returns : goal.returns
+returns c = search (own_meets, amount_most)
