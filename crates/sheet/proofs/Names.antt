@@ -10,7 +10,7 @@ unfoldable pub use Rattle.basis.specs.Words.{all_of}
 pub use Rattle.sheet.specs.Legal.{Legal, LegalRow, no_row, row_at}
 unfoldable pub use Rattle.sheet.specs.Legal.{legal, legal_at, legal_row}
 pub use Rattle.sheet.specs.Lists.{number_at, sheet_cell, sheet_long}
-unfoldable pub use Rattle.sheet.specs.Lists.{cell_by, cleared_cell, filled, legal_rows, list_cell, row_cell, row_in, row_of, sheet_in}
+unfoldable pub use Rattle.sheet.specs.Lists.{cleared_cell, filled, legal_rows, list_cell, row_cell, row_in, sheet_in}
 pub use Rattle.sheet.specs.Values.{no_rows, no_sheet}
 pub use Rattle.sheet.specs.declared.row.Row.{Row}
 pub use Rattle.sheet.specs.declared.row.Sheet.{Sheet}

@@ -1,6 +1,6 @@
 -- The check of the sheet in a list: a turn over its rows, and what each way out says. Assumes nothing.
-use Rattle.basis.specs.Prelude.{ℕ, ◌+◌, ◌-◌, ◌*◌, ◌≤◌, ◌<◌, ◌≡◌, refl, sym, ap, ap₂, ◌∙◌, Bool, true, false, List, length, get_or-eq_default, arith, w64, Fits, ⊎_elim}
-use Rattle.sheet.proofs.Names.{most_processors, most_rows, both, within, all_of, all_one_more, all_fails, both_left, both_right, at_most, lt_or_le, row_at, legal_row, legal_at, legal, Row, Sheet, number_at, row_in, sheet_in, sheet_long, legal_rows}
+use Rattle.basis.specs.Prelude.{ℕ, ◌+◌, ◌-◌, ◌*◌, ◌≤◌, ◌<◌, ◌≡◌, refl, sym, ap, ap₂, ◌∙◌, Bool, true, false, List, length, get_or-eq_default, arith, ⊎_elim}
+use Rattle.sheet.proofs.Names.{most_processors, most_rows, both, within, all_of, all_one_more, all_fails, both_left, both_right, lt_or_le, row_at, legal_row, legal_at, legal, Row, Sheet, number_at, row_in, sheet_in, sheet_long, legal_rows}
 use Rattle.sheet.proofs.Legality.{legal_is}
 use Rattle.sheet.proofs.Inside.ListRows.{row_in_sheet}
 
@@ -13,9 +13,6 @@ module _ (m : ℕ) (h : Sheet) (i : ℕ) (so_far : true ≡ all_of i (legal_rows
   pub rows_legal_fails : (n : ℕ) (row : Row) (b : Bool) → i < n → row ≡ row_at h i → b ≡ legal_row m row → b ≡ false → false ≡ all_of n (legal_rows m h)
   unfolding legal_rows
   rows_legal_fails n row b l er eb e = sym (all_fails n (legal_rows m h) i l (ap (legal_row m) (sym er) ∙ sym eb ∙ e))
-
-  pub rows_legal_done : (n : ℕ) → i ≤ n → n ≤ i → true ≡ all_of n (legal_rows m h)
-  rows_legal_done n a b = let e : i ≡ n = omega arith in rw e at so_far
 
 -- a test that cannot hold is false
 pub not_so : (b : Bool) → (b ≡ true → ⊥) → b ≡ false
@@ -41,17 +38,7 @@ unfolding sheet_in
 legal_sheet_long l n e en =
     ⊎_elim (λ a. let f = missing_rows_are_refused l (omega arith) in let z : ◌≡◌ {A = ℕ} 0 1 = cc in absurd (omega arith)) (λ a. a) (lt_or_le (length l) (sheet_long n))
 
--- `is_legal`: few rows, and the places that they need are a number
-module _ (m n : ℕ) (head : Bool) (eh : head ≡ both (within 1 most_processors m) (within 1 most_rows n)) (t : head ≡ true) where
-  pub head_fits : n ≤ most_rows
-  head_fits = at_most 1 most_rows n (both_right (within 1 most_processors m) (within 1 most_rows n) (sym eh ∙ t))
-
-  pub rows_scaled : Fits w64 (n * 4)
-  rows_scaled = record { fits = omega (arith, head_fits) }
-
-  pub sheet_scaled : Fits w64 (n * 4 + 2)
-  sheet_scaled = record { fits = omega (arith, head_fits) }
-
+-- `is_legal`
 module _ (l : List ℕ) (m n : ℕ) (em : m ≡ (sheet_in l).processors) (en : n ≡ (sheet_in l).count) (head : Bool) (eh : head ≡ both (within 1 most_processors m) (within 1 most_rows n)) where
   pub head_fails : head ≡ false → false ≡ legal (sheet_in l)
   unfolding legal

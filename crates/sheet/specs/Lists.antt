@@ -1,6 +1,6 @@
 -- A sheet as a list of plain numbers.
 use Rattle.std.specs.Prelude.{◌+◌, ◌-◌, ◌*◌, ◌/◌, ◌%◌}
-use Rattle.basis.specs.Prelude.{ℕ, Bool, List, length, get_or, ltb, leb, eqb}
+use Rattle.basis.specs.Prelude.{ℕ, Bool, List, length, get_or, ltb, eqb}
 use Rattle.basis.specs.Limits.{most_rows}
 use Rattle.basis.specs.Words.{pick}
 use Rattle.basis.specs.Upto.{upto}
@@ -51,15 +51,6 @@ sheet_long n = n * 4 + 2
 -- The number at place i of a list that is made zero from a place on.
 unfoldable pub cleared_cell : ℕ → List ℕ → ℕ → ℕ
 cleared_cell from l i = pick (ltb i from) (number_at l i) 0
-
--- How the code finds the number at place i of a sheet's list, of which no promise of a public function speaks: the row that the place belongs to, or row 0 where it belongs to none,
-unfoldable pub row_of : ℕ → ℕ
-row_of i = pick (ltb i 2) 0 (pick (leb (sheet_long most_rows) i) 0 ((i - 2) / 4))
-
--- and the number by that row.
-unfoldable pub cell_by : ℕ → ℕ → Row → ℕ → ℕ
-cell_by m n row i =
-    pick (eqb i 0) m (pick (eqb i 1) n (pick (leb (sheet_long most_rows) i) 0 (row_cell row ((i - 2) % 4))))
 
 -- Row i of a sheet is in the ranges on m processors, as the check of a list's rows finds it.
 unfoldable pub legal_rows : ℕ → Sheet → ℕ → Bool

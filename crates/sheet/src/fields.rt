@@ -26,13 +26,13 @@ pub fn count(list: &[u64]) -> u64
 pub fn row_at(list: &[u64], k: usize) -> Row
     ensures { result ≡ row_at (sheet_in list.now) k }
 {
-    if k < MOST_ROWS {
-        if k * 4 + 5 < list.len() {
-            return row_inside(list, k);
-        }
-        return row_in(list, k);
+    if k >= MOST_ROWS {
+        NO_ROW
+    } else if k * 4 + 5 < list.len() {
+        row_inside(list, k)
+    } else {
+        row_in(list, k)
     }
-    NO_ROW
 }
 
 // Its row k, where the list has room for it, read without a look at its end.

@@ -13,54 +13,17 @@ use basis::{MOST_PROCESSORS, MOST_ROWS, MOST_SEPARATION};
 fn is_legal_row(processors: u64, row: Row) -> bool
     ensures { result ≡ legal_row processors row }
 {
-    let threads = row.threads;
-    let separation = row.separation;
-    let deadline = row.deadline;
-    let budget = row.budget;
-    if threads < 1 {
-        return false;
-    }
-    if processors < threads {
-        return false;
-    }
-    if separation < 1 {
-        return false;
-    }
-    if MOST_SEPARATION < separation {
-        return false;
-    }
-    if deadline < 1 {
-        return false;
-    }
-    if separation < deadline {
-        return false;
-    }
-    if budget < 1 {
-        return false;
-    }
-    if deadline < budget {
-        return false;
-    }
-    true
+    (1..=processors).contains(&row.threads)
+        && (1..=MOST_SEPARATION).contains(&row.separation)
+        && (1..=row.separation).contains(&row.deadline)
+        && (1..=row.deadline).contains(&row.budget)
 }
 
 // Whether a sheet may have so many processors and so many rows.
 fn is_legal_head(processors: u64, count: u64) -> bool
     ensures { result ≡ both (within 1 most_processors processors) (within 1 most_rows count) }
 {
-    if processors < 1 {
-        return false;
-    }
-    if MOST_PROCESSORS < processors {
-        return false;
-    }
-    if count < 1 {
-        return false;
-    }
-    if (MOST_ROWS as u64) < count {
-        return false;
-    }
-    true
+    (1..=MOST_PROCESSORS).contains(&processors) && (1..=MOST_ROWS as u64).contains(&count)
 }
 
 // Whether each of the first n rows is in the ranges.
@@ -68,13 +31,8 @@ fn rows_are_legal(list: &[u64], processors: u64, n: usize) -> bool
     requires { (n ≤ most_rows) × (sheet_long n ≤ length list.now) }
     ensures { result ≡ all_of n (legal_rows processors (sheet_in list.now)) }
 {
-    let mut i: usize = 0;
-    while i < n {
-        let row = row_inside(list, i);
-        let fine = is_legal_row(processors, row);
-        if fine {
-            i += 1;
-        } else {
+    for i in 0..n {
+        if !is_legal_row(processors, row_inside(list, i)) {
             return false;
         }
     }
@@ -87,13 +45,9 @@ pub fn is_legal(list: &[u64]) -> bool
 {
     let m = processors(list);
     let rows = count(list);
-    let head = is_legal_head(m, rows);
-    if head {
-        let n = rows as usize;
-        if list.len() < n * 4 + 2 {
-            return false;
-        }
-        return rows_are_legal(list, m, n);
+    if !is_legal_head(m, rows) {
+        return false;
     }
-    false
+    let n = rows as usize;
+    n * 4 + 2 <= list.len() && rows_are_legal(list, m, n)
 }

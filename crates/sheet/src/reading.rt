@@ -10,10 +10,7 @@ use basis::MOST_ROWS;
 pub fn number_at(list: &[u64], at: usize) -> u64
     ensures { result ≡ number_at list.now at }
 {
-    if at < list.len() {
-        return list[at];
-    }
-    0
+    list.get(at).copied().unwrap_or(0)
 }
 
 // Row k of a list, where there is room for one.
@@ -34,10 +31,8 @@ pub fn sheet_in(list: &[u64]) -> Sheet
     ensures { result ≡ sheet_in list.now }
 {
     let mut rows = [NO_ROW; MOST_ROWS];
-    let mut i: usize = 0;
-    while i < MOST_ROWS {
-        rows[i] = row_in(list, i);
-        i += 1;
+    for (i, row) in rows.iter_mut().enumerate() {
+        *row = row_in(list, i);
     }
     Sheet {
         processors: number_at(list, 0),

@@ -1,7 +1,7 @@
 -- The numbers at the places of a sheet's list, as the code finds them. Assumes nothing.
-use Rattle.basis.specs.Prelude.{ℕ, ◌+◌, ◌-◌, ◌*◌, ◌/◌, ◌%◌, ◌≤◌, ◌<◌, ◌≡◌, sym, ap, ◌∙◌, List, map, ⊎_elim, length, length-map, get_or-eq_default, arith, mod-lt, div-add-mod', lt-ltb, le-ltb, le-leb, lt-leb, eq-eqb, ne_eqb}
+use Rattle.basis.specs.Prelude.{ℕ, ◌+◌, ◌-◌, ◌*◌, ◌/◌, ◌%◌, ◌≤◌, ◌<◌, ◌≡◌, sym, ap, ◌∙◌, List, map, length, length-map, get_or-eq_default, arith, mod-lt, div-add-mod', ne_eqb}
 use lib.Arith.{digits_div, digits_mod}
-use Rattle.sheet.proofs.Names.{most_rows, get_d_all, pick_same, lt_or_le, no_row, row_at, no_sheet, Row, Sheet, row_cell, list_cell, sheet_cell, sheet_long, row_of, cell_by}
+use Rattle.sheet.proofs.Names.{most_rows, get_d_all, pick_same, no_row, row_at, no_sheet, Row, Sheet, row_cell, list_cell, sheet_cell, sheet_long}
 
 -- number j of row k of a list
 pub cell_of : (m n : ℕ) (rows : ℕ → Row) (i k j : ℕ) → i ≡ k * 4 + j + 2 → j < 4 → list_cell m n rows i ≡ row_cell (rows k) j
@@ -35,36 +35,15 @@ no_sheet_cell i = simp (get_d_all most_rows ((i - 2) / 4) no_row, cell_of_none, 
 pub no_row_past : (h : Sheet) → length h.rows ≡ most_rows → (k : ℕ) → most_rows ≤ k → row_at h k ≡ no_row
 no_row_past h long k b = get_or-eq_default h.rows no_row {n = k} (rw long b)
 
--- the row of a place is one that there is room for
-pub row_there : (i r : ℕ) → r ≡ row_of i → r < most_rows
-unfolding row_of
-row_there i r e =
-    ⊎_elim (λ a. let f : r ≡ 0 = e ∙ rw (lt-ltb i 2 a) in omega arith)
-    (λ a. ⊎_elim (λ b. let f : r ≡ (i - 2) / 4 = e ∙ rw (le-ltb i 2 a, lt-leb (sheet_long most_rows) i b) in omega (arith, div-add-mod' (i - 2) 4))
-    (λ b. let f : r ≡ 0 = e ∙ rw (le-ltb i 2 a, le-leb (sheet_long most_rows) i b) in omega arith) (lt_or_le i (sheet_long most_rows))) (lt_or_le i 2)
-
 -- the length of an array of structs
 pub unmapped : {A B : Type 0} (f : A → B) (l : List A) (n : ℕ) → length (map f l) ≡ n → length l ≡ n
 unmapped f l n e = sym (length-map l f) ∙ e
 
--- the three kinds of places: the first two, those of a row, and those past the rows
-module _ (h : Sheet) (i : ℕ) (row : Row) where
-  at_head : i < 2 → cell_by h.processors h.count row i ≡ sheet_cell h i
-  unfolding cell_by list_cell
-  at_head a = ⊎_elim (λ z. rw (eq-eqb i 0 (omega arith))) (λ z. rw (ne_eqb i 0 (λ y. omega arith), eq-eqb i 1 (omega arith))) (lt_or_le i 1)
+-- a place past the first two, which has a row or none
+module _ (h : Sheet) (i : ℕ) (a : i ≡ 0 → ⊥) (b : i ≡ 1 → ⊥) where
+  pub at_row : (row : Row) → row ≡ row_at h ((i - 2) / 4) → (v : ℕ) → v ≡ row_cell row ((i - 2) % 4) → v ≡ sheet_cell h i
+  unfolding list_cell
+  at_row row e v f = rw (ne_eqb i 0 a, ne_eqb i 1 b) (f ∙ ap (λ (r : Row). row_cell r ((i - 2) % 4)) e)
 
-  at_row : 2 ≤ i → i < sheet_long most_rows → row ≡ row_at h ((i - 2) / 4) → cell_by h.processors h.count row i ≡ sheet_cell h i
-  unfolding cell_by list_cell
-  at_row a b e = rw (ne_eqb i 0 (λ z. omega arith), ne_eqb i 1 (λ z. omega arith), lt-leb (sheet_long most_rows) i b, e)
-
-  at_end : length h.rows ≡ most_rows → sheet_long most_rows ≤ i → cell_by h.processors h.count row i ≡ sheet_cell h i
-  unfolding cell_by
-  at_end long b = rw (ne_eqb i 0 (λ z. omega arith), ne_eqb i 1 (λ z. omega arith), le-leb (sheet_long most_rows) i b) (sym (cell_past h most_rows (no_row_past h long) i b))
-
--- what the code finds at a place is the number there
-pub cell_found : (h : Sheet) (i r : ℕ) → length h.rows ≡ most_rows → r ≡ row_of i → (v : ℕ) → v ≡ cell_by h.processors h.count (row_at h r) i → v ≡ sheet_cell h i
-unfolding row_of
-cell_found h i r long e v f =
-    ⊎_elim (λ a. f ∙ at_head h i (row_at h r) a) (λ a. ⊎_elim
-    (λ b. let q : r ≡ (i - 2) / 4 = e ∙ rw (le-ltb i 2 a, lt-leb (sheet_long most_rows) i b) in f ∙ at_row h i (row_at h r) a b (ap (row_at h) q))
-    (λ b. f ∙ at_end h i (row_at h r) long b) (lt_or_le i (sheet_long most_rows))) (lt_or_le i 2)
+  pub past_rows : length h.rows ≤ (i - 2) / 4 → 0 ≡ sheet_cell h i
+  past_rows l = at_row no_row (sym (get_or-eq_default h.rows no_row {n = (i - 2) / 4} l)) 0 (sym (cell_of_none ((i - 2) % 4)))

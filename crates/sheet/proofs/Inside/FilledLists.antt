@@ -14,6 +14,13 @@ filled_read f l i z =
     ⊎_elim (λ h. upto_below (length l) f l 0 i h (le_refl (length l))) (λ h. upto_past (length l) f l 0 i h ∙ get_or-eq_default l 0 {n = i} h ∙ sym (z h))
     (lt_or_le i (length l))
 
+-- a list that holds f of every place is the filled one
+pub filled_is : (f : ℕ → ℕ) (l m : List ℕ) → length m ≡ length l → ((i : ℕ) → i < length l → number_at m i ≡ f i) → m ≡ filled f l
+unfolding filled
+filled_is f l m e same =
+    ext_get_or 0 m (filled f l) (e ∙ sym (length_upto (length l) f l))
+    (λ i b. let there : i < length l = omega arith in same i there ∙ sym (upto_below (length l) f l 0 i there (le_refl (length l))))
+
 -- a filled list is as long as it was
 pub length_filled : (f : ℕ → ℕ) (l : List ℕ) → length (filled f l) ≡ length l
 unfolding filled
@@ -28,10 +35,7 @@ zeros_long n = length-replicate n 0
 
 -- it is filled where its first k places are, and f is zero past them
 pub zeros_filled : (f : ℕ → ℕ) (n k : ℕ) → ((i : ℕ) → k ≤ i → f i ≡ 0) → k ≤ n → upto k f (zeros n) ≡ filled f (zeros n)
-unfolding filled
 zeros_filled f n k z h =
-    ext_get_or 0 (upto k f (zeros n)) (upto (length (zeros n)) f (zeros n)) (length_upto k f (zeros n) ∙ sym (length_upto (length (zeros n)) f (zeros n)))
-    (λ i b. let inside : i < length (zeros n) = omega (arith, length_upto k f (zeros n)) in
-    ⊎_elim (λ a. upto_below k f (zeros n) 0 i a (omega (arith, zeros_long n)))
-    (λ a. upto_past k f (zeros n) 0 i a ∙ get_d_all n i 0 ∙ sym (z i a)) (lt_or_le i k)
-    ∙ sym (upto_below (length (zeros n)) f (zeros n) 0 i inside (le_refl (length (zeros n)))))
+    filled_is f (zeros n) (upto k f (zeros n)) (length_upto k f (zeros n)) (λ i b. ⊎_elim
+    (λ a. upto_below k f (zeros n) 0 i a (omega (arith, zeros_long n)))
+    (λ a. upto_past k f (zeros n) 0 i a ∙ get_d_all n i 0 ∙ sym (z i a)) (lt_or_le i k))

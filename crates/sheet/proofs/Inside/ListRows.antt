@@ -1,10 +1,6 @@
 -- Numbers, rows and sheets of a list, as the code reads them. Assumes nothing.
-use Rattle.basis.specs.Prelude.{ℕ, ◌+◌, ◌*◌, ◌≤◌, ◌<◌, ◌≡◌, sym, ◌∙◌, List, length, set, get_or-eq_default, arith, le_refl}
+use Rattle.basis.specs.Prelude.{ℕ, ◌+◌, ◌*◌, ◌≤◌, ◌<◌, ◌≡◌, sym, ◌∙◌, List, set, get_or-eq_default, arith, le_refl}
 use Rattle.sheet.proofs.Names.{most_rows, upto, upto_set, upto_below, length_upto, no_row, row_at, no_rows, Row, number_at, row_in, sheet_in}
-
--- past the end of a list there are zeros
-pub number_past : (l : List ℕ) (i : ℕ) → length l ≤ i → 0 ≡ number_at l i
-number_past l i h = sym (get_or-eq_default l 0 {n = i} h)
 
 -- `row_in`
 pub row_read : (l : List ℕ) (k a b c d : ℕ) → a ≡ number_at l (k * 4 + 2) → b ≡ number_at l (k * 4 + 3) → c ≡ number_at l (k * 4 + 4) → d ≡ number_at l (k * 4 + 5)

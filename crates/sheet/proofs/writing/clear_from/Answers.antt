@@ -1,13 +1,10 @@
 -- `clear_from` meets its promise: from the place on, those so far are zero. Assumes nothing.
 use Rattle.basis.specs.Prelude.{rules}
-use Rattle.sheet.proofs.Inside.ClearedLists.{clear_none, clear_more, clear_done}
+use Rattle.sheet.proofs.Inside.ClearedLists.{none_cleared, rest_cleared}
 use Rattle.sheet.proofs.writing.clear_from.Goals as goal
 
-pub loop-i-init : goal.loop-i-init
-loop-i-init c = (search rules, search rules, search (clear_none, rules))
+pub returns-then-from-list : goal.returns-then-from-list
+returns-then-from-list c = search (rest_cleared, rules)
 
-pub loop-i-preserved : goal.loop-i-preserved
-loop-i-preserved c = (search rules, search rules, search clear_more)
-
-pub returns : goal.returns
-returns c = search clear_done
+pub returns-else-from-list : goal.returns-else-from-list
+returns-else-from-list c = search none_cleared

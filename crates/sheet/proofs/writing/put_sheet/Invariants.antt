@@ -1,10 +1,7 @@
 -- `put_sheet` meets its promise: the places so far are filled. Assumes nothing.
-use Rattle.basis.specs.Prelude.{◌≤◌, ◌-◌, ◌≡◌, length}
+use Rattle.basis.specs.Prelude.{◌≡◌}
 use Rattle.sheet.proofs.Names.{upto, sheet_cell}
 use Rattle.sheet.proofs.writing.put_sheet.Given as goal
 
 abbrev pub invariant-loop-i : goal.invariant-loop-i
-invariant-loop-i l = (l.i ≤ length l.initial.list) × (length l.list ≡ length l.initial.list) × (l.list ≡ upto l.i (sheet_cell l.sheet) l.initial.list)
-
-abbrev pub decreases-loop-i : goal.decreases-loop-i
-decreases-loop-i l = length l.initial.list - l.i
+invariant-loop-i l = l.list ≡ upto l.i (sheet_cell l.sheet) l.initial.list

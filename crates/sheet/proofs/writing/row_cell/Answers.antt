@@ -2,18 +2,18 @@
 use Rattle.sheet.proofs.Names.{tests, row_cell}
 use Rattle.sheet.proofs.writing.row_cell.Goals as goal
 
-pub returns-then-j-eq0 : goal.returns-then-j-eq0
+pub returns-in-0 : goal.returns-in-0
 unfolding row_cell
-returns-then-j-eq0 c = search tests
+returns-in-0 c = rw c.in-0.is
 
-pub returns-then-j-eq1 : goal.returns-then-j-eq1
+pub returns-in-1 : goal.returns-in-1
 unfolding row_cell
-returns-then-j-eq1 c = search tests
+returns-in-1 c = rw c.in-1.is
 
-pub returns-then-j-eq2 : goal.returns-then-j-eq2
+pub returns-in-2 : goal.returns-in-2
 unfolding row_cell
-returns-then-j-eq2 c = search tests
+returns-in-2 c = rw c.in-2.is
 
-pub returns : goal.returns
+pub returns-in_default : goal.returns-in_default
 unfolding row_cell
-returns c = search tests
+returns-in_default c = search tests
