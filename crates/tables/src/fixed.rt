@@ -1,7 +1,7 @@
 // Sheets A to F: constant arrays of row values, each handed out as a sheet.
-ghost use Rattle.std.specs.Prelude.{◌≡◌};
-ghost use Rattle.tables.specs.Tables.{fixed_sheet};
-ghost use Rattle.tables.specs.Inside.Making.{sheet_with};
+ghost use Rattle.std.specs.Prelude.{◌≡◌, ◌≤◌, length};
+ghost use Rattle.basis.specs.Limits.{most_rows};
+ghost use Rattle.tables.specs.Tables.{sheet_of, fixed_sheet};
 
 use basis::MOST_ROWS;
 use sheet::{NO_ROW, Row, Sheet};
@@ -100,18 +100,17 @@ const F: [Row; 1] = [Row {
     budget: 1,
 }];
 
-// A sheet of no more than three rows; `NO_ROW` stands for each that is not there.
-fn sheet_with(processors: u64, count: u64, first: Row, second: Row, third: Row) -> Sheet
-    ensures { result ≡ sheet_with processors count first second third }
+// The sheet of so many processors and of these rows, past which all is zero.
+fn sheet_of(processors: u64, rows: &[Row]) -> Sheet
+    requires { length rows.now ≤ most_rows }
+    ensures { result ≡ sheet_of processors rows.now }
 {
-    let mut rows = [NO_ROW; MOST_ROWS];
-    rows[0] = first;
-    rows[1] = second;
-    rows[2] = third;
+    let mut padded = [NO_ROW; MOST_ROWS];
+    padded[..rows.len()].copy_from_slice(rows);
     Sheet {
         processors,
-        count,
-        rows,
+        count: rows.len() as u64,
+        rows: padded,
     }
 }
 
@@ -119,23 +118,13 @@ fn sheet_with(processors: u64, count: u64, first: Row, second: Row, third: Row) 
 pub fn fixed_sheet(number: usize) -> Sheet
     ensures { result ≡ fixed_sheet number }
 {
-    if number == 0 {
-        return sheet_with(4, 2, A[0], A[1], NO_ROW);
+    match number {
+        0 => sheet_of(4, &A),
+        1 => sheet_of(4, &B),
+        2 => sheet_of(2, &C),
+        3 => sheet_of(2, &D),
+        4 => sheet_of(4, &E),
+        5 => sheet_of(1, &F),
+        _ => sheet_of(0, &[]),
     }
-    if number == 1 {
-        return sheet_with(4, 3, B[0], B[1], B[2]);
-    }
-    if number == 2 {
-        return sheet_with(2, 2, C[0], C[1], NO_ROW);
-    }
-    if number == 3 {
-        return sheet_with(2, 2, D[0], D[1], NO_ROW);
-    }
-    if number == 4 {
-        return sheet_with(4, 2, E[0], E[1], NO_ROW);
-    }
-    if number == 5 {
-        return sheet_with(1, 1, F[0], NO_ROW, NO_ROW);
-    }
-    sheet_with(0, 0, NO_ROW, NO_ROW, NO_ROW)
 }

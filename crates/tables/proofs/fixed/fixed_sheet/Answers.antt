@@ -2,23 +2,23 @@
 use Rattle.tables.proofs.Inside.SheetNumbers.{by_number, past_six}
 use Rattle.tables.proofs.fixed.fixed_sheet.Goals as goal
 
-pub returns-then-number-eq0 : goal.returns-then-number-eq0
-returns-then-number-eq0 c = search by_number
+pub returns-in-0 : goal.returns-in-0
+returns-in-0 c = search by_number
 
-pub returns-then-number-eq1 : goal.returns-then-number-eq1
-returns-then-number-eq1 c = search by_number
+pub returns-in-1 : goal.returns-in-1
+returns-in-1 c = search by_number
 
-pub returns-then-number-eq2 : goal.returns-then-number-eq2
-returns-then-number-eq2 c = search by_number
+pub returns-in-2 : goal.returns-in-2
+returns-in-2 c = search by_number
 
-pub returns-then-number-eq3 : goal.returns-then-number-eq3
-returns-then-number-eq3 c = search by_number
+pub returns-in-3 : goal.returns-in-3
+returns-in-3 c = search by_number
 
-pub returns-then-number-eq4 : goal.returns-then-number-eq4
-returns-then-number-eq4 c = search by_number
+pub returns-in-4 : goal.returns-in-4
+returns-in-4 c = search by_number
 
-pub returns-then-number-eq5 : goal.returns-then-number-eq5
-returns-then-number-eq5 c = search by_number
+pub returns-in-5 : goal.returns-in-5
+returns-in-5 c = search by_number
 
-pub returns : goal.returns
-returns c = search past_six
+pub returns-in_default : goal.returns-in_default
+returns-in_default c = search past_six
