@@ -14,44 +14,16 @@ pub fn put(text: &mut [u8], at: usize, byte: u8) -> usize
     at
 }
 
-// Some bytes, for all of which there is room.
-fn put_all(text: &mut [u8], at: usize, bytes: &[u8]) -> usize
-    requires { at + length bytes.now ≤ length text.old }
-    ensures { (text.new, result) ≡ said (text.old, at) bytes.now }
-{
-    let mut next = at;
-    let mut i: usize = 0;
-    while i < bytes.len() {
-        text[next] = bytes[i];
-        next = next + 1;
-        i = i + 1;
-    }
-    next
-}
-
-// Some bytes, as far as there is room.
-fn put_some(text: &mut [u8], at: usize, bytes: &[u8]) -> usize
-    ensures { (text.new, result) ≡ said (text.old, at) bytes.now }
-{
-    let mut next = at;
-    let mut i: usize = 0;
-    while i < bytes.len() {
-        next = put(text, next, bytes[i]);
-        i = i + 1;
-    }
-    next
-}
-
-// Some bytes: the room is tested once.
+// Some bytes, as far as there is room, which is tested once.
 pub fn put_bytes(text: &mut [u8], at: usize, bytes: &[u8]) -> usize
     ensures { (text.new, result) ≡ said (text.old, at) bytes.now }
 {
-    if at < text.len() {
-        if bytes.len() <= text.len() - at {
-            return put_all(text, at, bytes);
-        }
+    if text.len() <= at {
+        return at;
     }
-    put_some(text, at, bytes)
+    let n = bytes.len().min(text.len() - at);
+    text[at..at + n].copy_from_slice(&bytes[..n]);
+    at + n
 }
 
 // A number in decimal, digit by digit.

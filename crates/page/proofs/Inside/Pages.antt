@@ -1,5 +1,7 @@
 -- One text said after another, the loop over bytes, and what the buffer is at last. Assumes nothing.
-use Rattle.basis.specs.Prelude.{ℕ, ◌+◌, ◌≤◌, ◌<◌, min, ◌≡◌, refl, sym, ap, ◌∙◌, List, [], ◌∷◌, ◌++◌, append-nil, append_assoc, arith, add-one, length, get_or, take, drop, set, length-append, take-suc, take_all, set-append_seam, append_snoc, take-nil, drop-nil, lt-ltb, le-ltb}
+use Rattle.basis.specs.Prelude.{ℕ, ◌+◌, ◌-◌, ◌≤◌, ◌<◌, min, ◌≡◌, refl, sym, ap, ◌∙◌, List, [], ◌∷◌, ◌++◌, append-nil, append_assoc, arith, length, take, drop, length-append, take_all, set-append_seam, append_snoc, take-append-drop, length-take-le, length-drop, drop_of_length-le, le_refl, ⊎_elim, take-nil, drop-nil, lt-ltb, le-ltb}
+use borrow.Rule.Slice.PartMut.{put_mid}
+use Rattle.basis.proofs.Inside.Words.{lt_or_le}
 use Rattle.page.specs.Pages.{Page, written, put_one, said}
 
 -- said one after another is said at once
@@ -16,26 +18,6 @@ three_said p₀ p₁ p₂ p₃ x y z e f g = two_said p₀ p₂ p₃ (x ++ y) z 
 
 pub four_said : (p₀ p₁ p₂ p₃ p₄ : Page) (x y z w : List ℕ) → p₁ ≡ said p₀ x → p₂ ≡ said p₁ y → p₃ ≡ said p₂ z → p₄ ≡ said p₃ w → p₄ ≡ said p₀ (x ++ y ++ z ++ w)
 four_said p₀ p₁ p₂ p₃ p₄ x y z w e f g h = two_said p₀ p₃ p₄ (x ++ y ++ z) w (three_said p₀ p₁ p₂ p₃ x y z e f g) h
-
--- one byte, where there is room
-pub room : (l : List ℕ) (i b : ℕ) → i < length l → (set l i b, i + 1) ≡ said (l, i) (b ∷ [])
-unfolding said put_one
-room l i b h = simp (lt-ltb _ _ h)
-
--- the loop over bytes
-pub byte_said : (p q r : Page) (s : List ℕ) (i : ℕ) → i < length s → q ≡ said p (take i s) → r ≡ said q (get_or s i 0 ∷ []) → r ≡ said p (take (i + 1) s)
-byte_said p q r s i h e f = rw (add-one, take-suc s i 0) (two_said p q r _ _ e f)
-
-pub all_said : (p q : Page) (s : List ℕ) (i : ℕ) → length s ≤ i → q ≡ said p (take i s) → q ≡ said p s
-all_said p q s i h e = e ∙ ap (said p) (take_all i s h)
-
--- the same where there is room for all of them
-module _ (l₀ s : List ℕ) (at : ℕ) (l : List ℕ) (next i : ℕ) (r : at + length s ≤ length l₀) (long : length l ≡ length l₀) (here : next ≡ at + i) (h : i < length s) where
-  pub byte_inside : next < length l
-  byte_inside = omega arith
-
-  pub byte_put : (b : ℕ) → b ≡ get_or s i 0 → ◌≡◌ {A = Page} (l, next) (said (l₀, at) (take i s)) → ◌≡◌ {A = Page} (set l next b, next + 1) (said (l₀, at) (take (i + 1) s))
-  byte_put b eb e = byte_said (l₀, at) (l, next) (set l next b, next + 1) s i h e (room l next b byte_inside ∙ ap (λ (x : ℕ). said (l, next) (x ∷ [])) eb)
 
 -- ---- said from the end of x on
 
@@ -59,6 +41,26 @@ said_at (b ∷ t) x [] = ap (λ (p : Page). said p t) (put_full b x) ∙ said_at
 said_at (b ∷ t) x (a ∷ y) =
     ap (λ (p : Page). said p t) (put_room b x a y) ∙ said_at t (x ++ (b ∷ [])) y
     ∙ pair (append_assoc x (b ∷ []) (take (length y) t ++ drop (length t) y)) (omega (arith, length-append x (b ∷ [])))
+
+-- `put_bytes`: past the end nothing is said, and before it as much as has room
+pub none_said : (l s : List ℕ) (at : ℕ) → length l ≤ at → ◌≡◌ {A = Page} (l, at) (said (l, at) s)
+unfolding said put_one
+none_said l [] at h = refl
+none_said l (b ∷ s) at h = simp (le-ltb at (length l) h) (none_said l s at h)
+
+pub some_said : (l s ys : List ℕ) (at n : ℕ) → at < length l → n ≡ min (length s) (length l - at) → ys ≡ take n s → ◌≡◌ {A = Page} (put_mid at (at + n - at) l ys, at + n) (said (l, at) s)
+some_said l s ys at n h en e =
+    let front : length (take at l) ≡ at = length-take-le at l (omega arith) in
+    let rest : length (drop at l) ≡ length l - at = length-drop at l in
+    let tail : ys ++ drop (at + n - at) (drop at l) ≡ take (length (drop at l)) s ++ drop (length s) (drop at l) =
+    ⊎_elim
+    (λ a. let m : n ≡ length (drop at l) = omega arith in let k : at + n - at ≡ length (drop at l) = omega arith in
+    let none : drop (length s) (drop at l) ≡ [] = drop_of_length-le (drop at l) (omega arith) in
+    rw (k, e, m, none, drop_of_length-le (drop at l) (le_refl (length (drop at l)))))
+    (λ a. let m : n ≡ length s = omega arith in let k : at + n - at ≡ length s = omega arith in
+    rw (k, e, m, take_all (length s) s (le_refl (length s)), take_all (length (drop at l)) s a))
+    (lt_or_le (length (drop at l)) (length s)) in
+    pair (ap (λ (z : List ℕ). take at l ++ z) tail) (omega arith) ∙ sym (said_at s (take at l) (drop at l)) ∙ ap (λ (p : Page). said p s) (pair (take-append-drop at l) front)
 
 -- what is said from the start is written
 pub said_is_written : (q : Page) (text buffer : List ℕ) → q ≡ said (buffer, 0) text → q ≡ written text buffer
