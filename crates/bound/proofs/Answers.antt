@@ -1,9 +1,10 @@
 -- Laws of the answers: a word stands for one result of the code, two answers that a promise allows are equal, and what a refusal says. Assumes nothing.
+use Rattle.std.specs.Prelude.{Result, Ok, Err}
 use Rattle.basis.specs.Prelude.{ℕ, suc, ◌≤◌, ◌<◌, ◌≡◌, refl, sym, ap, ◌∙◌, Bool, true, false, List, arith, length, get_or}
-use Rattle.bound.proofs.Names.{most_rows, upto, Outcome, accepted, refused, outcome, or_else, room_for, handed, outcome_one_to_one, handed_found, legal, filled, sheet_in, Sheet, legal_is, Test, passes, Word, bound, none, unreached, word, word_in, result_of, all_unreached, holds, Answer, answer, not_legal, bounds_by, bounds_of, results_long, result_cell, results_on, bounds_on, Result, Judgement, map_one_to_one, get_d_all}
-use Rattle.bound.specs.declared.results.Result.TheVariants.{Unreached, Bound, NoBound}
+use Rattle.bound.proofs.Names.{most_rows, upto, Outcome, accepted, refused, outcome, or_else, room_for, handed, refused_by, refused_by_one_to_one, handed_found, legal, filled, sheet_in, Sheet, legal_is, Test, passes, Word, bound, none, unreached, word, result_of, all_unreached, holds, Answer, answer, not_legal, bounds_by, bounds_of, results_long, result_cell, results_on, bounds_on, holding, RowResult, Refusal, map_one_to_one, get_d_all}
+use Rattle.bound.specs.declared.results.RowResult.TheVariants.{Unreached, Bound, NoBound}
 use Rattle.bound.specs.declared.results.Results.{Results}
-use Rattle.basis.proofs.Same.{same_by, outcome_same}
+use Rattle.basis.proofs.Same.{same_by}
 use Rattle.bound.proofs.Inside.Lengths.{never}
 use Rattle.bound.proofs.Inside.Judging.{Agree, passes_local, result_agrees}
 use Rattle.bound.proofs.Lists.{word_there, word_past}
@@ -11,41 +12,49 @@ use Rattle.bound.proofs.Lists.{word_there, word_past}
 -- ---- one word, one result
 
 -- the result that stands for a word
-result : Word → Result
+result : Word → RowResult
 result (bound r) = Bound r
 result none = NoBound
 result unreached = Unreached
 
-result_of_word : (r : Result) → result (word r) ≡ r
+result_of_word : (r : RowResult) → result (word r) ≡ r
 unfolding result
 result_of_word Unreached = refl
 result_of_word (Bound r) = refl
 result_of_word NoBound = refl
 
-pub word_one_to_one : (a b : Result) → word a ≡ word b → a ≡ b
+pub word_one_to_one : (a b : RowResult) → word a ≡ word b → a ≡ b
 word_one_to_one a b e = sym (result_of_word a) ∙ ap result e ∙ result_of_word b
 
-pub answer_one_to_one : (a b : Results) → answer a ≡ answer b → a ≡ b
-answer_one_to_one a b e =
-    let refusal : a.refusal ≡ b.refusal = outcome_one_to_one a.refusal b.refusal (ap (λ (x : Answer). x.0) e) in
-    let rows : a.rows ≡ b.rows =
-    map_one_to_one word_in (λ i j f. ap (λ (r : Result). record { result = r }) (word_one_to_one i.result j.result f)) a.rows b.rows (ap (λ (x : Answer). x.2) e) in
-    λ i. record { refusal = refusal i; holds = (e i).1; rows = rows i }
+pub answer_one_to_one : (a b : Result Results Refusal) → answer a ≡ answer b → a ≡ b
+answer_one_to_one (Ok a) (Ok b) e =
+    let rows : a.rows ≡ b.rows = map_one_to_one word word_one_to_one a.rows b.rows (ap (λ (x : Answer). x.2) e) in
+    λ i. Ok (record { holds = (e i).1; rows = rows i })
+answer_one_to_one (Ok a) (Err r) e = let z : accepted ≡ refused_by r = ap (λ (x : Answer). x.0) e in cc
+answer_one_to_one (Err r) (Ok a) e = let z : refused_by r ≡ accepted = ap (λ (x : Answer). x.0) e in cc
+answer_one_to_one (Err r) (Err s) e = ap Err (refused_by_one_to_one r s (ap (λ (x : Answer). x.0) e))
 
 -- ---- two answers that a promise allows are equal
 
 -- `bounds`
-pub bounds_same : (h : Sheet) (a b : Results) → answer a ≡ bounds_of h → answer b ≡ bounds_of h → a ≡ b
+pub bounds_same : (h : Sheet) (a b : Result Results Refusal) → answer a ≡ bounds_of h → answer b ≡ bounds_of h → a ≡ b
 bounds_same h = same_by answer answer_one_to_one (bounds_of h)
 
--- a judgement, and what is lent beside it
-pub judgement_same : {A : Type 0} (x : Outcome × (Bool × A)) (r s : Judgement) (m d : A) → (outcome r.refusal, (r.holds, m)) ≡ x → (outcome s.refusal, (s.holds, d)) ≡ x → (r ≡ s) × (m ≡ d)
-judgement_same x r s m d e f =
-    let (refusal, rest) = outcome_same x r.refusal s.refusal (r.holds, m) (s.holds, d) e f in
-    ((λ i. record { refusal = refusal i; holds = (rest i).0 }), λ i. (rest i).1)
+-- whether a sheet holds, and what is lent beside it
+pub judgement_same : {A : Type 0} (x : Outcome × (Bool × A)) (r s : Result Bool Refusal) (m d : A) → (outcome r, (holding r, m)) ≡ x → (outcome s, (holding s, d)) ≡ x → (r ≡ s) × (m ≡ d)
+judgement_same {A} x r s m d e f = (go r s (λ i. (both i).0) (λ i. (both i).1.0), λ i. (both i).1.1)
+  where
+    both : ◌≡◌ {A = Outcome × (Bool × A)} (outcome r, (holding r, m)) (outcome s, (holding s, d))
+    both = e ∙ sym f
 
--- `bounds_on`: the judgement, and the list after it
-pub bounds_on_same : (l b : List ℕ) (r s : Judgement) (m d : List ℕ) → (outcome r.refusal, (r.holds, m)) ≡ bounds_on l b → (outcome s.refusal, (s.holds, d)) ≡ bounds_on l b → (r ≡ s) × (m ≡ d)
+    go : (r s : Result Bool Refusal) → outcome r ≡ outcome s → holding r ≡ holding s → r ≡ s
+    go (Ok a) (Ok b) o h = ap Ok h
+    go (Ok a) (Err q) o h = cc
+    go (Err q) (Ok a) o h = cc
+    go (Err q) (Err p) o h = ap Err (refused_by_one_to_one q p o)
+
+-- `bounds_on`: whether the sheet holds, and the list after it
+pub bounds_on_same : (l b : List ℕ) (r s : Result Bool Refusal) (m d : List ℕ) → (outcome r, (holding r, m)) ≡ bounds_on l b → (outcome s, (holding s, d)) ≡ bounds_on l b → (r ≡ s) × (m ≡ d)
 bounds_on_same l b = judgement_same (bounds_on l b)
 
 -- ---- what an answer tells of a row

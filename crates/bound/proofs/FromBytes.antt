@@ -1,8 +1,8 @@
 -- Bytes read and judged: what is known at each step, and each way out. Assumes nothing.
 use Rattle.basis.specs.Prelude.{ℕ, ◌+◌, ◌*◌, ◌≤◌, ◌<◌, ◌≡◌, refl, sym, ap, ◌∙◌, Bool, true, false, List, arith, length, take, length-take-le, lt-leb, le-leb, w64, Fits}
-use Rattle.bound.proofs.Names.{most_rows, upto, Outcome, accepted, refused, outcome, or_else, room_for, room_holds, handed_found, handed_done, handed_outcome, length_upto, legal, sheet_in, sheet_long, legal_is, labels_long, read_into, Judgement, passes, Answer, result_of, holds, bounds_of, results_long, result_cell, words, word_at, judged_bytes}
+use Rattle.bound.proofs.Names.{most_rows, upto, Outcome, accepted, refused, outcome, or_else, room_for, room_holds, handed_found, handed_done, handed_outcome, length_upto, legal, sheet_in, sheet_long, legal_is, labels_long, read_into, holding, passes, Answer, result_of, holds, bounds_of, results_long, result_cell, words, word_at, judged_bytes}
+use Rattle.std.specs.Prelude.{Result}
 use Rattle.basis.specs.declared.refusal.Refusal.{Refusal}
-use Rattle.basis.specs.declared.refusal.Refusal.TheVariants.{Accepted, Refused}
 use Rattle.basis.proofs.Inside.FirstRefusal.{both_accepted}
 use Rattle.reader.specs.Answers.{reading, label_in}
 use Rattle.reader.specs.Lists.{part_in}
@@ -24,20 +24,16 @@ module _ (s list labels results : List ℕ) where
   unfolding judged_bytes
   less_room l = simp (lt-leb (length labels) (length results) l)
 
-  module _ (r : length labels ≤ length results) (a : Refusal) (l b : List ℕ) (e : lists (outcome a) l b ≡ read_into s list labels) where
+  module _ (r : length labels ≤ length results) (l b : List ℕ) where
     -- the reader refuses
-    pub not_read : (k p : ℕ) → a ≡ Refused k p → found (refused k p) false l b results ≡ judged_bytes s list labels results
+    pub not_read : (k p : ℕ) → lists (refused k p) l b ≡ read_into s list labels → found (refused k p) false l b results ≡ judged_bytes s list labels results
     unfolding judged_bytes
-    not_read k p q =
-        let read : lists (refused k p) l b ≡ read_into s list labels = rw q at e in
+    not_read k p read =
         simp (le-leb (length labels) (length results) r, ← read)
         (λ i. found (refused k p) false (list_kept s list labels (refused k p) l b read k p refl i) (labels_kept s list labels (refused k p) l b read k p refl i) results)
 
     -- it accepts
-    module _ (q : a ≡ Accepted) (n : ℕ) (en : n ≡ (sheet_in l).count) where
-      read : lists accepted l b ≡ read_into s list labels
-      read = rw q at e
-
+    module _ (read : lists accepted l b ≡ read_into s list labels) (n : ℕ) (en : n ≡ (sheet_in l).count) where
       sheet_legal : legal (reading s).1 ≡ true
       sheet_legal = sheet_is_legal s list labels accepted l b read refl
 
@@ -140,8 +136,8 @@ module _ (s list labels results : List ℕ) (o : Outcome) (h : Bool) (l b rs : L
     judged_results_long = omega (arith, room_for_results, ap length results_so ∙ length_upto (results_long (reading s).1.count) (result_cell (words (reading s).1)) results)
 
 -- two answers of `judge_bytes` are equal
-pub judge_bytes_same : (s list labels results : List ℕ) (r t : Judgement) (l b rs l' b' rs' : List ℕ)
-    → found (outcome r.refusal) r.holds l b rs ≡ judged_bytes s list labels results → found (outcome t.refusal) t.holds l' b' rs' ≡ judged_bytes s list labels results
+pub judge_bytes_same : (s list labels results : List ℕ) (r t : Result Bool Refusal) (l b rs l' b' rs' : List ℕ)
+    → found (outcome r) (holding r) l b rs ≡ judged_bytes s list labels results → found (outcome t) (holding t) l' b' rs' ≡ judged_bytes s list labels results
     → (r ≡ t) × (l ≡ l') × (b ≡ b') × (rs ≡ rs')
 judge_bytes_same s list labels results r t l b rs l' b' rs' e f =
     let (judgement, lists-same) = judgement_same (judged_bytes s list labels results) r t (l, (b, rs)) (l', (b', rs')) e f in

@@ -1,17 +1,17 @@
 -- The bound of a row, the results of all rows, and the whole answer, each for a test that is given.
-use Rattle.std.specs.Prelude.{◌+◌, ◌-◌}
+use Rattle.std.specs.Prelude.{◌+◌, ◌-◌, Result, Ok, Err}
 use Rattle.basis.specs.Prelude.{ℕ, zero, suc, Bool, true, false, List, map, replicate, ltb}
 use Rattle.basis.specs.Limits.{most_rows}
 use Rattle.basis.specs.Words.{pick, all_of}
 use Rattle.basis.specs.Upto.{upto}
-use Rattle.basis.specs.Refusals.{Outcome, accepted, refused, outcome}
+use Rattle.basis.specs.Refusals.{Outcome, accepted, refused, refused_by}
 use Rattle.sheet.specs.Legal.{row_at, legal}
 use Rattle.sheet.specs.declared.row.Sheet.{Sheet}
 use Rattle.bound.specs.Quantities.{slots, Duration}
 use Rattle.bound.specs.Test.{D, C, Test, passes}
-use Rattle.bound.specs.declared.results.Result.{Result}
-use Rattle.bound.specs.declared.results.Result.TheVariants.{Unreached, Bound, NoBound}
-use Rattle.bound.specs.declared.results.Judged.{Judged}
+use Rattle.basis.specs.declared.refusal.Refusal.{Refusal}
+use Rattle.bound.specs.declared.results.RowResult.{RowResult}
+use Rattle.bound.specs.declared.results.RowResult.TheVariants.{Unreached, Bound, NoBound}
 use Rattle.bound.specs.declared.results.Results.{Results}
 
 -- A row's result: a bound with its slots, none, or not reached.
@@ -21,7 +21,7 @@ pub data Word : Type 0 where
   unreached : Word
 
 -- The word that each result of the code stands for.
-abbrev pub word : Result → Word
+abbrev pub word : RowResult → Word
 word Unreached = unreached
 word (Bound r) = bound r
 word NoBound = none
@@ -84,13 +84,10 @@ all_unreached = replicate most_rows unreached
 abbrev pub Answer : Type 0
 Answer = Outcome × Bool × List Word
 
--- The result that a place of the code's array stands for.
-abbrev pub word_in : Judged → Word
-word_in j = word j.result
-
--- What the code's answer stands for.
-abbrev pub answer : Results → Answer
-answer r = (outcome r.refusal, r.holds, map word_in r.rows)
+-- What the code's answer stands for; beside a refusal the sheet does not hold, and no row is reached.
+abbrev pub answer : Result Results Refusal → Answer
+answer (Ok r) = (accepted, r.holds, map word r.rows)
+answer (Err r) = (refused_by r, false, all_unreached)
 
 -- The answer to a sheet that is not legal: refusal 10, it does not hold, and no row is reached.
 abbrev pub not_legal : Answer

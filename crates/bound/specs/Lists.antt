@@ -1,9 +1,10 @@
 -- The results of a sheet as a list of plain numbers: of each row its word as a number, and its bound.
-use Rattle.std.specs.Prelude.{◌+◌, ◌*◌}
+use Rattle.std.specs.Prelude.{◌+◌, ◌*◌, Result, Ok, Err}
 use Rattle.basis.specs.Prelude.{ℕ, Bool, false, List, length, get_or, set, eqb}
 use Rattle.basis.specs.Words.{pick}
 use Rattle.basis.specs.Upto.{upto, pair_cell}
 use Rattle.basis.specs.Refusals.{Outcome, or_else, room_for, handed}
+use Rattle.basis.specs.declared.refusal.Refusal.{Refusal}
 use Rattle.sheet.specs.Lists.{number_at, filled, sheet_in}
 use Rattle.sheet.specs.declared.row.Sheet.{Sheet}
 use Rattle.reader.specs.Answers.{reading}
@@ -28,6 +29,11 @@ results_long n = n * 2
 -- The number at place i of a list of results: past the rows it is zero.
 unfoldable pub result_cell : List Word → ℕ → ℕ
 result_cell ws = pair_cell (λ k. word_number (get_or ws k unreached)) (λ k. bound_number (get_or ws k unreached))
+
+-- Whether the sheet holds, as the code answers it: beside a refusal it does not.
+abbrev pub holding : Result Bool Refusal → Bool
+holding (Ok holds) = holds
+holding (Err r) = false
 
 -- What a lent list is made by an answer for n rows: the answer's refusal, then 15 where the list has no room; beside a refusal the sheet does not hold, and the list is as it was.
 unfoldable pub results_on : ℕ → Answer → List ℕ → Outcome × (Bool × List ℕ)

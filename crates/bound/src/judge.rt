@@ -6,59 +6,43 @@ ghost use Rattle.sheet.specs.Legal.{legal, Legal};
 ghost use Rattle.sheet.specs.Lists.{sheet_in};
 ghost use Rattle.bound.specs.Test.{passes};
 ghost use Rattle.bound.specs.Bound.{word, is_bound, result_of, holds};
-ghost use Rattle.bound.specs.Lists.{word_number, bound_number, results_long, result_cell, words, put_result};
+ghost use Rattle.bound.specs.Lists.{results_long, result_cell, words, put_result};
 ghost use Rattle.bound.specs.Inside.Ready.{Lent, RowsAbove};
 
-use crate::results::Result;
+use crate::results::RowResult;
 use crate::search::bound_of;
 use crate::turn::Turn;
 
-// A result's word: 0 unreached, 1 bound, 2 none.
-fn word_number(res: Result) -> u64
-    ensures { result ≡ word_number (word res) }
-{
-    match res {
-        Result::Unreached => 0,
-        Result::Bound(_) => 1,
-        Result::NoBound => 2,
-    }
-}
-
-// A result's bound, and zero where there is none.
-fn bound_number(res: Result) -> u64
-    ensures { result ≡ bound_number (word res) }
-{
-    match res {
-        Result::Bound(bound) => bound,
-        Result::Unreached | Result::NoBound => 0,
-    }
-}
-
 // Whether a result is a bound.
-fn is_bound(res: Result) -> bool
+fn is_bound(res: RowResult) -> bool
     ensures { result ≡ is_bound (word res) }
 {
-    matches!(res, Result::Bound(_))
+    matches!(res, RowResult::Bound(_))
 }
 
-// Puts result `k` into a list of results, which has room for it.
-fn put_result(results: &mut [u64], k: usize, res: Result)
+// Puts result `k` into a list of results, which has room for it: its word, 0 unreached, 1 bound, 2 none, and its bound, zero where there is none.
+fn put_result(results: &mut [u64], k: usize, res: RowResult)
     requires { (k < most_rows) × (results_long (k + 1) ≤ length results.old) }
     ensures { results.new ≡ put_result results.old k (word res) }
 {
-    results[k * 2] = word_number(res);
-    results[k * 2 + 1] = bound_number(res);
+    let (word, bound) = match res {
+        RowResult::Unreached => (0, 0),
+        RowResult::Bound(bound) => (1, bound),
+        RowResult::NoBound => (2, 0),
+    };
+    results[k * 2] = word;
+    results[k * 2 + 1] = bound;
 }
 
 // The result of row `k`, by the results above, and whether each of them is a bound.
-fn judge_row(sheet: &[u64], results: &[u64], k: usize, reached: bool) -> Result
+fn judge_row(sheet: &[u64], results: &[u64], k: usize, reached: bool) -> RowResult
     requires { (Lent sheet.now results.now) × (Legal (sheet_in sheet.now)) × (k < (sheet_in sheet.now).count) × (RowsAbove (sheet_in sheet.now) results.now reached k) }
     ensures { word result ≡ result_of passes (sheet_in sheet.now) k }
 {
     if reached {
         return bound_of(&Turn { sheet, results, k });
     }
-    Result::Unreached
+    RowResult::Unreached
 }
 
 // Judges the n rows of a legal sheet: puts the result of each into the list, and tells whether the sheet holds.

@@ -16,4 +16,4 @@ mod test;
 mod turn;
 
 pub use bytes::judge_bytes;
-pub use results::{Judged, Judgement, RESULTS_LONG, Result, Results, bounds, bounds_on};
+pub use results::{RESULTS_LONG, Results, RowResult, bounds, bounds_on};

@@ -9,7 +9,7 @@ ghost use Rattle.bound.specs.Inside.Skipping.{Adds, Fills, Skips, Says};
 
 use crate::pace::steep;
 use crate::quantity::{Duration, FineAmount, Quantity};
-use crate::results::Result;
+use crate::results::RowResult;
 use crate::share::no_room;
 use crate::start::first_length;
 use crate::stretch::all_fail;
@@ -138,7 +138,7 @@ fn further(turn: &Turn, at: Pursuit, next: Duration, spare: FineAmount) -> Pursu
 }
 
 // The bound of row `k`, by the bounds above: the smallest length that passes.
-pub(crate) fn bound_of(turn: &Turn) -> Result
+pub(crate) fn bound_of(turn: &Turn) -> RowResult
     ensures { word result ≡ bound_by passes (sheet_in turn.now.sheet.now) (held_in turn.now.results.now) turn.now.k }
 {
     let row = turn.row();
@@ -149,9 +149,9 @@ pub(crate) fn bound_of(turn: &Turn) -> Result
     };
     while at.length.0 <= row.deadline {
         let Some((next, spare)) = try_length(turn, at.length) else {
-            return Result::Bound(at.length.0);
+            return RowResult::Bound(at.length.0);
         };
         at = further(turn, at, next, spare);
     }
-    Result::NoBound
+    RowResult::NoBound
 }

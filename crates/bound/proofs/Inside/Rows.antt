@@ -1,9 +1,8 @@
 -- The loop over the rows: what a row is judged by, what stands in the list of results, and the answer by value. Assumes nothing.
 use Rattle.basis.specs.Prelude.{ℕ, suc, ◌+◌, ◌*◌, ◌≤◌, ◌<◌, ◌≡◌, refl, sym, ap, ◌∙◌, Bool, true, false, List, map, arith, length, get_or, set, replicate}
-use Rattle.bound.proofs.Names.{most_rows, all_of, upto, Outcome, accepted, refused, all_at, upto_set, length_upto, pair_stored, second_read, map_set, legal, Legal, Sheet, filled, sheet_cell, sheet_in, sheet_long, legal_is, slots, passes, Word, unreached, word, word_in, is_bound, bound_by, bounds, bounded, result_of, all_unreached, holds, Answer, bounds_of, word_number, bound_number, results_long, result_cell, words, put_result, word_at, bounds_on, held_in, Lent, RowsAbove, SoFar, Ready, Result}
+use Rattle.bound.proofs.Names.{most_rows, all_of, upto, Outcome, accepted, refused, all_at, upto_set, length_upto, pair_stored, second_read, map_set, legal, Legal, Sheet, filled, sheet_cell, sheet_in, sheet_long, legal_is, slots, passes, Word, unreached, word, is_bound, bound_by, bounds, bounded, result_of, all_unreached, holds, Answer, bounds_of, word_number, bound_number, results_long, result_cell, words, put_result, word_at, bounds_on, held_in, Lent, RowsAbove, SoFar, Ready, RowResult}
 use Rattle.sheet.proofs.Ranges.{legal_sheet_long}
 use Rattle.sheet.proofs.RoundTrip.{whole_sheet_comes_back}
-use Rattle.bound.specs.declared.results.Judged.{Judged}
 use Rattle.bound.proofs.Durations.{number}
 use Rattle.bound.proofs.Inside.Judging.{passes_local, bound_agrees, agree_self, result_where, bound_all}
 use Rattle.bound.proofs.Meaning.{bound_in_range, bound_is_first}
@@ -29,7 +28,7 @@ module _ (h : Sheet) (rs : List ℕ) (k : ℕ) (reached : Bool) (above : RowsAbo
               ∙ bound_is_first passes passes_local h i (all_bounded i b) l low (omega (arith, number (above.held i b)));
         }
 
-    pub judged_reached : (r : Result) → word r ≡ bound_by passes h (held_in rs) k → word r ≡ result_of passes h k
+    pub judged_reached : (r : RowResult) → word r ≡ bound_by passes h (held_in rs) k → word r ≡ result_of passes h k
     judged_reached r e =
         e ∙ bound_agrees passes passes_local h h (held_in rs) (bounds (result_of passes h)) k (agree_self h (suc k)) above.held
         ∙ sym (result_where passes passes_local h k true (sym above.all ∙ yes))
@@ -53,7 +52,7 @@ module _ (h : Sheet) (lent rs : List ℕ) (reached : Bool) (k : ℕ) (so_far : S
   so_far_long = ap length so_far.put ∙ length_upto (results_long k) (result_cell (words h)) lent
 
   -- one row more
-  module _ (n : ℕ) (en : n ≡ h.count) (b : k < n) (l : Legal h) (r : Result) (er : word r ≡ result_of passes h k) where
+  module _ (n : ℕ) (en : n ≡ h.count) (b : k < n) (l : Legal h) (r : RowResult) (er : word r ≡ result_of passes h k) where
     pub so_far_more : (m : List ℕ) (t : Bool) → m ≡ put_result rs k (word r) → t ≡ is_bound (word r) → SoFar h lent m t (k + 1)
     unfolding result_cell put_result
     so_far_more m t em et =
@@ -86,13 +85,13 @@ still_lent l b m k w e lent = record { long_sheet = lent.long_sheet; long_result
 
 -- ---- by value
 
--- `results_of`
-module _ (l : List ℕ) (i : ℕ) (js : List Judged) (e : map word_in js ≡ upto i (word_at l) all_unreached) where
-  pub rows_more : (j : Judged) → word_in j ≡ word_at l i → map word_in (set js i j) ≡ upto (i + 1) (word_at l) all_unreached
-  rows_more j ej = map_set word_in js i j ∙ upto_set i (word_at l) (map word_in js) all_unreached (word_in j) e ej
+-- `rows_of`
+module _ (l : List ℕ) (i : ℕ) (rs : List RowResult) (e : map word rs ≡ upto i (word_at l) all_unreached) where
+  pub rows_more : (r : RowResult) → word r ≡ word_at l i → map word (set rs i r) ≡ upto (i + 1) (word_at l) all_unreached
+  rows_more r er = map_set word rs i r ∙ upto_set i (word_at l) (map word rs) all_unreached (word r) e er
 
-  pub rows_done : (o : Outcome) (t : Bool) → i ≤ most_rows → most_rows ≤ i → ◌≡◌ {A = Answer} (o, t, map word_in js) (o, t, upto most_rows (word_at l) all_unreached)
-  rows_done o t a b = let f : i ≡ most_rows = omega arith in ap (λ (ws : List Word). (o, t, ws)) (rw f at e)
+  pub rows_done : i ≤ most_rows → most_rows ≤ i → map word rs ≡ upto most_rows (word_at l) all_unreached
+  rows_done a b = let f : i ≡ most_rows = omega arith in rw f at e
 
 -- `bounds`: the sheet comes back from the list that it is put into, and its results from theirs
 module _ (h : Sheet) (l₀ l rs : List ℕ) (put : l ≡ filled (sheet_cell h) l₀) (long : sheet_long most_rows ≤ length l₀) (rows : length h.rows ≡ most_rows) where
@@ -117,3 +116,14 @@ module _ (h : Sheet) (l₀ l rs : List ℕ) (put : l ≡ filled (sheet_cell h) l
           ∙ ap (λ (x : Sheet). (accepted, holds passes x, words x)) list_is ∙ sym (legal_answer passes h f)
       go false f =
           ea ∙ ap by_value (e ∙ not_legal_is_kept l zeros (ap legal list_is ∙ f)) ∙ ap (λ (ws : List Word). (refused 10 0, false, ws)) zeros_are_unreached ∙ sym (refused_by_10 passes h f)
+
+  -- and where the sheet is refused
+  pub answered_no : (k p : ℕ) → (refused k p, (false, rs)) ≡ bounds_on l zeros → ◌≡◌ {A = Answer} (refused k p, false, all_unreached) (bounds_of h)
+  answered_no k p e = go (legal h) refl
+    where
+      go : (b : Bool) → legal h ≡ b → ◌≡◌ {A = Answer} (refused k p, false, all_unreached) (bounds_of h)
+      go true f =
+          let fine : legal (sheet_in l) ≡ true = ap legal list_is ∙ f in
+          let z : refused k p ≡ accepted = ap (λ (x : Outcome × (Bool × List ℕ)). x.0) (e ∙ legal_is_put l zeros fine (omega (arith, (legal_is (sheet_in l) fine).at_most_rows))) in
+          cc
+      go false f = ap (λ (x : Outcome × (Bool × List ℕ)). (x.0, false, all_unreached)) (e ∙ not_legal_is_kept l zeros (ap legal list_is ∙ f)) ∙ sym (refused_by_10 passes h f)

@@ -1,8 +1,8 @@
--- `results_of` has the result of every row: the loop has those of the first i. Assumes nothing.
+-- `rows_of` has the result of every row: the loop has those of the first i. Assumes nothing.
 use Rattle.basis.specs.Prelude.{refl}
 use Rattle.bound.proofs.Names.{upto}
 use Rattle.bound.proofs.Inside.Rows.{rows_more, rows_done}
-use Rattle.bound.proofs.results.results_of.Goals as goal
+use Rattle.bound.proofs.results.rows_of.Goals as goal
 
 pub loop-i-init : goal.loop-i-init
 unfolding upto
