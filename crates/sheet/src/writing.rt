@@ -27,10 +27,8 @@ fn sheet_cell(sheet: &Sheet, at: usize) -> u64
     match at {
         0 => sheet.processors,
         1 => sheet.count,
-        _ => match sheet.rows.get((at - 2) / 4) {
-            Some(row) => row_cell(*row, (at - 2) % 4),
-            None => 0,
-        },
+        2..SHEET_LONG => row_cell(sheet.rows[(at - 2) / 4], (at - 2) % 4),
+        _ => 0,
     }
 }
 

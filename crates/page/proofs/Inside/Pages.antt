@@ -1,8 +1,10 @@
 -- One text said after another, the loop over bytes, and what the buffer is at last. Assumes nothing.
-use Rattle.basis.specs.Prelude.{ℕ, ◌+◌, ◌-◌, ◌≤◌, ◌<◌, min, ◌≡◌, refl, sym, ap, ◌∙◌, List, [], ◌∷◌, ◌++◌, append-nil, append_assoc, arith, length, take, drop, length-append, take_all, set-append_seam, append_snoc, take-append-drop, length-take-le, length-drop, drop_of_length-le, le_refl, ⊎_elim, take-nil, drop-nil, lt-ltb, le-ltb}
-use borrow.Rule.Slice.PartMut.{put_mid}
+use Rattle.basis.specs.Prelude.{set, add-one, get_or, take-suc, ℕ, ◌+◌, ◌-◌, ◌≤◌, ◌<◌, min, ◌≡◌, refl, sym, ap, ◌∙◌, List, [], ◌∷◌, ◌++◌, append-nil, append_assoc, arith, length, take, drop, length-append, set-append_seam, append_snoc, take-append-drop, drop_of_length-le, ⊎_elim, take-nil, drop-nil, lt-ltb, le-ltb}
 use Rattle.basis.proofs.Inside.Words.{lt_or_le}
 use Rattle.page.specs.Pages.{Page, written, put_one, said}
+
+pair : {a a' : List ℕ} {b b' : ℕ} → a ≡ a' → b ≡ b' → ◌≡◌ {A = Page} (a, b) (a', b')
+pair e f = rw (e, f)
 
 -- said one after another is said at once
 said_append : (p : Page) (x y : List ℕ) → said p (x ++ y) ≡ said (said p x) y
@@ -19,10 +21,30 @@ three_said p₀ p₁ p₂ p₃ x y z e f g = two_said p₀ p₂ p₃ (x ++ y) z 
 pub four_said : (p₀ p₁ p₂ p₃ p₄ : Page) (x y z w : List ℕ) → p₁ ≡ said p₀ x → p₂ ≡ said p₁ y → p₃ ≡ said p₂ z → p₄ ≡ said p₃ w → p₄ ≡ said p₀ (x ++ y ++ z ++ w)
 four_said p₀ p₁ p₂ p₃ p₄ x y z w e f g h = two_said p₀ p₃ p₄ (x ++ y ++ z) w (three_said p₀ p₁ p₂ p₃ x y z e f g) h
 
--- ---- said from the end of x on
+-- `put_bytes`: past the end nothing is said
+pub none_said : (l s : List ℕ) (at : ℕ) → length l ≤ at → ◌≡◌ {A = Page} (l, at) (said (l, at) s)
+unfolding said put_one
+none_said l [] at h = refl
+none_said l (b ∷ s) at h = simp (le-ltb at (length l) h) (none_said l s at h)
 
-pair : {a a' : List ℕ} {b b' : ℕ} → a ≡ a' → b ≡ b' → ◌≡◌ {A = Page} (a, b) (a', b')
-pair e f = rw (e, f)
+-- before it a byte more, and at last all of the bytes or as many as there is room for
+module _ (l₀ s l : List ℕ) (at i : ℕ) (so_far : ◌≡◌ {A = Page} (l, at + i) (said (l₀, at) (take i s))) where
+  pub byte_said : at + i < length l → i < length s → ◌≡◌ {A = Page} (set l (at + i) (get_or s i 0), at + (i + 1)) (said (l₀, at) (take (i + 1) s))
+  unfolding said put_one
+  byte_said r h =
+      let one : ◌≡◌ {A = Page} (set l (at + i) (get_or s i 0), at + (i + 1)) (said (l, at + i) (get_or s i 0 ∷ [])) = simp (lt-ltb _ _ r) (pair refl (omega arith)) in
+      let more : take (i + 1) s ≡ take i s ++ (get_or s i 0 ∷ []) = rw (add-one, take-suc s i 0) in
+      rw more (two_said (l₀, at) (l, at + i) (set l (at + i) (get_or s i 0), at + (i + 1)) (take i s) (get_or s i 0 ∷ []) so_far one)
+
+  pub some_said : (n : ℕ) → length l ≡ length l₀ → n ≡ min (length s) (length l₀ - at) → i ≤ n → n ≤ i → ◌≡◌ {A = Page} (l, at + n) (said (l₀, at) s)
+  unfolding said
+  some_said n long e a b =
+      let none : ◌≡◌ {A = Page} (l, at + i) (said (l, at + i) (drop i s)) =
+      ⊎_elim (λ r. let z : drop i s ≡ [] = drop_of_length-le s (omega arith) in rw z) (λ r. none_said l (drop i s) (at + i) r) (lt_or_le (at + i) (length l)) in
+      let m : n ≡ i = omega arith in
+      rw m (two_said (l₀, at) (l, at + i) (l, at + i) (take i s) (drop i s) so_far none ∙ rw take-append-drop)
+
+-- ---- said from the end of x on
 
 put_room : (b : ℕ) (x : List ℕ) (a : ℕ) (y : List ℕ) → put_one (x ++ (a ∷ y), length x) b ≡ (x ++ (b ∷ []) ++ y, length (x ++ (b ∷ [])))
 unfolding put_one
@@ -41,26 +63,6 @@ said_at (b ∷ t) x [] = ap (λ (p : Page). said p t) (put_full b x) ∙ said_at
 said_at (b ∷ t) x (a ∷ y) =
     ap (λ (p : Page). said p t) (put_room b x a y) ∙ said_at t (x ++ (b ∷ [])) y
     ∙ pair (append_assoc x (b ∷ []) (take (length y) t ++ drop (length t) y)) (omega (arith, length-append x (b ∷ [])))
-
--- `put_bytes`: past the end nothing is said, and before it as much as has room
-pub none_said : (l s : List ℕ) (at : ℕ) → length l ≤ at → ◌≡◌ {A = Page} (l, at) (said (l, at) s)
-unfolding said put_one
-none_said l [] at h = refl
-none_said l (b ∷ s) at h = simp (le-ltb at (length l) h) (none_said l s at h)
-
-pub some_said : (l s ys : List ℕ) (at n : ℕ) → at < length l → n ≡ min (length s) (length l - at) → ys ≡ take n s → ◌≡◌ {A = Page} (put_mid at (at + n - at) l ys, at + n) (said (l, at) s)
-some_said l s ys at n h en e =
-    let front : length (take at l) ≡ at = length-take-le at l (omega arith) in
-    let rest : length (drop at l) ≡ length l - at = length-drop at l in
-    let tail : ys ++ drop (at + n - at) (drop at l) ≡ take (length (drop at l)) s ++ drop (length s) (drop at l) =
-    ⊎_elim
-    (λ a. let m : n ≡ length (drop at l) = omega arith in let k : at + n - at ≡ length (drop at l) = omega arith in
-    let none : drop (length s) (drop at l) ≡ [] = drop_of_length-le (drop at l) (omega arith) in
-    rw (k, e, m, none, drop_of_length-le (drop at l) (le_refl (length (drop at l)))))
-    (λ a. let m : n ≡ length s = omega arith in let k : at + n - at ≡ length s = omega arith in
-    rw (k, e, m, take_all (length s) s (le_refl (length s)), take_all (length (drop at l)) s a))
-    (lt_or_le (length (drop at l)) (length s)) in
-    pair (ap (λ (z : List ℕ). take at l ++ z) tail) (omega arith) ∙ sym (said_at s (take at l) (drop at l)) ∙ ap (λ (p : Page). said p s) (pair (take-append-drop at l) front)
 
 -- what is said from the start is written
 pub said_is_written : (q : Page) (text buffer : List ℕ) → q ≡ said (buffer, 0) text → q ≡ written text buffer

@@ -39,11 +39,10 @@ no_row_past h long k b = get_or-eq_default h.rows no_row {n = k} (rw long b)
 pub unmapped : {A B : Type 0} (f : A → B) (l : List A) (n : ℕ) → length (map f l) ≡ n → length l ≡ n
 unmapped f l n e = sym (length-map l f) ∙ e
 
--- a place past the first two, which has a row or none
-module _ (h : Sheet) (i : ℕ) (a : i ≡ 0 → ⊥) (b : i ≡ 1 → ⊥) where
-  pub at_row : (row : Row) → row ≡ row_at h ((i - 2) / 4) → (v : ℕ) → v ≡ row_cell row ((i - 2) % 4) → v ≡ sheet_cell h i
-  unfolding list_cell
-  at_row row e v f = rw (ne_eqb i 0 a, ne_eqb i 1 b) (f ∙ ap (λ (r : Row). row_cell r ((i - 2) % 4)) e)
+-- `sheet_cell`: a place that has a row, and one past the rows
+pub at_row : (h : Sheet) (i : ℕ) → 2 ≤ i → (v : ℕ) → v ≡ row_cell (row_at h ((i - 2) / 4)) ((i - 2) % 4) → v ≡ sheet_cell h i
+unfolding list_cell
+at_row h i b v e = rw (ne_eqb i 0 (λ z. omega arith), ne_eqb i 1 (λ z. omega arith)) e
 
-  pub past_rows : length h.rows ≤ (i - 2) / 4 → 0 ≡ sheet_cell h i
-  past_rows l = at_row no_row (sym (get_or-eq_default h.rows no_row {n = (i - 2) / 4} l)) 0 (sym (cell_of_none ((i - 2) % 4)))
+pub past_rows : (h : Sheet) (i : ℕ) → length h.rows ≡ most_rows → sheet_long most_rows ≤ i → 0 ≡ sheet_cell h i
+past_rows h i long b = sym (cell_past h most_rows (no_row_past h long) i b)

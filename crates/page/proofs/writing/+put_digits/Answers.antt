@@ -5,5 +5,5 @@ use Rattle.page.proofs.writing.+put_digits.Goals as goal
 pub returns-then-n-lt10 : goal.returns-then-n-lt10
 returns-then-n-lt10 t c = search digit_said
 
-pub returns : goal.returns
-returns t c = search digits_said
+pub returns-else-n-lt10 : goal.returns-else-n-lt10
+returns-else-n-lt10 t c = search digits_said

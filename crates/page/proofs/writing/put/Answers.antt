@@ -7,6 +7,6 @@ pub returns-then-at-text : goal.returns-then-at-text
 unfolding said put_one
 returns-then-at-text c = search tests
 
-pub returns : goal.returns
+pub returns-else-at-text : goal.returns-else-at-text
 unfolding said put_one
-returns c = search tests
+returns-else-at-text c = search tests
