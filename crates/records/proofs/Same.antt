@@ -1,4 +1,5 @@
 -- Equal answers: any two answers that a promise allows are equal. Assumes nothing.
+use Rattle.std.specs.Prelude.{Result}
 use Rattle.basis.specs.Prelude.{ℕ, ◌≡◌, Bool}
 use Rattle.basis.proofs.Same.{same, same_by}
 use Rattle.records.proofs.Names.{outcome, Row, Job, RowState, Placed, Aged, legal_record, released, check_row, placed_row, aged_row, stepped_row}
@@ -11,7 +12,7 @@ module _ (row : Row) (s : RowState) where
   is_legal_record_same = same (legal_record row s)
 
   -- `check_row`
-  pub check_row_same : (release place : ℕ) (a b : Refusal) → outcome a ≡ check_row row s release place → outcome b ≡ check_row row s release place → a ≡ b
+  pub check_row_same : (release place : ℕ) (a b : Result (Unit {0}) Refusal) → outcome a ≡ check_row row s release place → outcome b ≡ check_row row s release place → a ≡ b
   check_row_same release place = same_by outcome outcome_one_to_one (check_row row s release place)
 
 module _ (row : Row) (j : Job) where

@@ -18,29 +18,11 @@ pub struct RowState {
 }
 
 // Whether a record is legal for its row.
+#[tactic(auto, unfolding(crate::specs::Records::legal_job))]
 pub fn is_legal_record(row: Row, s: RowState) -> bool
     ensures { result ≡ legal_record row s }
 {
-    let job = s.job;
-    let remaining = job.remaining;
-    let since = job.since;
-    let separation = row.separation;
-    let deadline = row.deadline;
-    let budget = row.budget;
-    if since < 1 {
-        return false;
-    }
-    if separation < since {
-        return false;
-    }
-    if budget < remaining {
-        return false;
-    }
-    if remaining <= 0 {
-        return true;
-    }
-    if deadline <= since {
-        return false;
-    }
-    true
+    (1..=row.separation).contains(&s.job.since)
+        && s.job.remaining <= row.budget
+        && (s.job.remaining == 0 || s.job.since < row.deadline)
 }

@@ -8,18 +8,17 @@ use basis::Refusal;
 use sheet::Row;
 
 // Whether a row may be released for so many slots: 12 before 13.
-pub fn check_row(row: Row, s: RowState, release: u64, place: usize) -> Refusal
+#[tactic(auto, unfolding(crate::specs::Checks::check_row))]
+pub fn check_row(row: Row, s: RowState, release: u64, place: usize) -> Result<(), Refusal>
     ensures { outcome result ≡ check_row row s release place }
 {
     if release == 0 {
-        return Refusal::Accepted;
+        Ok(())
+    } else if row.budget < release {
+        Err(Refusal::Budget(place))
+    } else if s.job.since < row.separation {
+        Err(Refusal::Soon(place))
+    } else {
+        Ok(())
     }
-    if row.budget < release {
-        return Refusal::Refused(12, place);
-    }
-    let job = s.job;
-    if job.since < row.separation {
-        return Refusal::Refused(13, place);
-    }
-    Refusal::Accepted
 }

@@ -6,6 +6,17 @@ ghost use Rattle.records.specs.Methods.{placed_row, aged_row, stepped_row};
 use crate::record::Job;
 use sheet::Row;
 
+// The codes of a row. They are numbers, and no enum: they go into the buffer that a caller lends, and `aged` takes any.
+const NO_JOB: u8 = 0;
+
+const WAITED: u8 = 1;
+
+const RAN: u8 = 2;
+
+const FINISHED: u8 = 3;
+
+const MISSED: u8 = 4;
+
 // What placing a row makes, and what its whole slot makes: the processors that it leaves free, its job, and its code.
 #[derive(Clone, Copy)]
 pub struct Placed {
@@ -22,6 +33,7 @@ pub struct Aged {
 }
 
 // One slot more since the release, up to the separation.
+#[tactic(auto, unfolding(crate::specs::Steps::older))]
 fn older(since: u64, separation: u64) -> u64
     ensures { result ≡ older separation since }
 {
@@ -36,101 +48,89 @@ fn older(since: u64, separation: u64) -> u64
 fn judge(left: u64, since: u64, deadline: u64, code: u8) -> u8
     ensures { result ≡ code_at_end left since deadline code }
 {
-    if code == 0 {
-        return 0;
+    if code == NO_JOB {
+        NO_JOB
+    } else if left == 0 {
+        FINISHED
+    } else if since == deadline {
+        MISSED
+    } else {
+        code
     }
-    if left <= 0 {
-        return 3;
-    }
-    if since == deadline {
-        return 4;
-    }
-    code
 }
 
 impl Job {
     // Releases: the job after a row's release; zero is no release.
+    #[tactic(auto, unfolding(crate::specs::Steps::released))]
     pub fn released(self, release: u64) -> Job
         ensures { result ≡ released release self }
     {
         if release == 0 {
-            return self;
-        }
-        Job {
-            remaining: release,
-            since: 0,
+            self
+        } else {
+            Job {
+                remaining: release,
+                since: 0,
+            }
         }
     }
 
     // Placement: a row's turn, with so many processors free.
+    #[tactic(auto, unfolding(crate::specs::Methods::placed_row, crate::specs::Steps::fits, crate::specs::Steps::free_below, crate::specs::Steps::worked))]
     pub fn placed(self, row: Row, free: u64) -> Placed
         ensures { result ≡ placed_row row self free }
     {
-        let remaining = self.remaining;
-        let since = self.since;
-        let threads = row.threads;
-        if remaining <= 0 {
-            return Placed {
+        if self.remaining == 0 {
+            Placed {
                 free,
-                after: Job { remaining, since },
-                code: 0,
-            };
-        }
-        if free < threads {
-            return Placed {
+                after: self,
+                code: NO_JOB,
+            }
+        } else if free < row.threads {
+            Placed {
                 free,
-                after: Job { remaining, since },
-                code: 1,
-            };
-        }
-        Placed {
-            free: free - threads,
-            after: Job {
-                remaining: remaining - 1,
-                since,
-            },
-            code: 2,
+                after: self,
+                code: WAITED,
+            }
+        } else {
+            Placed {
+                free: free - row.threads,
+                after: Job {
+                    remaining: self.remaining - 1,
+                    ..self
+                },
+                code: RAN,
+            }
         }
     }
 
     // Ageing, the end of a row's slot: one slot older, and nothing is left at the deadline.
+    #[tactic(auto, unfolding(crate::specs::Methods::aged_row, crate::specs::Steps::aged, crate::specs::Steps::ended, crate::specs::Steps::missed))]
     pub fn aged(self, row: Row, code: u8) -> Aged
         ensures { result ≡ aged_row row self code }
     {
-        let left = self.remaining;
-        let due = row.deadline;
         let since = older(self.since, row.separation);
-        let code = judge(left, since, due, code);
-        if since == due {
-            return Aged {
-                after: Job {
-                    remaining: 0,
-                    since,
-                },
-                code,
-            };
-        }
+        let remaining = if since == row.deadline {
+            0
+        } else {
+            self.remaining
+        };
         Aged {
-            after: Job {
-                remaining: left,
-                since,
-            },
-            code,
+            after: Job { remaining, since },
+            code: judge(self.remaining, since, row.deadline, code),
         }
     }
 
     // A row's slot: released, placed and aged.
+    #[tactic(auto, using(crate::proofs::RowSlots::stepped_is))]
     pub fn stepped(self, row: Row, release: u64, free: u64) -> Placed
         ensures { result ≡ stepped_row row self release free }
     {
-        let begun = self.released(release);
-        let placed = begun.placed(row, free);
-        let worked = placed.after;
-        let aged = worked.aged(row, placed.code);
-        let after = aged.after;
+        let placed = self.released(release).placed(row, free);
+        let aged = placed.after.aged(row, placed.code);
         Placed {
             free: placed.free,
-            after,
+            after: aged.after,
             code: aged.code,
         }
     }

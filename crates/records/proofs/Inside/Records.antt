@@ -1,6 +1,6 @@
 -- What each step of a slot does to a row's job, as facts. Assumes nothing.
-use Rattle.basis.specs.Prelude.{ℕ, ◌+◌, ◌-◌, ◌≤◌, ◌<◌, ◌≡◌, refl, sym, ◌∙◌, Bool, true, false, ltb, eqb, ⊎_elim, arith, lt-ltb, le-ltb, eq-eqb, ne_eqb, ltb-false}
-use Rattle.records.proofs.Names.{pick, both, accepted, refused, Row, Job, RowState, Aged, has_job, released, worked, older, aged, missed, ended, code_at_end, check_row, aged_row}
+use Rattle.basis.specs.Prelude.{ℕ, ◌+◌, ◌-◌, ◌≤◌, ◌<◌, ◌≡◌, refl, Bool, true, false, ltb, eqb, ⊎_elim, arith, lt-ltb, le-ltb, eq-eqb, ne_eqb, ltb-false}
+use Rattle.records.proofs.Names.{pick, both, accepted, refused, Row, Job, RowState, has_job, released, worked, older, missed, ended, check_row}
 use Rattle.basis.proofs.Inside.Words.{lt_or_le}
 
 -- 1. releases
@@ -80,13 +80,3 @@ release_allowed row s r k l e =
     go true ea b eb f = let z : ◌≡◌ {A = ℕ} 0 1 = cc in absurd (omega arith)
     go false ea true eb f = let z : ◌≡◌ {A = ℕ} 0 1 = cc in absurd (omega arith)
     go false ea false eb f = (ltb-false _ _ ea, ltb-false _ _ eb)
-
--- `age_row`: at the deadline, and elsewhere
-module _ (row : Row) (s : Job) (code since c : ℕ) (es : since ≡ older row.separation s.since) (ec : c ≡ code_at_end s.remaining since row.deadline code) where
-  pub age_at : since ≡ row.deadline → ◌≡◌ {A = Aged} (record { after = record { remaining = 0; since = since }; code = c }) (aged_row row s code)
-  unfolding aged_row aged ended
-  age_at e = rw (ec, es, ended_at row (aged row s) (sym es ∙ e))
-
-  pub age_else : (since ≡ row.deadline → ⊥) → ◌≡◌ {A = Aged} (record { after = record { remaining = s.remaining; since = since }; code = c }) (aged_row row s code)
-  unfolding aged_row aged ended
-  age_else d = rw (ec, es, ended_else row (aged row s) (λ e. d (es ∙ e)))
