@@ -11,7 +11,6 @@ unfoldable pub use Rattle.basis.specs.Upto.{upto}
 pub use Rattle.basis.specs.Words.{pick, within}
 unfoldable pub use Rattle.basis.specs.Words.{all_of, sum}
 pub use Rattle.basis.specs.declared.refusal.Refusal.{Refusal}
-pub use Rattle.basis.specs.declared.refusal.Refusal.TheVariants.{Accepted, Refused}
 pub use Rattle.machine.specs.Answers.{FreshAnswer, MarginAnswer, RunAnswer, SlotAnswer, entries_of, fresh_answer, margin_is, margin_answer, margin_by, no_job, refused_margin, run_answer, slot_answer, slot_by}
 unfoldable pub use Rattle.machine.specs.Answers.{course, fresh, given, margin, margin_at, margin_of, next_codes, next_state, onward, run, slot, slot_at}
 pub use Rattle.machine.specs.Checks.{check_at}

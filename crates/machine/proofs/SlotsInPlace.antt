@@ -1,28 +1,23 @@
 -- The slot in place: what each turn and each way out shows, in the words of its invariant and of what it calls. Assumes nothing.
 use Rattle.basis.specs.Prelude.{ℕ, ◌+◌, ◌*◌, ◌-◌, ◌≤◌, ◌<◌, ◌≡◌, refl, sym, ap, ◌∙◌, true, List, length, get_or, set, take, drop, arith, le_refl, add-one}
 use borrow.Rule.Slice.PartMut.{put_mid}
-use Rattle.machine.proofs.Names.{accepted, refused, outcome, Refusal, Accepted, Refused, upto, upto_set, row_at, legal, Row, Sheet, legal_is, RowState, record_of, State, record_at, legal_state, free_at, free, next, code, check_releases, check_slot, slot_answer, given, next_state, next_codes, slot_at, record_in, state_in, put_record, put_to, put_state, slot_in}
+use Rattle.machine.proofs.Names.{accepted, refused, upto, upto_set, row_at, legal, Sheet, legal_is, record_of, State, record_at, legal_state, free_at, free, next, code, check_releases, check_slot, slot_answer, given, next_state, next_codes, slot_at, record_in, state_in, put_record, put_to, put_state, slot_in}
 use Rattle.records.specs.declared.steps.Placed.{Placed}
 use Rattle.records.specs.Methods.{begun_row, stepped_row}
-use Rattle.machine.proofs.Inside.Answers.{slot_sheet, slot_state, slot_is_refused, slot_is_accepted}
+use Rattle.machine.proofs.Inside.Answers.{slot_state, slot_is_refused, slot_is_accepted}
 use Rattle.machine.proofs.Inside.Courses.{slot_at_accepted}
 use Rattle.machine.proofs.Inside.LegalSlots.{next_at, next_legal}
 use Rattle.machine.proofs.Inside.Legals.{legal_state_is, legal_state_says}
 use Rattle.machine.proofs.LegalLists.{kept_spare, kept_long, kept_record}
 use Rattle.machine.proofs.Inside.RecordLists.{put_record_past, put_more, put_agree, state_put}
 
--- `step_row`
-pub row_stepped : (h : Sheet) (l : List ℕ) (k release f : ℕ) (row : Row) (s : RowState) (r : Placed) → row ≡ row_at h k → s ≡ record_in l k → r ≡ stepped_row row s.job release f
-    → r ≡ stepped_row (row_at h k) (record_in l k).job release f
-row_stepped h l k release f row s r er es e = rw (er, es) at e
-
 -- `step_rows`: a turn
-module _ (h : Sheet) (l₀ l rel : List ℕ) (fine : legal h ≡ true) (kept : legal_state h (state_in l₀) ≡ true) (f i n : ℕ) (en : n ≡ h.count) (below : i < n)
+module _ (h : Sheet) (l₀ l rel : List ℕ) (fine : legal h ≡ true) (kept : legal_state h (state_in l₀) ≡ true) (f i : ℕ) (below : i < h.count)
     (ef : f ≡ free (given h (state_in l₀) rel) i) (so_far : l ≡ put_to i (next (given h (state_in l₀) rel)) l₀)
     (r : Placed) (er : r ≡ stepped_row (row_at h i) (record_in l i).job (get_or rel i 0) f) where
   here_stepped : r ≡ stepped_row (row_at h i) (record_at (state_in l₀) i).job (get_or rel i 0) (free (given h (state_in l₀) rel) i)
   here_stepped =
-      rw (so_far, put_record_past (next (given h (state_in l₀) rel)) l₀ i i (le_refl i), kept_record h l₀ fine kept i (omega arith), ef) at er
+      rw (so_far, put_record_past (next (given h (state_in l₀) rel)) l₀ i i (le_refl i), kept_record h l₀ fine kept i below, ef) at er
 
   pub free_moves : r.free ≡ free (given h (state_in l₀) rel) (i + 1)
   unfolding free_at stepped_row begun_row given
@@ -37,12 +32,9 @@ module _ (h : Sheet) (l₀ l rel : List ℕ) (fine : legal h ≡ true) (kept : l
   codes_move cs cs₀ e = upto_set i (code (given h (state_in l₀) rel)) cs cs₀ r.code e (rw here_stepped)
 
 -- and its end
-pub moves_done : (f : ℕ → RowState) (l l₀ : List ℕ) (i n : ℕ) → i ≤ n → n ≤ i → l ≡ put_to i f l₀ → l ≡ put_to n f l₀
-moves_done f l l₀ i n a b e = let s : i ≡ n = omega arith in rw s at e
-
-pub codes_done : (h : Sheet) (t : State) (rel : List ℕ) (i n : ℕ) → n ≡ h.count → i ≤ n → n ≤ i → (cs cs₀ : List ℕ) → cs ≡ upto i (code (given h t rel)) cs₀ → cs ≡ next_codes h t rel cs₀
+pub codes_done : (h : Sheet) (t : State) (rel cs cs₀ : List ℕ) → cs ≡ upto h.count (code (given h t rel)) cs₀ → cs ≡ next_codes h t rel cs₀
 unfolding next_codes
-codes_done h t rel i n en a b cs cs₀ so_far = let e : i ≡ h.count = omega arith in rw e at so_far
+codes_done h t rel cs cs₀ e = e
 
 -- the list after a slot whose checks have passed
 module _ (h : Sheet) (l rel : List ℕ) (fine : legal h ≡ true) (kept : legal_state h (state_in l) ≡ true) (n : ℕ) (en : n ≡ h.count)
@@ -69,25 +61,24 @@ moved_back h l rel fine kept = rw (sym (moved_list h l rel fine kept h.count ref
 
 -- `slot_part`
 module _ (h : Sheet) (l rel cs : List ℕ) (j n : ℕ) (en : n ≡ h.count) (fine : legal h ≡ true) (kept : legal_state h (state_in l) ≡ true)
-    (list : j * n + n ≤ length rel) (buffer : j * n + n ≤ length cs) (c : Refusal) (e : outcome c ≡ check_releases h (state_in l) (take (j * n + n - j * n) (drop (j * n) rel)))
-    (f : c ≡ Accepted) (l' : List ℕ) (moved : l' ≡ put_to n (next (given h (state_in l) (take (j * n + n - j * n) (drop (j * n) rel)))) l) where
+    (list : j * n + n ≤ length rel) (buffer : j * n + n ≤ length cs) (e : accepted ≡ check_releases h (state_in l) (take (j * n + n - j * n) (drop (j * n) rel)))
+    (l' : List ℕ) (moved : l' ≡ put_to n (next (given h (state_in l) (take (j * n + n - j * n) (drop (j * n) rel)))) l) where
   pub part_accepted : (ds : List ℕ) → ds ≡ next_codes h (state_in l) (take (j * n + n - j * n) (drop (j * n) rel)) (take (length cs - j * n) (drop (j * n) cs))
       → slot_answer accepted (state_in l') (put_mid (j * n) (length cs - j * n) cs ds) ≡ slot_at h (state_in l) rel cs j
-  part_accepted ds ed = slot_at_accepted h (state_in l) rel cs j n en fine kept list buffer c e _ ds f (moved_state h l _ fine kept n en l' moved) ed
+  part_accepted ds ed = slot_at_accepted h (state_in l) rel cs j n en fine kept list buffer _ ds e (moved_state h l _ fine kept n en l' moved) ed
 
   pub part_legal : legal_state h (state_in l') ≡ true
-  part_legal = moved_legal h l _ fine kept n en l' moved (sym e ∙ ap outcome f)
+  part_legal = moved_legal h l _ fine kept n en l' moved (sym e)
 
 -- `slot_on`
-module _ (h : Sheet) (l rel cs : List ℕ) (c : Refusal) (e : outcome c ≡ check_slot h (state_in l) rel (length cs)) where
-  pub slot_in_refused : (a b : ℕ) → c ≡ Refused a b → slot_answer (refused a b) l cs ≡ slot_in h l rel cs
+module _ (h : Sheet) (l rel cs : List ℕ) where
+  pub slot_in_refused : (a b : ℕ) → refused a b ≡ check_slot h (state_in l) rel (length cs) → slot_answer (refused a b) l cs ≡ slot_in h l rel cs
   unfolding slot_in
-  slot_in_refused a b f = rw (sym (slot_is_refused h (state_in l) rel cs c e a b f))
+  slot_in_refused a b e = rw (sym (slot_is_refused h (state_in l) rel cs a b e))
 
-  pub slot_in_accepted : c ≡ Accepted → (n : ℕ) → n ≡ h.count → (l' ds : List ℕ) → l' ≡ put_to n (next (given h (state_in l) rel)) l → ds ≡ next_codes h (state_in l) rel cs
+  pub slot_in_accepted : legal h ≡ true → accepted ≡ check_slot h (state_in l) rel (length cs) → (n : ℕ) → n ≡ h.count → (l' ds : List ℕ) → l' ≡ put_to n (next (given h (state_in l) rel)) l → ds ≡ next_codes h (state_in l) rel cs
       → slot_answer accepted l' ds ≡ slot_in h l rel cs
   unfolding slot_in
-  slot_in_accepted f n en l' ds moved ed =
-      let fine = slot_sheet h (state_in l) rel (length cs) c e f in
-      let kept = slot_state h (state_in l) rel (length cs) c e f in
-      rw (sym (slot_is_accepted h (state_in l) rel cs c e f _ ds refl ed)) (ap (λ (x : List ℕ). slot_answer accepted x ds) (moved_list h l rel fine kept n en l' moved))
+  slot_in_accepted fine e n en l' ds moved ed =
+      let kept = slot_state h (state_in l) rel (length cs) e in
+      rw (sym (slot_is_accepted h (state_in l) rel cs e _ ds refl ed)) (ap (λ (x : List ℕ). slot_answer accepted x ds) (moved_list h l rel fine kept n en l' moved))

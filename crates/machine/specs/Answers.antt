@@ -1,17 +1,16 @@
 -- What each call answers, with the state and the code buffer after it.
 use Rattle.std.specs.Prelude.{◌+◌, ◌*◌, ◌/◌, ◌++◌}
 use Rattle.basis.specs.Prelude.{ℕ, zero, suc, List, length, get_or, take, drop}
-use Rattle.std.specs.Prelude.{ℤ, pos, ◌-ℤ◌}
+use Rattle.std.specs.Prelude.{ℤ, pos, ◌-ℤ◌, Option, Some, None, Result, Ok, Err}
 use Rattle.basis.specs.Words.{pick}
-use Rattle.basis.specs.Refusals.{Outcome, accepted, refused, is_accepted, needed}
+use Rattle.basis.specs.Refusals.{Outcome, accepted, refused, is_accepted, needed, told}
+use Rattle.basis.specs.declared.refusal.Refusal.{Refusal}
 use Rattle.basis.specs.Upto.{upto}
 use Rattle.sheet.specs.Legal.{row_at, legal}
 use Rattle.sheet.specs.declared.row.Row.{Row}
 use Rattle.sheet.specs.declared.row.Sheet.{Sheet}
 use Rattle.records.specs.declared.record.Job.{Job}
 use Rattle.machine.specs.States.{State, no_state, fresh_state, state_of, record_at}
-use Rattle.machine.specs.declared.margins.Margin.{Margin}
-use Rattle.machine.specs.declared.margins.Margin.TheVariants as margin-variants
 use Rattle.records.specs.Records.{has_job}
 use Rattle.machine.specs.Slot.{Given, next, code}
 use Rattle.machine.specs.Checks.{check_slot, check_run, check_margin}
@@ -102,10 +101,10 @@ pub data MarginAnswer : Type 0 where
   refused_margin : ℕ → ℕ → MarginAnswer
 
 -- What each answer of `margin` stands for.
-abbrev pub margin_answer : Margin → MarginAnswer
-margin_answer margin-variants.NoJob = no_job
-margin_answer (margin-variants.Is z) = margin_is z
-margin_answer (margin-variants.Refused number place) = refused_margin number place
+abbrev pub margin_answer : Result (Option ℤ) Refusal → MarginAnswer
+margin_answer (Ok None) = no_job
+margin_answer (Ok (Some z)) = margin_is z
+margin_answer (Err r) = refused_margin (told r).0 (told r).1
 
 -- D - since - remaining, signed.
 unfoldable pub margin_of : Row → Job → ℤ

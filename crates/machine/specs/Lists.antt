@@ -86,4 +86,4 @@ run_in h list releases codes = run_listed h.count (run h (state_in list) release
 
 -- What the code of a run in place answers, with the state, by value or in its list, and the code buffer after it.
 abbrev pub ran_in : {S : Type 0} → Done → S → List ℕ → RunAnswer S
-ran_in r t codes = run_answer r.done (outcome r.refusal) t codes
+ran_in r t codes = run_answer r.done (outcome r.ended) t codes

@@ -8,6 +8,6 @@ mod sheets;
 mod start;
 
 pub use inplace::{check_run_in, check_slot_in, run_on, slot_on};
-pub use margins::{Margin, margin_on};
+pub use margins::margin_on;
 pub use places::{Done, RECORD_WIDE, STATE_LONG};
 pub use start::fresh_on;

@@ -1,35 +1,53 @@
-// A sheet in a list of plain numbers: what is read of it.
-ghost use Rattle.std.specs.Prelude.{◌≡◌, ◌+◌, ◌≤◌, ◌<◌, length};
+// A legal sheet in a list of plain numbers: its check, and what is read of it.
+ghost use Rattle.std.specs.Prelude.{◌≡◌, true, ◌<◌, ◌≤◌, length, IfOk};
 ghost use Rattle.basis.specs.Limits.{most_rows};
-ghost use Rattle.sheet.specs.Legal.{row_at};
+ghost use Rattle.basis.specs.Refusals.{outcome, needed};
+ghost use Rattle.sheet.specs.Legal.{row_at, legal};
 ghost use Rattle.sheet.specs.Lists.{sheet_in, sheet_long};
 
+use basis::Refusal;
 use sheet::Row;
 
-// The processors of the sheet in a list.
-pub(crate) fn processors_in(sheet: &[u64]) -> u64
-    ensures { result ≡ (sheet_in sheet.now).processors }
-{
-    sheet::number_at(sheet, 0)
+// The list of a sheet that is legal, and the number of its rows.
+#[derive(Clone, Copy)]
+pub(crate) struct LegalSheet<'a> {
+    pub(crate) list: &'a [u64],
+    pub(crate) rows: usize,
+    ghost fine: { legal (sheet_in list.now) ≡ true },
+    ghost counted: { rows ≡ (sheet_in list.now).count },
+    ghost some: { 1 ≤ rows },
+    ghost few: { rows ≤ most_rows },
+    ghost whole: { sheet_long rows ≤ length list.now },
 }
 
-// The number of its rows.
-pub(crate) fn rows_in(sheet: &[u64]) -> usize
-    ensures { result ≡ (sheet_in sheet.now).count }
-{
-    sheet::number_at(sheet, 1) as usize
-}
+impl<'a> LegalSheet<'a> {
+    // 10.
+    pub(crate) fn checked(list: &'a [u64]) -> Result<LegalSheet<'a>, Refusal>
+        ensures told { outcome result ≡ needed (legal (sheet_in list.now)) 10 }
+        ensures own { IfOk result (λ s. s.list.now ≡ list.now) }
+    {
+        if sheet::is_legal(list) {
+            Ok(LegalSheet {
+                list,
+                rows: sheet::count(list) as usize,
+            })
+        } else {
+            Err(Refusal::Sheet)
+        }
+    }
 
-// Its row k, where the list has room for it, read without a look at its end.
-pub(crate) fn row_inside(sheet: &[u64], k: usize) -> Row
-    requires { (k < most_rows) × (sheet_long (k + 1) ≤ length sheet.now) }
-    ensures { result ≡ row_at (sheet_in sheet.now) k }
-{
-    let at = k * 4;
-    Row {
-        threads: sheet[at + 2],
-        separation: sheet[at + 3],
-        deadline: sheet[at + 4],
-        budget: sheet[at + 5],
+    // Its row k. It is no call of `sheet::row_at`, which looks at the end of the list: a slot reads each row twice.
+    #[tactic(auto, using(sheet::proofs::Inside::ListRows::numbers_handed))]
+    pub(crate) fn row(self, k: usize) -> Row
+        requires { k < self.rows }
+        ensures { result ≡ row_at (sheet_in self.entry.list.now) k }
+    {
+        let at = k * 4;
+        Row {
+            threads: self.list[at + 2],
+            separation: self.list[at + 3],
+            deadline: self.list[at + 4],
+            budget: self.list[at + 5],
+        }
     }
 }

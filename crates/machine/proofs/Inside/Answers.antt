@@ -1,6 +1,6 @@
 -- Each call's answer, from the answers of what it calls. Assumes nothing.
-use Rattle.basis.specs.Prelude.{ℕ, ◌*◌, ◌/◌, ◌%◌, ◌≤◌, ◌<◌, ◌≡◌, refl, sym, ap, ◌∙◌, true, List, length, leb, eqb, arith, div-add-mod', leb-true, eqb-true}
-use Rattle.machine.proofs.Names.{most_rows, accepted, refused, outcome, needed, Refusal, Accepted, Refused, both_accepted, needed_holds, legal, Sheet, State, legal_state, check_releases, check_state, check_room, check_slot, check_run, RunAnswer, slot_answer, run_answer, next_state, next_codes, slot, course, run}
+use Rattle.basis.specs.Prelude.{ℕ, ◌*◌, ◌/◌, ◌%◌, ◌≤◌, ◌<◌, ◌≡◌, refl, sym, true, List, length, leb, eqb, arith, div-add-mod', leb-true, eqb-true}
+use Rattle.machine.proofs.Names.{most_rows, accepted, refused, needed, both_accepted, needed_holds, Sheet, State, legal_state, check_releases, check_state, check_room, check_slot, check_run, RunAnswer, slot_answer, run_answer, next_state, next_codes, slot, course, run}
 use Rattle.machine.proofs.Inside.Checks.{Ready, ready}
 use Rattle.machine.proofs.Inside.Courses.{stopped}
 
@@ -20,12 +20,9 @@ slot_shows h t rel room e =
     record { in_order = ready h t a; long = eqb-true _ _ (needed_holds _ 11 p); roomy = leb-true _ _ (needed_holds _ 15 q); releases = d }
 
 -- `slot`: what its checks have shown, with so much room for codes
-module _ (h : Sheet) (t : State) (rel : List ℕ) (room : ℕ) (c : Refusal) (e : outcome c ≡ check_slot h t rel room) (f : c ≡ Accepted) where
+module _ (h : Sheet) (t : State) (rel : List ℕ) (room : ℕ) (e : accepted ≡ check_slot h t rel room) where
   shown : Accepted_slot h t rel room
-  shown = slot_shows h t rel room (sym e ∙ ap outcome f)
-
-  pub slot_sheet : legal h ≡ true
-  slot_sheet = shown.in_order.sheet_legal
+  shown = slot_shows h t rel room (sym e)
 
   pub slot_state : legal_state h t ≡ true
   slot_state = shown.in_order.state_legal
@@ -40,14 +37,14 @@ module _ (h : Sheet) (t : State) (rel : List ℕ) (room : ℕ) (c : Refusal) (e 
     pub rows_in_buffer : n ≤ room
     rows_in_buffer = omega (arith, shown.long, shown.roomy)
 
-module _ (h : Sheet) (t : State) (rel cs : List ℕ) (c : Refusal) (e : outcome c ≡ check_slot h t rel (length cs)) where
-  pub slot_is_refused : (a b : ℕ) → c ≡ Refused a b → slot_answer (refused a b) t cs ≡ slot h t rel cs
+module _ (h : Sheet) (t : State) (rel cs : List ℕ) where
+  pub slot_is_refused : (a b : ℕ) → refused a b ≡ check_slot h t rel (length cs) → slot_answer (refused a b) t cs ≡ slot h t rel cs
   unfolding slot
-  slot_is_refused a b f = rw (sym e, f)
+  slot_is_refused a b e = rw (sym e)
 
-  pub slot_is_accepted : c ≡ Accepted → (u : State) (ds : List ℕ) → u ≡ next_state h t rel → ds ≡ next_codes h t rel cs → slot_answer accepted u ds ≡ slot h t rel cs
+  pub slot_is_accepted : accepted ≡ check_slot h t rel (length cs) → (u : State) (ds : List ℕ) → u ≡ next_state h t rel → ds ≡ next_codes h t rel cs → slot_answer accepted u ds ≡ slot h t rel cs
   unfolding slot
-  slot_is_accepted f u ds eu ed = rw (sym e, f, eu, ed)
+  slot_is_accepted e u ds eu ed = rw (sym e, eu, ed)
 
 -- a slot that is refused leaves all as found: the state, and every code
 pub refused_as_found : (h : Sheet) (t : State) (rel cs : List ℕ) (a b : ℕ) (u : State) (ds : List ℕ) → slot_answer (refused a b) u ds ≡ slot h t rel cs → (u ≡ t) × (ds ≡ cs)
@@ -62,16 +59,13 @@ unfolding check_run
 run_in_order_shows h t rel room e = ready h t (both_accepted (check_state h t) _ e).0
 
 -- `run`: what its checks have shown, with so much room for codes
-module _ (h : Sheet) (t : State) (rel : List ℕ) (room : ℕ) (c : Refusal) (e : outcome c ≡ check_run h t rel room) (f : c ≡ Accepted) where
+module _ (h : Sheet) (t : State) (rel : List ℕ) (room : ℕ) (e : accepted ≡ check_run h t rel room) where
   parts : (check_state h t ≡ accepted) × (leb (length rel) room ≡ true)
   unfolding check_run check_room
   parts =
-      let (a, b) = both_accepted (check_state h t) _ (sym e ∙ ap outcome f) in
+      let (a, b) = both_accepted (check_state h t) _ (sym e) in
       let (p, q) = both_accepted (needed (eqb (length rel % h.count) 0) 11) _ b in
       (a, needed_holds _ 15 q)
-
-  pub run_sheet : legal h ≡ true
-  run_sheet = (ready h t parts.0).sheet_legal
 
   pub run_state : legal_state h t ≡ true
   run_state = (ready h t parts.0).state_legal
@@ -85,11 +79,11 @@ module _ (h : Sheet) (t : State) (rel : List ℕ) (room : ℕ) (c : Refusal) (e 
   pub run_buffer : (n : ℕ) → length rel / n * n ≤ room
   run_buffer n = omega (arith, div-add-mod' (length rel) n, leb-true (length rel) room parts.1)
 
-module _ (h : Sheet) (t : State) (rel cs : List ℕ) (c : Refusal) (e : outcome c ≡ check_run h t rel (length cs)) where
-  pub run_is_refused : (a b : ℕ) → c ≡ Refused a b → run_answer 0 (refused a b) t cs ≡ run h t rel cs
+module _ (h : Sheet) (t : State) (rel cs : List ℕ) where
+  pub run_is_refused : (a b : ℕ) → refused a b ≡ check_run h t rel (length cs) → run_answer 0 (refused a b) t cs ≡ run h t rel cs
   unfolding run
-  run_is_refused a b f = rw (sym e, f) (sym (stopped h rel (run_answer 0 (refused a b) t cs) (length rel / h.count) a b refl))
+  run_is_refused a b e = rw (sym e) (sym (stopped h rel (run_answer 0 (refused a b) t cs) (length rel / h.count) a b refl))
 
-  pub run_is_done : c ≡ Accepted → (n : ℕ) → n ≡ h.count → (a : RunAnswer State) → a ≡ course h rel (run_answer 0 accepted t cs) (length rel / n) → a ≡ run h t rel cs
+  pub run_is_done : accepted ≡ check_run h t rel (length cs) → (n : ℕ) → n ≡ h.count → (a : RunAnswer State) → a ≡ course h rel (run_answer 0 accepted t cs) (length rel / n) → a ≡ run h t rel cs
   unfolding run
-  run_is_done f n en a g = rw (sym e, f) (rw en at g)
+  run_is_done e n en a g = rw (sym e) (rw en at g)

@@ -1,7 +1,7 @@
 -- A run's course: slot j of a list on parts of the list and the buffer, one slot more, and a course that has stopped. Assumes nothing.
 use Rattle.basis.specs.Prelude.{ℕ, zero, suc, ◌+◌, ◌*◌, ◌-◌, ◌≤◌, ◌<◌, ◌≡◌, sym, ap, ◌∙◌, true, List, ◌++◌, append-nil, length, take, drop, length-drop, take-append-drop, drop_of_length-le, length-take-le, take_all, arith, mul-le-mul_right, add-zero, zero-add, add-suc, add-one, le-leb, eq-eqb}
 use borrow.Rule.Slice.PartMut.{put_mid}
-use Rattle.machine.proofs.Names.{pick, Outcome, accepted, refused, outcome, is_accepted, Refusal, Accepted, Refused, legal, Sheet, State, legal_state, check_releases, check_state, check_room, check_slot, SlotAnswer, RunAnswer, slot_answer, run_answer, next_state, next_codes, slot, entries_of, slot_at, onward, course}
+use Rattle.machine.proofs.Names.{pick, Outcome, accepted, refused, is_accepted, legal, Sheet, State, legal_state, check_releases, check_state, check_room, check_slot, SlotAnswer, RunAnswer, slot_answer, run_answer, next_state, next_codes, slot, entries_of, slot_at, onward, course}
 
 -- slot j of a list
 module _ (h : Sheet) (t : State) (rel cs : List ℕ) (j n : ℕ) (en : n ≡ h.count) (fine : legal h ≡ true) (kept : legal_state h t ≡ true)
@@ -29,25 +29,24 @@ module _ (h : Sheet) (t : State) (rel cs : List ℕ) (j n : ℕ) (en : n ≡ h.c
   abbrev part : ℕ → SlotAnswer State
   part m = let a = slot h t (entries_of m j rel) (drop (j * m) cs) in slot_answer a.outcome a.state (take (j * m) cs ++ a.codes)
 
-  module _ (c : Refusal) (e : outcome c ≡ check_releases h t (take (j * n + n - j * n) (drop (j * n) rel))) where
-    same_outcome : (o : Outcome) → outcome c ≡ o → check_slot h t (entries_of n j rel) (length (drop (j * n) cs)) ≡ o
-    same_outcome o f = check_is ∙ ap (check_releases h t) (sym part_is) ∙ sym e ∙ f
+  same_outcome : (o : Outcome) → o ≡ check_releases h t (take (j * n + n - j * n) (drop (j * n) rel)) → check_slot h t (entries_of n j rel) (length (drop (j * n) cs)) ≡ o
+  same_outcome o e = check_is ∙ ap (check_releases h t) (sym part_is) ∙ sym e
 
-    pub slot_at_refused : (a b : ℕ) → c ≡ Refused a b → slot_answer (refused a b) t cs ≡ slot_at h t rel cs j
-    unfolding slot slot_at
-    slot_at_refused a b f =
-        let so : slot_answer (refused a b) t cs ≡ part n = rw (same_outcome (refused a b) (ap outcome f), take-append-drop) in
-        so ∙ ap part en
+  pub slot_at_refused : (a b : ℕ) → refused a b ≡ check_releases h t (take (j * n + n - j * n) (drop (j * n) rel)) → slot_answer (refused a b) t cs ≡ slot_at h t rel cs j
+  unfolding slot slot_at
+  slot_at_refused a b e =
+      let so : slot_answer (refused a b) t cs ≡ part n = rw (same_outcome (refused a b) e, take-append-drop) in
+      so ∙ ap part en
 
-    pub slot_at_accepted : (u : State) (ds : List ℕ) → c ≡ Accepted
-        → u ≡ next_state h t (take (j * n + n - j * n) (drop (j * n) rel))
-        → ds ≡ next_codes h t (take (j * n + n - j * n) (drop (j * n) rel)) (take (length cs - j * n) (drop (j * n) cs))
-        → slot_answer accepted u (put_mid (j * n) (length cs - j * n) cs ds) ≡ slot_at h t rel cs j
-    unfolding slot slot_at
-    slot_at_accepted u ds f eu ed =
-        let over = drop_of_length-le (drop (j * n) cs) {i = length cs - j * n} (omega (arith, length-drop (j * n) cs)) in
-        let so : slot_answer accepted u (put_mid (j * n) (length cs - j * n) cs ds) ≡ part n = rw (same_outcome accepted (ap outcome f), over, append-nil, eu, ed, part_is, rest_is) in
-        so ∙ ap part en
+  pub slot_at_accepted : (u : State) (ds : List ℕ) → accepted ≡ check_releases h t (take (j * n + n - j * n) (drop (j * n) rel))
+      → u ≡ next_state h t (take (j * n + n - j * n) (drop (j * n) rel))
+      → ds ≡ next_codes h t (take (j * n + n - j * n) (drop (j * n) rel)) (take (length cs - j * n) (drop (j * n) cs))
+      → slot_answer accepted u (put_mid (j * n) (length cs - j * n) cs ds) ≡ slot_at h t rel cs j
+  unfolding slot slot_at
+  slot_at_accepted u ds e eu ed =
+      let over = drop_of_length-le (drop (j * n) cs) {i = length cs - j * n} (omega (arith, length-drop (j * n) cs)) in
+      let so : slot_answer accepted u (put_mid (j * n) (length cs - j * n) cs ds) ≡ part n = rw (same_outcome accepted e, over, append-nil, eu, ed, part_is, rest_is) in
+      so ∙ ap part en
 
 -- a part of a run has room where the run has
 pub room_for : (n j slots m : ℕ) → j < slots → slots * n ≤ m → j * n + n ≤ m
@@ -73,17 +72,17 @@ stopped h rel c j a b e = rw zero-add at (stays h rel c 0 j a b e)
 
 -- one slot more
 module _ (h : Sheet) (rel : List ℕ) (first : RunAnswer State) (j : ℕ) (t : State) (cs : List ℕ)
-    (so_far : course h rel first j ≡ run_answer j accepted t cs) (x : Refusal) (u : State) (ds : List ℕ) (e : slot_answer (outcome x) u ds ≡ slot_at h t rel cs j) where
-  one_more : (y : Refusal) → x ≡ y → course h rel first (suc j) ≡ followed j (slot_answer (outcome y) u ds)
+    (so_far : course h rel first j ≡ run_answer j accepted t cs) (u : State) (ds : List ℕ) where
+  one_more : (o : Outcome) → slot_answer o u ds ≡ slot_at h t rel cs j → course h rel first (suc j) ≡ followed j (slot_answer o u ds)
   unfolding course onward
-  one_more y f = rw (so_far, sym e, f)
+  one_more o e = rw (so_far, sym e)
 
-  pub goes_on : x ≡ Accepted → course h rel first (j + 1) ≡ run_answer (j + 1) accepted u ds
-  goes_on f = ap (course h rel first) (add-one j) ∙ one_more Accepted f
+  pub goes_on : slot_answer accepted u ds ≡ slot_at h t rel cs j → course h rel first (j + 1) ≡ run_answer (j + 1) accepted u ds
+  goes_on e = ap (course h rel first) (add-one j) ∙ one_more accepted e
 
-  pub stops : (slots a b : ℕ) → j < slots → x ≡ Refused a b → run_answer j (refused a b) u ds ≡ course h rel first slots
-  stops slots a b l f =
-      let here = one_more (Refused a b) f in
+  pub stops : (slots a b : ℕ) → j < slots → slot_answer (refused a b) u ds ≡ slot_at h t rel cs j → run_answer j (refused a b) u ds ≡ course h rel first slots
+  stops slots a b l e =
+      let here = one_more (refused a b) e in
       let far : suc j + (slots - suc j) ≡ slots = omega arith in
       sym (rw far at (stays h rel first (suc j) (slots - suc j) a b (λ i. (here i).outcome)) ∙ here)
 

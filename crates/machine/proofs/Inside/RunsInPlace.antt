@@ -1,7 +1,7 @@
 -- The run in place: a run that has done no slot has changed nothing, and what each way out shows. Assumes nothing.
 use Rattle.basis.specs.Prelude.{ℕ, zero, suc, ◌/◌, ◌≡◌, refl, sym, ap, ◌∙◌, Bool, true, false, List, length, eqb, arith, eqb-true}
-use Rattle.machine.proofs.Names.{pick, Outcome, accepted, refused, outcome, is_accepted, Refusal, Accepted, Refused, legal, Sheet, State, legal_state, Done, check_run, RunAnswer, run_answer, slot_at, onward, course, state_in, put_state, run_in, ran_in}
-use Rattle.machine.proofs.Inside.Answers.{run_sheet, run_state, run_is_refused, run_is_done}
+use Rattle.machine.proofs.Names.{pick, Outcome, accepted, refused, is_accepted, legal, Sheet, State, legal_state, Done, check_run, RunAnswer, run_answer, slot_at, onward, course, state_in, put_state, run_in, ran_in}
+use Rattle.machine.proofs.Inside.Answers.{run_state, run_is_refused, run_is_done}
 use Rattle.machine.proofs.Inside.Courses.{followed}
 use Rattle.machine.proofs.LegalLists.{list_of_kept}
 use Rattle.machine.proofs.SlotsDone.{refused_leaves}
@@ -19,18 +19,15 @@ course_none h rel first (suc j) e = let c = course h rel first j in go c (is_acc
     go c false o g so z = so z
 
 -- `run_on`
-module _ (h : Sheet) (l rel cs : List ℕ) (c : Refusal) (e : outcome c ≡ check_run h (state_in l) rel (length cs)) where
-  pub run_in_refused : (a b : ℕ) → c ≡ Refused a b → run_answer 0 (refused a b) l cs ≡ run_in h l rel cs
+module _ (h : Sheet) (l rel cs : List ℕ) where
+  pub run_in_refused : (a b : ℕ) → refused a b ≡ check_run h (state_in l) rel (length cs) → run_answer 0 (refused a b) l cs ≡ run_in h l rel cs
   unfolding run_in
-  run_in_refused a b f = rw (sym (run_is_refused h (state_in l) rel cs c e a b f))
+  run_in_refused a b e = rw (sym (run_is_refused h (state_in l) rel cs a b e))
 
-  module _ (f : c ≡ Accepted) (n : ℕ) (en : n ≡ h.count) (r : Done) (l' ds : List ℕ)
+  module _ (fine : legal h ≡ true) (e : accepted ≡ check_run h (state_in l) rel (length cs)) (n : ℕ) (en : n ≡ h.count) (r : Done) (l' ds : List ℕ)
       (er : ran_in r (state_in l') ds ≡ course h rel (run_answer 0 accepted (state_in l) cs) (length rel / n)) (kept' : legal_state h (state_in l') ≡ true) (long : length l' ≡ length l) where
-    fine : legal h ≡ true
-    fine = run_sheet h (state_in l) rel (length cs) c e f
-
     kept : legal_state h (state_in l) ≡ true
-    kept = run_state h (state_in l) rel (length cs) c e f
+    kept = run_state h (state_in l) rel (length cs) e
 
     same_list : put_state h.count (state_in l') l ≡ l'
     same_list = list_of_kept h l' l fine kept' kept long
@@ -46,4 +43,4 @@ module _ (h : Sheet) (l rel cs : List ℕ) (c : Refusal) (e : outcome c ≡ chec
 
     pub run_in_done : ran_in r l' ds ≡ run_in h l rel cs
     unfolding run_in
-    run_in_done = rw (sym (run_is_done h (state_in l) rel cs c e f n en (ran_in r (state_in l') ds) er)) (ap (λ (x : List ℕ). ran_in r x ds) (picked (eqb r.done 0) refl))
+    run_in_done = rw (sym (run_is_done h (state_in l) rel cs e n en (ran_in r (state_in l') ds) er)) (ap (λ (x : List ℕ). ran_in r x ds) (picked (eqb r.done 0) refl))

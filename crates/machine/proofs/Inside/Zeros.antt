@@ -1,6 +1,6 @@
--- The loop that looks whether every number of a list is zero from a place on. Assumes nothing.
-use Rattle.basis.specs.Prelude.{ℕ, ◌+◌, ◌≤◌, ◌<◌, ◌≡◌, sym, true, false, List, ⊎_elim, length, get_or-eq_default, arith, lt-ltb, le-ltb, ne_eqb, eqb-true}
-use Rattle.machine.proofs.Names.{all_of, lt_or_le, all_at, all_one_more, all_true, all_fails, number_at, zero_at, zero_from}
+-- Whether every number of a list is zero from a place on. Assumes nothing.
+use Rattle.basis.specs.Prelude.{ℕ, ◌+◌, ◌-◌, ◌≤◌, ◌<◌, ◌≡◌, refl, sym, ap, ◌∙◌, Bool, true, false, List, ⊎_elim, length, get_or, drop, length-drop, get_or-drop, get_or-eq_default, arith, lt-ltb, le-ltb, eqb-true}
+use Rattle.machine.proofs.Names.{lt_or_le, all_at, all_true, true_not_false, not_so, number_at, zero_at, zero_from}
 
 -- a list whose numbers are all zero from a place on, and what it shows of each
 pub all_zero : (from : ℕ) (l : List ℕ) → ((i : ℕ) → i < length l → from ≤ i → number_at l i ≡ 0) → zero_from from l ≡ true
@@ -11,34 +11,15 @@ pub each_zero : (from : ℕ) (l : List ℕ) → zero_from from l ≡ true → (i
 unfolding zero_from zero_at
 each_zero from l e i a = ⊎_elim (λ b. eqb-true _ 0 (rw (le-ltb i from a) at (all_at (length l) (zero_at from l) e i b))) (λ b. get_or-eq_default l 0 {n = i} b) (lt_or_le i (length l))
 
--- `is_zero_from`
-pub zero_none : (from : ℕ) (l : List ℕ) → true ≡ all_of from (zero_at from l)
-unfolding zero_at
-zero_none from l = sym (all_true from (zero_at from l) (λ i b. rw (lt-ltb i from b)))
+-- what `is_zero` says of a list from a place on
+module _ (from : ℕ) (l x : List ℕ) (is : x ≡ drop from l) where
+  rest_long : length x ≡ length l - from
+  rest_long = ap length is ∙ length-drop from l
 
-module _ (from : ℕ) (l : List ℕ) (i : ℕ) (past : from ≤ i) where
-  pub zero_fails : i < length l → (number_at l i ≡ 0 → ⊥) → false ≡ zero_from from l
-  unfolding zero_from zero_at
-  zero_fails b d = sym (all_fails (length l) (zero_at from l) i b (rw (le-ltb i from past, ne_eqb (number_at l i) 0 d)))
+  rest_at : (k : ℕ) → get_or x k 0 ≡ number_at l (from + k)
+  rest_at k = rw is (get_or-drop from l k 0)
 
-  module _ (so_far : true ≡ all_of i (zero_at from l)) where
-    pub zero_one : number_at l i ≡ 0 → true ≡ all_of (i + 1) (zero_at from l)
-    unfolding zero_at
-    zero_one z = rw (all_one_more, sym so_far, le-ltb i from past, z)
-
-    pub zero_done : length l ≤ i → i ≤ length l → true ≡ zero_from from l
-    unfolding zero_from
-    zero_done a b = let e : i ≡ length l = omega arith in rw e at so_far
-
-    pub zero_last_lem : length l ≤ i + 1 → i < length l → number_at l i ≡ 0 → true ≡ zero_from from l
-    unfolding zero_from
-    zero_last_lem a b z = let e : i + 1 ≡ length l = omega arith in rw e at (zero_one z)
-
-pub zero_fails_here : (from : ℕ) (l : List ℕ) (i : ℕ) → from ≤ i → i + 1 < length l → (number_at l i ≡ 0 → ⊥) → false ≡ zero_from from l
-zero_fails_here from l i past b d = zero_fails from l i past (omega arith) d
-
-pub zero_fails_next : (from : ℕ) (l : List ℕ) (i : ℕ) → from ≤ i → i + 1 < length l → (number_at l (i + 1) ≡ 0 → ⊥) → false ≡ zero_from from l
-zero_fails_next from l i past b d = zero_fails from l (i + 1) (omega arith) b d
-
-pub zero_two : (from : ℕ) (l : List ℕ) (i : ℕ) → from ≤ i → true ≡ all_of i (zero_at from l) → number_at l i ≡ 0 → number_at l (i + 1) ≡ 0 → true ≡ all_of (i + 2) (zero_at from l)
-zero_two from l i past so_far z y = let e : i + 1 + 1 ≡ i + 2 = omega arith in rw e at (zero_one from l (i + 1) (omega arith) (zero_one from l i past so_far z) y)
+  pub zero_rest : (r : Bool) → (r ≡ true → (k : ℕ) → k < length x → get_or x k 0 ≡ 0) → (((k : ℕ) → k < length x → get_or x k 0 ≡ 0) → r ≡ true) → r ≡ zero_from from l
+  zero_rest true so back =
+      sym (all_zero from l (λ i b a. let e : from + (i - from) ≡ i = omega arith in sym (ap (number_at l) e) ∙ sym (rest_at (i - from)) ∙ so refl (i - from) (omega (arith, rest_long))))
+  zero_rest false so back = sym (not_so (zero_from from l) (λ e. true_not_false (sym (back (λ k b. rest_at k ∙ each_zero from l e (from + k) (omega arith))))))

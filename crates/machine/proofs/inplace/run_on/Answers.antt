@@ -1,17 +1,17 @@
 -- `run_on` meets its promise. Assumes nothing.
-use Rattle.basis.specs.Prelude.{rules}
-use Rattle.machine.proofs.Inside.Answers.{run_sheet, run_state, run_rows, run_list, run_buffer}
+use Rattle.machine.proofs.Inside.Answers.{run_state, run_list, run_buffer}
 use Rattle.machine.proofs.Inside.RunsInPlace.{run_in_refused, run_in_done}
 use Rattle.machine.proofs.inplace.run_on.Goals as goal
 
-pub nonzero_div-slots : goal.nonzero_div-slots
-nonzero_div-slots c = search run_rows
-
 pub run_part-requires : goal.run_part-requires
-run_part-requires c = (search rules, search run_sheet, search run_state, search run_list, search run_buffer)
+run_part-requires c =
+    let told = rw (← c.in-Ok.ensures.own) at c.in-Ok.ensures.told in
+    (run_state _ _ _ _ told, run_list _ _ _ _ told _, run_buffer _ _ _ _ told _)
 
-pub returns-in-Refused : goal.returns-in-Refused
-returns-in-Refused c = search run_in_refused
+pub returns-in-Ok : goal.returns-in-Ok
+returns-in-Ok c =
+    let told = rw (← c.in-Ok.ensures.own) at c.in-Ok.ensures.told in
+    rw (← c.in-Ok.ensures.own) (run_in_done _ _ _ _ c.in-Ok.sheet.fine told _ c.in-Ok.sheet.counted _ _ _ c.run_part.ensures.0 c.run_part.ensures.1 c.run_part.auto.list)
 
-pub returns-in-Accepted : goal.returns-in-Accepted
-returns-in-Accepted c = search run_in_done
+pub returns-in-Err : goal.returns-in-Err
+returns-in-Err c = run_in_refused _ _ _ _ _ _ c.in-Err.ensures.told

@@ -6,20 +6,16 @@ use Rattle.machine.proofs.inplace.run_part.Goals as goal
 
 pub loop-done-init : goal.loop-done-init
 unfolding course
-loop-done-init c = (search rules, search rules, search rules, search rules, search rules, search rules, refl, refl, refl)
+loop-done-init c = (search rules, refl)
 
-pub slot_part-refusal-requires : goal.slot_part-refusal-requires
-unfolding course
-slot_part-refusal-requires c = (search rules, search rules, search rules, search room_for, search room_for)
+pub slot_part-requires : goal.slot_part-requires
+slot_part-requires c = (search rules, search room_for, search (rules, room_for))
 
-pub returns-in-Refused : goal.returns-in-Refused
-unfolding course
-returns-in-Refused c = (search stops, search rules)
+pub returns-in-Err : goal.returns-in-Err
+returns-in-Err c = (stops _ _ _ _ _ _ c.loop-done.invariant.1 _ _ _ _ _ c.loop-done-test.true c.in-Err.ensures.0, c.slot_part.ensures.1)
 
 pub loop-done-preserved : goal.loop-done-preserved
-unfolding course
-loop-done-preserved c = (search rules, search rules, search rules, search rules, search rules, search rules, search rules, search rules, search goes_on)
+loop-done-preserved c = (c.slot_part.ensures.1, goes_on _ _ _ _ _ _ c.loop-done.invariant.1 _ _ c.in_default.ensures.0)
 
 pub returns : goal.returns
-unfolding course
 returns c = (search ends, search rules)

@@ -1,14 +1,12 @@
 -- `slot_part` meets its promise. Assumes nothing.
-use Rattle.basis.specs.Prelude.{rules}
-use Rattle.machine.proofs.Inside.Courses.{part_holds, rest_holds, slot_at_refused}
+use Rattle.machine.proofs.Inside.Courses.{slot_at_refused}
 use Rattle.machine.proofs.SlotsInPlace.{part_accepted, part_legal}
+use Rattle.machine.proofs.Inside.Handed.{handed_on}
 use Rattle.machine.proofs.inplace.slot_part.Goals as goal
 
-pub step_rows-requires : goal.step_rows-requires
-step_rows-requires c = (search rules, search rules, search rules, search part_holds, search rest_holds)
+pub returns-in_err-check_releases_in : goal.returns-in_err-check_releases_in
+returns-in_err-check_releases_in c =
+    (rw (handed_on _ _ c.from_residual.ensures.1) (slot_at_refused _ _ _ _ _ _ c.args.sheet.counted c.args.sheet.fine c.requires.0 c.requires.1 c.requires.2 _ _ c.in_err-check_releases_in.ensures), c.requires.0)
 
-pub returns-in-Refused : goal.returns-in-Refused
-returns-in-Refused c = (search slot_at_refused, search rules)
-
-pub returns-in-Accepted : goal.returns-in-Accepted
-returns-in-Accepted c = (search part_accepted, search part_legal)
+pub returns : goal.returns
+returns c = let passed = c.in_ok-check_releases_in.ensures in (search part_accepted, search part_legal)

@@ -1,37 +1,26 @@
 -- `is_legal_in` meets its promise. Assumes nothing.
-use Rattle.basis.specs.Prelude.{rules, refl}
-use Rattle.machine.proofs.Names.{all_of, legal_sheet_long}
-use Rattle.machine.proofs.Inside.LegalChecks.{record_scaled, legal_in_short, legal_in_fits, legal_in_more, legal_in_fails, legal_in_done}
+use Rattle.basis.specs.Prelude.{ℕ, ◌*◌, ◌≡◌, refl, arith, drop, length-drop, take_all}
+use Rattle.machine.proofs.Names.{all_of, sheet_in, record_wide}
+use Rattle.machine.proofs.Inside.LegalChecks.{legal_in_short, legal_in_more, legal_in_fails, legal_in_done}
+use Rattle.machine.proofs.Inside.Zeros.{zero_rest}
 use Rattle.machine.proofs.places.is_legal_in.Goals as goal
 
-pub overflow_mul-long : goal.overflow_mul-long
-unfolding all_of
-overflow_mul-long c = search record_scaled
-
 pub returns-then-list-long : goal.returns-then-list-long
-unfolding all_of
-returns-then-list-long c = search legal_in_short
+returns-then-list-long c = legal_in_short _ _ c.args.sheet.fine (omega arith)
 
 pub loop-i-init : goal.loop-i-init
 unfolding all_of
-loop-i-init c = (search rules, search rules, search legal_in_fits, search legal_sheet_long, search rules, search rules, search rules, refl)
+loop-i-init c = refl
 
-pub row_inside-row-requires : goal.row_inside-row-requires
-unfolding all_of
-row_inside-row-requires c = (search rules, search rules)
-
-pub record_in-s-requires : goal.record_in-s-requires
-unfolding all_of
-record_in-s-requires c = (search rules, search rules)
+pub returns-then-not-is_legal_record : goal.returns-then-not-is_legal_record
+returns-then-not-is_legal_record c = legal_in_fails _ _ c.args.sheet.fine _ (omega arith) (rw (c.row.ensures, c.record_in.ensures) at c.if-not-is_legal_record.ensures)
 
 pub loop-i-preserved : goal.loop-i-preserved
-unfolding all_of
-loop-i-preserved c = (search rules, search rules, search rules, search rules, search rules, search rules, search rules, search legal_in_more)
-
-pub returns-else-fine : goal.returns-else-fine
-unfolding all_of
-returns-else-fine c = search legal_in_fails
+loop-i-preserved c = legal_in_more _ _ _ c.loop-i.invariant (rw (c.row.ensures, c.record_in.ensures) at c.if-not-is_legal_record.ensures)
 
 pub returns : goal.returns
-unfolding all_of
-returns c = search legal_in_done
+returns c =
+    let long : ℕ = c.args.sheet.rows * record_wide in
+    let rows : c.loop-i.i ≡ (sheet_in c.args.sheet.list.now).count = omega arith in
+    legal_in_done _ _ c.args.sheet.fine (rw rows at c.loop-i.invariant) _
+    (rw (← c.args.sheet.counted) (zero_rest long c.args.list.now _ (take_all _ (drop long c.args.list.now) (omega (arith, length-drop {A = ℕ}))) _ c.is_zero.ensures.0 c.is_zero.ensures.1))

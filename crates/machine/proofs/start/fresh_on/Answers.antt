@@ -1,20 +1,16 @@
 -- `fresh_on` meets its promise. Assumes nothing.
-use Rattle.basis.specs.Prelude.{rules}
-use Rattle.machine.proofs.Inside.ChecksInPlace.{so_legal}
-use Rattle.machine.proofs.Inside.FreshLists.{fresh_scaled, cleared_long, fresh_on_10, fresh_on_15, fresh_on_written}
+use Rattle.machine.proofs.Inside.FreshLists.{cleared_long, fresh_on_10, fresh_on_15, fresh_on_written}
+use Rattle.machine.proofs.Inside.Handed.{handed_on}
 use Rattle.machine.proofs.start.fresh_on.Goals as goal
 
-pub overflow_mul-n : goal.overflow_mul-n
-overflow_mul-n c = search (rules, fresh_scaled)
+pub returns-in_err-sheet : goal.returns-in_err-sheet
+returns-in_err-sheet c = rw (handed_on _ _ c.from_residual.ensures.1) (fresh_on_10 _ _ _ _ c.in_err-sheet.ensures.told)
 
-pub returns-then-list-n : goal.returns-then-list-n
-returns-then-list-n c = search fresh_on_15
+pub returns-then-list-sheet : goal.returns-then-list-sheet
+returns-then-list-sheet c = rw (← c.in_ok-sheet.ensures.own) (fresh_on_15 _ _ c.in_ok-sheet.sheet.fine _ c.in_ok-sheet.sheet.counted c.if-list-sheet.true)
 
 pub put_fresh-requires : goal.put_fresh-requires
-put_fresh-requires c = (search rules, search so_legal, search cleared_long)
-
-pub returns-then-fine : goal.returns-then-fine
-returns-then-fine c = search fresh_on_written
+put_fresh-requires c = search cleared_long
 
 pub returns : goal.returns
-returns c = search fresh_on_10
+returns c = rw (← c.in_ok-sheet.ensures.own) (fresh_on_written _ _ c.in_ok-sheet.sheet.fine _ c.in_ok-sheet.sheet.counted _ _ c.if-list-sheet.false c.clear_from.ensures c.put_fresh.ensures)
