@@ -6,8 +6,6 @@ pub use Rattle.basis.specs.Refusals.{Outcome, accepted, outcome, refused}
 unfoldable pub use Rattle.basis.specs.Refusals.{first_of}
 unfoldable pub use Rattle.basis.specs.Upto.{upto}
 unfoldable pub use Rattle.basis.specs.Words.{all_of}
-pub use Rattle.basis.specs.declared.refusal.Refusal.{Refusal}
-pub use Rattle.basis.specs.declared.refusal.Refusal.TheVariants.{Accepted, Refused}
 pub use Rattle.machine.proofs.Inside.Answers.{slot_shows}
 pub use Rattle.machine.proofs.StatesAfter.{fresh_of_zeros, slot_in_state}
 pub use Rattle.machine.specs.Answers.{FreshAnswer, RunAnswer, SlotAnswer, entries_of, run_answer, slot_answer, slot_by}

@@ -5,12 +5,12 @@ use Rattle.watch.proofs.Names.{outcome, outcome_one_to_one, sheet_in, play_answe
 use Rattle.watch.specs.declared.play.Played.{Played}
 
 -- `play_slot`: the answer, and the state's list and the buffer after it
-pub played_one_to_one : (a b : Played) (l m x y : List ℕ) → play_answer (outcome a.refusal) l (x, a.long) ≡ play_answer (outcome b.refusal) m (y, b.long) → (a ≡ b) × (l ≡ m) × (x ≡ y)
+pub played_one_to_one : (a b : Played) (l m x y : List ℕ) → play_answer (outcome a.ended) l (x, a.long) ≡ play_answer (outcome b.ended) m (y, b.long) → (a ≡ b) × (l ≡ m) × (x ≡ y)
 played_one_to_one a b l m x y e =
-    let r = outcome_one_to_one a.refusal b.refusal (λ i. (e i).outcome) in (λ i. record { refusal = r i; long = (e i).long }, λ i. (e i).state, λ i. (e i).text)
+    let r = outcome_one_to_one a.ended b.ended (λ i. (e i).outcome) in (λ i. record { ended = r i; long = (e i).long }, λ i. (e i).state, λ i. (e i).text)
 
 pub play_slot_same : (sheet list rel : List ℕ) (k : ℕ) (buffer : List ℕ) (a b : Played) (l m x y : List ℕ)
-    → play_answer (outcome a.refusal) l (x, a.long) ≡ played_slot (sheet_in sheet) list rel k buffer → play_answer (outcome b.refusal) m (y, b.long) ≡ played_slot (sheet_in sheet) list rel k buffer
+    → play_answer (outcome a.ended) l (x, a.long) ≡ played_slot (sheet_in sheet) list rel k buffer → play_answer (outcome b.ended) m (y, b.long) ≡ played_slot (sheet_in sheet) list rel k buffer
     → (a ≡ b) × (l ≡ m) × (x ≡ y)
 play_slot_same sheet list rel k buffer a b l m x y e f = played_one_to_one a b l m x y (same (played_slot (sheet_in sheet) list rel k buffer) _ _ e f)
 

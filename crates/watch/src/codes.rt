@@ -20,10 +20,8 @@ fn put_codes(text: &mut [u8], at: usize, codes: &[u8]) -> usize
     ensures { (text.new, result) ≡ said (text.old, at) (codes_text codes.now) }
 {
     let mut next = at;
-    let mut i: usize = 0;
-    while i < codes.len() {
-        next = put_code(text, next, codes[i]);
-        i = i + 1;
+    for code in codes {
+        next = put_code(text, next, *code);
     }
     next
 }

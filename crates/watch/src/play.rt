@@ -7,10 +7,10 @@ ghost use Rattle.watch.specs.Texts.{play_answer, played_slot};
 use crate::codes::{put_refused_slot, put_slot};
 use basis::{MOST_ROWS, Refusal};
 
-// What playing a slot answers: the refusal, and how many bytes its line has.
+// What playing a slot answers: why the slot is refused, if it is, and how many bytes its line has.
 #[derive(Clone, Copy)]
 pub struct Played {
-    pub refusal: Refusal,
+    pub ended: Result<(), Refusal>,
     pub long: usize,
 }
 
@@ -22,20 +22,22 @@ pub fn play_slot(
     slot: u64,
     text: &mut [u8],
 ) -> Played
-    ensures { play_answer (outcome result.refusal) state.new (text.new, result.long) ≡ played_slot (sheet_in sheet.now) state.old releases.now slot text.old }
+    ensures { play_answer (outcome result.ended) state.new (text.new, result.long) ≡ played_slot (sheet_in sheet.now) state.old releases.now slot text.old }
 {
     let mut codes = [0u8; MOST_ROWS];
-    let refusal = machine::slot_on(sheet, state, releases, &mut codes);
-    match refusal {
-        Refusal::Refused(number, row) => Played {
-            refusal: Refusal::Refused(number, row),
-            long: put_refused_slot(text, 0, slot, number, row as u64),
-        },
-        Refusal::Accepted => {
+    match machine::slot_on(sheet, state, releases, &mut codes) {
+        Ok(()) => {
             let count = sheet::count(sheet) as usize;
             Played {
-                refusal: Refusal::Accepted,
+                ended: Ok(()),
                 long: put_slot(text, 0, slot, &codes[..count]),
+            }
+        }
+        Err(refusal) => {
+            let (number, row) = refusal.into();
+            Played {
+                ended: Err(refusal),
+                long: put_refused_slot(text, 0, slot, number, row as u64),
             }
         }
     }

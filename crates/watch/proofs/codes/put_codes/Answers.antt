@@ -4,13 +4,13 @@ use Rattle.watch.proofs.Names.{codes_text, said}
 use Rattle.watch.proofs.Inside.Lines.{code_said, codes_said}
 use Rattle.watch.proofs.codes.put_codes.Goals as goal
 
-pub loop-i-init : goal.loop-i-init
+pub loop-code-init : goal.loop-code-init
 unfolding said codes_text
-loop-i-init c = (search rules, search rules, refl)
+loop-code-init c = (search rules, refl)
 
-pub loop-i-preserved : goal.loop-i-preserved
+pub loop-code-preserved : goal.loop-code-preserved
 unfolding said codes_text
-loop-i-preserved c = (search rules, search rules, search code_said)
+loop-code-preserved c = (search rules, search code_said)
 
 pub returns : goal.returns
 unfolding said codes_text

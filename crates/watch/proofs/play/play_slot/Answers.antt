@@ -3,13 +3,13 @@ use Rattle.watch.proofs.Inside.Slots.{play_refused, codes_there, codes_part, pla
 use Rattle.watch.proofs.play.play_slot.Goals as goal
 
 pub slice_bounds-codes-end : goal.slice_bounds-codes-end
-slice_bounds-codes-end c = search codes_there
+slice_bounds-codes-end c = codes_there _ _ _ c.args.text.now c.args.slot _ _ c.in-Ok.ensures _ c.count-count.ensures
 
 pub slice_bounds-put_slot-end : goal.slice_bounds-put_slot-end
-slice_bounds-put_slot-end c = search codes_part
+slice_bounds-put_slot-end c = codes_part _ _ _ c.args.text.now c.args.slot _ _ c.in-Ok.ensures _ c.count-count.ensures
 
-pub returns-in-Refused : goal.returns-in-Refused
-returns-in-Refused c = search play_refused
+pub returns-in-Ok : goal.returns-in-Ok
+returns-in-Ok c = play_accepted _ _ _ c.args.text.now c.args.slot _ _ c.in-Ok.ensures _ c.count-count.ensures _ c.put_slot.ensures
 
-pub returns-in-Accepted : goal.returns-in-Accepted
-returns-in-Accepted c = search play_accepted
+pub returns-in-Err : goal.returns-in-Err
+returns-in-Err c = play_refused _ _ _ _ _ _ _ _ _ c.in-Err.ensures _ (rw (← c.into-number.ensures) c.put_refused_slot.ensures)
