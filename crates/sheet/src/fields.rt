@@ -35,7 +35,7 @@ pub fn row_at(list: &[u64], k: usize) -> Row
     }
 }
 
-// Its row k, where the list has room for it, read without a look at its end.
+// Its row k, where the list has room for it. It stands beside `row_in` for speed: it is read without a look at the list's end.
 pub(crate) fn row_inside(list: &[u64], k: usize) -> Row
     requires { (k < most_rows) × (sheet_long (k + 1) ≤ length list.now) }
     ensures { result ≡ row_at (sheet_in list.now) k }
