@@ -12,7 +12,6 @@ unfoldable pub use Rattle.basis.specs.Upto.{pair_cell, upto}
 pub use Rattle.basis.specs.Words.{pick}
 unfoldable pub use Rattle.basis.specs.Words.{all_of, sum}
 pub use Rattle.basis.specs.declared.refusal.Refusal.{Refusal}
-pub use Rattle.basis.specs.declared.refusal.Refusal.TheVariants.{Accepted, Refused}
 pub use Rattle.bound.specs.Bound.{bounds_of}
 unfoldable pub use Rattle.bound.specs.Bound.{bound_by, bounds_by, holds, judge, least, result_of, results_to}
 pub use Rattle.bound.specs.Lists.{results_long}
@@ -34,7 +33,8 @@ unfoldable pub use Rattle.machine.specs.Lists.{fresh_on, put_record, put_state, 
 unfoldable pub use Rattle.machine.specs.Slot.{free_at}
 pub use Rattle.machine.specs.States.{State, record_at}
 unfoldable pub use Rattle.machine.specs.States.{fresh_state, legal_state}
-pub use Rattle.numbers.specs.Numbers.{number, step, up_to}
+pub use Rattle.numbers.proofs.Encoding.{up_to_no, up_to_ok}
+pub use Rattle.numbers.specs.Numbers.{number, up_to}
 unfoldable pub use Rattle.numbers.specs.Numbers.{groups, up_to_by}
 pub use Rattle.page.specs.Pages.{Page}
 unfoldable pub use Rattle.page.specs.Pages.{written}

@@ -29,22 +29,20 @@ fn record_at(state: State, k: usize) -> RowState
 fn cell_of(state: State, at: usize) -> u64
     ensures { result ≡ state_cell (held state) at }
 {
-    let s = record_at(state, at / 2);
-    let job = s.job;
+    let job = record_at(state, at / 2).job;
     if at % 2 == 0 {
-        return job.remaining;
+        job.remaining
+    } else {
+        job.since
     }
-    job.since
 }
 
 // Makes a list the list of a state; places past its records are made zero.
 fn put_state(list: &mut [u64], state: State)
     ensures { list.new ≡ filled (state_cell (held state)) list.old }
 {
-    let mut i: usize = 0;
-    while i < list.len() {
-        list[i] = cell_of(state, i);
-        i += 1;
+    for (at, place) in list.iter_mut().enumerate() {
+        *place = cell_of(state, at);
     }
 }
 
@@ -60,21 +58,15 @@ pub extern "C" fn giachimu_box(
 ) -> u64
     ensures { ((result, place.new), (done.new, (list.new, codes.new))) ≡ box_on sheet.now list.old releases.now codes.old }
 {
-    let fine = sheet::is_legal(sheet);
-    if fine {
-        let n = sheet::count(sheet) as usize;
-        if list.len() < n * 2 {
-            *done = 0;
-            return tell(Refusal::Refused(15, 0), place);
-        }
-        let whole = sheet::sheet_in(sheet);
-        let ran = aboard::box_run(whole, releases, codes);
-        let state = ran.state;
-        put_state(list, state);
-        let refusal = ran.refusal;
-        *done = ran.done;
-        return tell(refusal, place);
-    }
     *done = 0;
-    tell(Refusal::Refused(10, 0), place)
+    if !sheet::is_legal(sheet) {
+        return tell(Err(Refusal::Sheet), place);
+    }
+    if list.len() < sheet::count(sheet) as usize * 2 {
+        return tell(Err(Refusal::Room), place);
+    }
+    let ran = aboard::box_run(sheet::sheet_in(sheet), releases, codes);
+    put_state(list, ran.state);
+    *done = ran.done;
+    tell(ran.ended, place)
 }

@@ -3,16 +3,13 @@ ghost use Rattle.std.specs.Prelude.{◌≡◌};
 ghost use Rattle.exports.specs.Answers.{fresh_in, slot_on, run_on, margin_in};
 
 use crate::telling::tell;
-use basis::Refusal;
-use machine::Margin;
 
 // Writes the fresh state of a sheet into a list.
 #[unsafe(no_mangle)]
 pub extern "C" fn giachimu_fresh(sheet: &[u64], list: &mut [u64], place: &mut usize) -> u64
     ensures { ((result, place.new), list.new) ≡ fresh_in sheet.now list.old }
 {
-    let refusal = machine::fresh_on(sheet, list);
-    tell(refusal, place)
+    tell(machine::fresh_on(sheet, list), place)
 }
 
 // One slot: the state in the list becomes the next one, and the codes are written.
@@ -26,8 +23,7 @@ pub extern "C" fn giachimu_slot(
 ) -> u64
     ensures { ((result, place.new), (list.new, codes.new)) ≡ slot_on sheet.now list.old releases.now codes.old }
 {
-    let refusal = machine::slot_on(sheet, list, releases, codes);
-    tell(refusal, place)
+    tell(machine::slot_on(sheet, list, releases, codes), place)
 }
 
 // A run of slots: the slots done, the state in the list after them, and their codes.
@@ -43,9 +39,8 @@ pub extern "C" fn giachimu_run(
     ensures { ((result, place.new), (done.new, (list.new, codes.new))) ≡ run_on sheet.now list.old releases.now codes.old }
 {
     let ran = machine::run_on(sheet, list, releases, codes);
-    let refusal = ran.refusal;
     *done = ran.done;
-    tell(refusal, place)
+    tell(ran.ended, place)
 }
 
 // The margin of a row: 1 and its margin where it has a job, else 0 and no margin.
@@ -60,17 +55,16 @@ pub extern "C" fn giachimu_margin(
 ) -> u64
     ensures { ((result, place.new), (job.new, margin.new)) ≡ margin_in sheet.now list.now row (job.old, margin.old) }
 {
-    let told = machine::margin_on(sheet, list, row);
-    match told {
-        Margin::Refused(number, at) => tell(Refusal::Refused(number, at), place),
-        Margin::NoJob => {
+    match machine::margin_on(sheet, list, row) {
+        Ok(None) => {
             *job = 0;
-            tell(Refusal::Accepted, place)
+            tell(Ok(()), place)
         }
-        Margin::Is(value) => {
+        Ok(Some(value)) => {
             *job = 1;
             *margin = value;
-            tell(Refusal::Accepted, place)
+            tell(Ok(()), place)
         }
+        Err(refusal) => tell(Err(refusal), place),
     }
 }

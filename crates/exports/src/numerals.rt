@@ -4,7 +4,6 @@ ghost use Rattle.exports.specs.Further.{number_on, up_to_on};
 
 use crate::telling::tell;
 use basis::Refusal;
-use numbers::Number;
 
 // The number at a place of some bytes: its value, and the place after it.
 #[unsafe(no_mangle)]
@@ -17,14 +16,13 @@ pub extern "C" fn giachimu_number(
 ) -> u64
     ensures { ((result, place.new), (value.new, after.new)) ≡ number_on bytes.now at (value.old, after.old) }
 {
-    let number = numbers::read_number(bytes, at);
-    match number {
-        Number::Refused(k, p) => tell(Refusal::Refused(k, p), place),
-        Number::Is(v, next) => {
+    match numbers::read_number(bytes, at) {
+        Ok((v, next)) => {
             *value = v;
             *after = next;
-            tell(Refusal::Accepted, place)
+            tell(Ok(()), place)
         }
+        Err(refusal) => tell(Err(refusal), place),
     }
 }
 
@@ -40,13 +38,12 @@ pub extern "C" fn giachimu_number_up_to(
 ) -> u64
     ensures { ((result, place.new), (value.new, after.new)) ≡ up_to_on bytes.now at most (value.old, after.old) }
 {
-    let number = numbers::read_up_to(bytes, at, most, 7, 8);
-    match number {
-        Number::Refused(k, p) => tell(Refusal::Refused(k, p), place),
-        Number::Is(v, next) => {
+    match numbers::read_up_to(bytes, at, most, Refusal::Zero(at), Refusal::Over(at)) {
+        Ok((v, next)) => {
             *value = v;
             *after = next;
-            tell(Refusal::Accepted, place)
+            tell(Ok(()), place)
         }
+        Err(refusal) => tell(Err(refusal), place),
     }
 }

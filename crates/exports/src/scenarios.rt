@@ -3,7 +3,6 @@ ghost use Rattle.std.specs.Prelude.{◌≡◌};
 ghost use Rattle.exports.specs.Scenarios.{scenario_read, scenario_written};
 
 use crate::telling::tell;
-use basis::Refusal;
 
 // Reads a scenario's bytes into a release list, n entries a slot, and tells how many slots there are.
 #[unsafe(no_mangle)]
@@ -16,14 +15,12 @@ pub extern "C" fn giachimu_read_scenario(
 ) -> u64
     ensures { ((result, place.new), (slots.new, releases.new)) ≡ scenario_read sheet.now bytes.now (slots.old, releases.old) }
 {
-    let read = scenario::read_scenario(sheet, bytes, releases);
-    let refusal = read.refusal;
-    match refusal {
-        Refusal::Refused(number, at) => tell(Refusal::Refused(number, at), place),
-        Refusal::Accepted => {
-            *slots = read.slots;
-            tell(Refusal::Accepted, place)
+    match scenario::read_scenario(sheet, bytes, releases) {
+        Ok(count) => {
+            *slots = count;
+            tell(Ok(()), place)
         }
+        Err(refusal) => tell(Err(refusal), place),
     }
 }
 
@@ -38,13 +35,11 @@ pub extern "C" fn giachimu_write_scenario(
 ) -> u64
     ensures { ((result, place.new), (long.new, bytes.new)) ≡ scenario_written sheet.now releases.now (long.old, bytes.old) }
 {
-    let wrote = scenario::write_scenario(sheet, releases, bytes);
-    let refusal = wrote.refusal;
-    match refusal {
-        Refusal::Refused(number, at) => tell(Refusal::Refused(number, at), place),
-        Refusal::Accepted => {
-            *long = wrote.length;
-            tell(Refusal::Accepted, place)
+    match scenario::write_scenario(sheet, releases, bytes) {
+        Ok(count) => {
+            *long = count;
+            tell(Ok(()), place)
         }
+        Err(refusal) => tell(Err(refusal), place),
     }
 }

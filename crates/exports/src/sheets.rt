@@ -14,14 +14,13 @@ pub extern "C" fn giachimu_read(bytes: &[u8], list: &mut [u64], place: &mut usiz
     ensures { ((result, place.new), list.new) ≡ read_in bytes.now list.old }
 {
     let mut labels = [0u64; LABELS_LONG];
-    let refusal = reader::read_into(bytes, list, &mut labels);
-    match refusal {
-        Refusal::Refused(number, at) => tell(Refusal::Refused(number, at), place),
-        Refusal::Accepted => {
+    match reader::read_into(bytes, list, &mut labels) {
+        Ok(()) => {
             let n = sheet::count(list) as usize;
             sheet::clear_from(list, n * 4 + 2);
-            tell(Refusal::Accepted, place)
+            tell(Ok(()), place)
         }
+        Err(refusal) => tell(Err(refusal), place),
     }
 }
 
@@ -38,18 +37,17 @@ pub extern "C" fn giachimu_label(
 {
     let mut list = [0u64; SHEET_LONG];
     let mut labels = [0u64; LABELS_LONG];
-    let refusal = reader::read_into(bytes, &mut list, &mut labels);
-    match refusal {
-        Refusal::Refused(number, at) => tell(Refusal::Refused(number, at), place),
-        Refusal::Accepted => {
+    match reader::read_into(bytes, &mut list, &mut labels) {
+        Ok(()) => {
             let n = sheet::count(&list) as usize;
             if n <= row {
-                return tell(Refusal::Refused(14, 0), place);
+                return tell(Err(Refusal::Row(0)), place);
             }
             *start = labels[row * 2] as usize;
             *long = labels[row * 2 + 1] as usize;
-            tell(Refusal::Accepted, place)
+            tell(Ok(()), place)
         }
+        Err(refusal) => tell(Err(refusal), place),
     }
 }
 
@@ -59,14 +57,13 @@ pub extern "C" fn giachimu_labels(bytes: &[u8], labels: &mut [u64], place: &mut 
     ensures { ((result, place.new), labels.new) ≡ labels_on bytes.now labels.old }
 {
     let mut list = [0u64; SHEET_LONG];
-    let refusal = reader::read_into(bytes, &mut list, labels);
-    match refusal {
-        Refusal::Refused(number, at) => tell(Refusal::Refused(number, at), place),
-        Refusal::Accepted => {
+    match reader::read_into(bytes, &mut list, labels) {
+        Ok(()) => {
             let n = sheet::count(&list) as usize;
             sheet::clear_from(labels, n * 2);
-            tell(Refusal::Accepted, place)
+            tell(Ok(()), place)
         }
+        Err(refusal) => tell(Err(refusal), place),
     }
 }
 
@@ -82,13 +79,11 @@ pub extern "C" fn giachimu_write(
 ) -> u64
     ensures { ((result, place.new), (long.new, out.new)) ≡ sheet_written sheet.now bytes.now labels.now (long.old, out.old) }
 {
-    let wrote = writer::write_sheet(sheet, bytes, labels, out);
-    let refusal = wrote.refusal;
-    match refusal {
-        Refusal::Refused(number, at) => tell(Refusal::Refused(number, at), place),
-        Refusal::Accepted => {
-            *long = wrote.length;
-            tell(Refusal::Accepted, place)
+    match writer::write_sheet(sheet, bytes, labels, out) {
+        Ok(count) => {
+            *long = count;
+            tell(Ok(()), place)
         }
+        Err(refusal) => tell(Err(refusal), place),
     }
 }

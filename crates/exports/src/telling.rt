@@ -5,18 +5,14 @@ ghost use Rattle.exports.specs.Answers.{told};
 
 use basis::Refusal;
 
-// Tells a refusal: its place is written, its number is answered; zeros where nothing is refused.
-pub(crate) fn tell(refusal: Refusal, place: &mut usize) -> u64
-    ensures { (result, place.new) ≡ told (outcome refusal) }
+// Tells how a call ended: a refusal's place is written, its number is answered; zeros where nothing is refused.
+pub(crate) fn tell(ended: Result<(), Refusal>, place: &mut usize) -> u64
+    ensures { (result, place.new) ≡ told (outcome ended) }
 {
-    match refusal {
-        Refusal::Accepted => {
-            *place = 0;
-            0
-        }
-        Refusal::Refused(number, at) => {
-            *place = at;
-            number
-        }
-    }
+    let (number, at) = match ended {
+        Ok(()) => (0, 0),
+        Err(refusal) => refusal.into(),
+    };
+    *place = at;
+    number
 }

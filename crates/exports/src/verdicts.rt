@@ -1,25 +1,13 @@
 // The verdict's text, green, and the bounds.
-ghost use Rattle.std.specs.Prelude.{◌≡◌, true, ◌++◌, length, drop, ◌≤◌};
+ghost use Rattle.std.specs.Prelude.{◌≡◌, true};
 ghost use Rattle.reader.specs.Answers.{reading};
 ghost use Rattle.green.specs.Demand.{NoJobIsLate};
 ghost use Rattle.green.specs.Green.{green_of};
-ghost use Rattle.exports.specs.Answers.{flag, verdict_in, bounds_in};
+ghost use Rattle.exports.specs.Answers.{verdict_in, bounds_in};
 
 use crate::telling::tell;
 use basis::Refusal;
 use dashboard::TEXT_SIZE;
-
-// Copies a text to the start of a buffer.
-fn copy(text: &[u8], buffer: &mut [u8])
-    requires { length text.now ≤ length buffer.old }
-    ensures { buffer.new ≡ text.now ++ drop (length text.now) buffer.old }
-{
-    let mut i: usize = 0;
-    while i < text.len() {
-        buffer[i] = text[i];
-        i += 1;
-    }
-}
 
 // Writes the text of the verdict on some bytes, and how long it is: straight into a buffer that has room for any, else by a buffer of its own.
 #[unsafe(no_mangle)]
@@ -33,16 +21,16 @@ pub extern "C" fn giachimu_verdict(
 {
     if TEXT_SIZE <= text.len() {
         *long = dashboard::write_verdict(bytes, text);
-        return tell(Refusal::Accepted, place);
+        return tell(Ok(()), place);
     }
     let mut whole = dashboard::text_buffer();
     let count = dashboard::write_verdict(bytes, &mut whole);
-    if count <= text.len() {
-        copy(&whole[..count], text);
-        *long = count;
-        return tell(Refusal::Accepted, place);
+    if text.len() < count {
+        return tell(Err(Refusal::Room), place);
     }
-    tell(Refusal::Refused(15, 0), place)
+    text[..count].copy_from_slice(&whole[..count]);
+    *long = count;
+    tell(Ok(()), place)
 }
 
 // Whether no job of the sheet in these bytes is ever late.
@@ -51,16 +39,6 @@ pub extern "C" fn giachimu_green(bytes: &[u8]) -> bool
     ensures { (result ≡ green_of bytes.now) × (result ≡ true → NoJobIsLate (reading bytes.now).1) }
 {
     green::green(bytes)
-}
-
-// Yes and no as numbers.
-fn flag(test: bool) -> u64
-    ensures { result ≡ flag test }
-{
-    if test {
-        return 1;
-    }
-    0
 }
 
 // The bounds of a sheet's list: whether it holds, and a word and a bound for each row.
@@ -73,13 +51,11 @@ pub extern "C" fn giachimu_bounds(
 ) -> u64
     ensures { ((result, place.new), (holds.new, list.new)) ≡ bounds_in sheet.now (holds.old, list.old) }
 {
-    let judgement = bound::bounds_on(sheet, list);
-    let refusal = judgement.refusal;
-    match refusal {
-        Refusal::Refused(number, at) => tell(Refusal::Refused(number, at), place),
-        Refusal::Accepted => {
-            *holds = flag(judgement.holds);
-            tell(Refusal::Accepted, place)
+    match bound::bounds_on(sheet, list) {
+        Ok(all) => {
+            *holds = u64::from(all);
+            tell(Ok(()), place)
         }
+        Err(refusal) => tell(Err(refusal), place),
     }
 }

@@ -23,8 +23,8 @@ pub extern "C" fn giachimu_fixed(number: usize, list: &mut [u64], place: &mut us
     let sheet = tables::fixed_sheet(number);
     let n = sheet.count as usize;
     if list.len() < n * 4 + 2 {
-        return tell(Refusal::Refused(15, 0), place);
+        return tell(Err(Refusal::Room), place);
     }
     sheet::put_sheet(list, sheet);
-    tell(Refusal::Accepted, place)
+    tell(Ok(()), place)
 }

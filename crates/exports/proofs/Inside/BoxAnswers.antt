@@ -37,6 +37,6 @@ module _ (s list rel cs : List ℕ) (b : Bool) (eb : b ≡ legal (sheet_in s)) w
     box_has_no_room m t f = rw (f, sym eb ∙ q, lt-leb (state_long (sheet_in s).count) (length list) (omega (arith, en)))
 
     pub box_answered : n * 2 ≤ length list → (h : Sheet) → h ≡ sheet_in s → (r : Ran) (ds : List ℕ) → ran r ds ≡ run h (fresh h).state rel cs
-        → (after : List ℕ) → after ≡ filled (state_cell (held r.state)) list → (t : ℕ × ℕ) → t ≡ told (outcome r.refusal) → (t, (r.done, (after, ds))) ≡ box_on s list rel cs
+        → (after : List ℕ) → after ≡ filled (state_cell (held r.state)) list → (t : ℕ × ℕ) → t ≡ told (outcome r.ended) → (t, (r.done, (after, ds))) ≡ box_on s list rel cs
     unfolding box_on box_of
     box_answered m h eh r ds er after ea t f = rw (f, ea, sym eb, q, le-leb (state_long (sheet_in s).count) (length list) (omega (arith, en)), sym (rw eh at er))

@@ -1,45 +1,45 @@
 -- What the calls that read a scenario and those that write answer, from the answers of what they call. Assumes nothing.
 use Rattle.basis.specs.Prelude.{ℕ, ◌≤◌, ◌≡◌, refl, sym, Bool, true, false, List, arith, length, leb, sets}
-use Rattle.exports.proofs.Names.{pick, Outcome, accepted, refused, told, Accepted, Refused, sheet_in, read_told, written_told, read_scenario, write_scenario, lent_told, scenario_read, scenario_written, sheet_written, write_sheet}
-use Rattle.scenario.specs.declared.reader.ScenarioRead.{ScenarioRead}
+use Rattle.exports.proofs.Names.{pick, Outcome, accepted, refused, told, sheet_in, read_scenario, write_scenario, lent_told, scenario_read, scenario_written, sheet_written, write_sheet}
 use Rattle.basis.specs.Lent.{Answer, answer, nothing_by, put_all, written_by}
-use Rattle.basis.specs.declared.stored.Written.{Written}
+
+-- whatever reads into a lent list or writes into a lent buffer, refused or accepted
+module _ (after : List ℕ) (x : Answer) (found : ℕ) (t : ℕ × ℕ) where
+  told_refused : (k p : ℕ) → nothing_by (refused k p) after ≡ x → t ≡ (k, p) → (t, (found, after)) ≡ lent_told x found
+  told_refused k p e f = rw (f, sym e)
+
+  told_accepted : (n : ℕ) → answer accepted n after ≡ x → t ≡ (0, 0) → (t, (n, after)) ≡ lent_told x found
+  told_accepted n e f = rw (f, sym e)
 
 -- `giachimu_read_scenario`
-module _ (sheet s list : List ℕ) (r : ScenarioRead) (after : List ℕ) (er : read_told r after ≡ read_scenario (sheet_in sheet) s list) (found : ℕ) (t : ℕ × ℕ) where
-  pub read_refused : (k p : ℕ) → r.refusal ≡ Refused k p → t ≡ (k, p) → (t, (found, after)) ≡ scenario_read sheet s (found, list)
+module _ (sheet s list after : List ℕ) (found : ℕ) (t : ℕ × ℕ) where
+  pub read_refused : (k p : ℕ) → nothing_by (refused k p) after ≡ read_scenario (sheet_in sheet) s list → t ≡ (k, p) → (t, (found, after)) ≡ scenario_read sheet s (found, list)
   unfolding scenario_read
-  read_refused k p q f = rw (f, sym er, q)
+  read_refused = told_refused after _ found t
 
-  pub read_accepted : r.refusal ≡ Accepted → t ≡ (0, 0) → (t, (r.slots, after)) ≡ scenario_read sheet s (found, list)
+  pub read_accepted : (n : ℕ) → answer accepted n after ≡ read_scenario (sheet_in sheet) s list → t ≡ (0, 0) → (t, (n, after)) ≡ scenario_read sheet s (found, list)
   unfolding scenario_read
-  read_accepted q f = rw (f, sym er, q)
+  read_accepted = told_accepted after _ found t
 
--- `giachimu_write_scenario` and `giachimu_write`
-module _ (r : Written) (after : List ℕ) (x : Answer) (er : written_told r after ≡ x) (found : ℕ) (t : ℕ × ℕ) where
-  told_refused : (k p : ℕ) → r.refusal ≡ Refused k p → t ≡ (k, p) → (t, (found, after)) ≡ lent_told x found
-  told_refused k p q f = rw (f, sym er, q)
-
-  told_accepted : r.refusal ≡ Accepted → t ≡ (0, 0) → (t, (r.length, after)) ≡ lent_told x found
-  told_accepted q f = rw (f, sym er, q)
-
-module _ (sheet list out : List ℕ) (r : Written) (after : List ℕ) (er : written_told r after ≡ write_scenario (sheet_in sheet) list out) (found : ℕ) (t : ℕ × ℕ) where
-  pub write_refused : (k p : ℕ) → r.refusal ≡ Refused k p → t ≡ (k, p) → (t, (found, after)) ≡ scenario_written sheet list (found, out)
+-- `giachimu_write_scenario`
+module _ (sheet list out after : List ℕ) (found : ℕ) (t : ℕ × ℕ) where
+  pub write_refused : (k p : ℕ) → nothing_by (refused k p) after ≡ write_scenario (sheet_in sheet) list out → t ≡ (k, p) → (t, (found, after)) ≡ scenario_written sheet list (found, out)
   unfolding scenario_written
-  write_refused = told_refused r after _ er found t
+  write_refused = told_refused after _ found t
 
-  pub write_accepted : r.refusal ≡ Accepted → t ≡ (0, 0) → (t, (r.length, after)) ≡ scenario_written sheet list (found, out)
+  pub write_accepted : (n : ℕ) → answer accepted n after ≡ write_scenario (sheet_in sheet) list out → t ≡ (0, 0) → (t, (n, after)) ≡ scenario_written sheet list (found, out)
   unfolding scenario_written
-  write_accepted = told_accepted r after _ er found t
+  write_accepted = told_accepted after _ found t
 
-module _ (sheet s labels out : List ℕ) (r : Written) (after : List ℕ) (er : written_told r after ≡ write_sheet (sheet_in sheet) s labels out) (found : ℕ) (t : ℕ × ℕ) where
-  pub sheet_refused : (k p : ℕ) → r.refusal ≡ Refused k p → t ≡ (k, p) → (t, (found, after)) ≡ sheet_written sheet s labels (found, out)
+-- `giachimu_write`
+module _ (sheet s labels out after : List ℕ) (found : ℕ) (t : ℕ × ℕ) where
+  pub sheet_refused : (k p : ℕ) → nothing_by (refused k p) after ≡ write_sheet (sheet_in sheet) s labels out → t ≡ (k, p) → (t, (found, after)) ≡ sheet_written sheet s labels (found, out)
   unfolding sheet_written
-  sheet_refused = told_refused r after _ er found t
+  sheet_refused = told_refused after _ found t
 
-  pub sheet_accepted : r.refusal ≡ Accepted → t ≡ (0, 0) → (t, (r.length, after)) ≡ sheet_written sheet s labels (found, out)
+  pub sheet_accepted : (n : ℕ) → answer accepted n after ≡ write_sheet (sheet_in sheet) s labels out → t ≡ (0, 0) → (t, (n, after)) ≡ sheet_written sheet s labels (found, out)
   unfolding sheet_written
-  sheet_accepted = told_accepted r after _ er found t
+  sheet_accepted = told_accepted after _ found t
 
 -- what is put where there is room is told, or nothing is changed
 pub put_kept : (k : ℕ) (xs l : List ℕ) (found : ℕ) → ((lent_told (put_all k xs l) found).0.0 ≡ 0 → ⊥) → (lent_told (put_all k xs l) found).1 ≡ (found, l)

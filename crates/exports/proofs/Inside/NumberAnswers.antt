@@ -1,28 +1,26 @@
 -- What the calls about a number and a worked sheet answer at each way out. Assumes nothing.
 use Rattle.basis.specs.Prelude.{ℕ, zero, suc, ◌+◌, ◌*◌, ◌≤◌, ◌<◌, ◌≡◌, sym, List, arith, length, lt-leb, le-leb, w64, Fits}
-use Rattle.exports.proofs.Names.{step, number, up_to, Sheet, filled, sheet_cell, sheet_long, fixed_sheet, fields_in, step_told, number_on, up_to_on, fixed_in}
-use Rattle.numbers.specs.declared.number.Number.{Number}
-use Rattle.numbers.specs.declared.number.Number.TheVariants.{Is, Refused}
+use Rattle.exports.proofs.Names.{ok, refuse, number, up_to, Sheet, filled, sheet_cell, sheet_long, fixed_sheet, fields_in, step_told, number_on, up_to_on, fixed_in}
 
 -- `giachimu_number`
-module _ (s : List ℕ) (at : ℕ) (r : Number) (e : step r ≡ number s at) (found t : ℕ × ℕ) where
-  pub number_refused : (k p : ℕ) → r ≡ Refused k p → t ≡ (k, p) → (t, found) ≡ number_on s at found
+module _ (s : List ℕ) (at : ℕ) (found t : ℕ × ℕ) where
+  pub number_refused : (k p : ℕ) → refuse k p ≡ number s at → t ≡ (k, p) → (t, found) ≡ number_on s at found
   unfolding number_on step_told
-  number_refused k p q f = rw (f, sym e, q)
+  number_refused k p e f = rw (f, sym e)
 
-  pub number_is : (v n : ℕ) → r ≡ Is v n → t ≡ (0, 0) → (t, (v, n)) ≡ number_on s at found
+  pub number_is : (v n : ℕ) → ok v n ≡ number s at → t ≡ (0, 0) → (t, (v, n)) ≡ number_on s at found
   unfolding number_on step_told
-  number_is v n q f = rw (f, sym e, q)
+  number_is v n e f = rw (f, sym e)
 
 -- `giachimu_number_up_to`
-module _ (s : List ℕ) (at most : ℕ) (r : Number) (e : step r ≡ up_to most 7 8 s at) (found t : ℕ × ℕ) where
-  pub up_to_refused : (k p : ℕ) → r ≡ Refused k p → t ≡ (k, p) → (t, found) ≡ up_to_on s at most found
+module _ (s : List ℕ) (at most : ℕ) (found t : ℕ × ℕ) where
+  pub up_to_refused : (k p : ℕ) → refuse k p ≡ up_to most 7 8 s at → t ≡ (k, p) → (t, found) ≡ up_to_on s at most found
   unfolding up_to_on step_told
-  up_to_refused k p q f = rw (f, sym e, q)
+  up_to_refused k p e f = rw (f, sym e)
 
-  pub up_to_is : (v n : ℕ) → r ≡ Is v n → t ≡ (0, 0) → (t, (v, n)) ≡ up_to_on s at most found
+  pub up_to_is : (v n : ℕ) → ok v n ≡ up_to most 7 8 s at → t ≡ (0, 0) → (t, (v, n)) ≡ up_to_on s at most found
   unfolding up_to_on step_told
-  up_to_is v n q f = rw (f, sym e, q)
+  up_to_is v n e f = rw (f, sym e)
 
 -- a worked sheet has three rows at most
 few_rows : (k : ℕ) → (fixed_sheet k).count ≤ 3
