@@ -1,17 +1,17 @@
 -- What the reader of a slot, the reader and the writer of a scenario answer, and what they leave in the list and in the buffer.
-use Rattle.std.specs.Prelude.{◌%◌}
+use Rattle.std.specs.Prelude.{◌%◌, Result, Ok, Err}
 use Rattle.basis.specs.Prelude.{ℕ, List, length, get_or, ltb, eqb}
 use Rattle.basis.specs.Limits.{most_rows}
 use Rattle.basis.specs.Words.{pick}
-use Rattle.basis.specs.Refusals.{Outcome, accepted, refused, outcome, first_of}
+use Rattle.basis.specs.Refusals.{Outcome, accepted, refused, refused_by, first_of}
 use Rattle.basis.specs.Readers.{Step, ok, refuse}
-use Rattle.basis.specs.Lent.{Answer, answer, nothing_by, put_all, written_by}
+use Rattle.basis.specs.Lent.{Answer, nothing_by, put_all, written_by, written_told}
+use Rattle.basis.specs.declared.refusal.Refusal.{Refusal}
 use Rattle.sheet.specs.Legal.{legal}
 use Rattle.sheet.specs.declared.row.Sheet.{Sheet}
 use Rattle.scenario.specs.Form.{Held, budget_at, no_releases, slot, scenario}
 use Rattle.scenario.specs.Written.{file_of}
 use Rattle.scenario.specs.declared.slot.SlotRead.{SlotRead}
-use Rattle.scenario.specs.declared.reader.ScenarioRead.{ScenarioRead}
 
 -- What reading one slot answers: its outcome, the place after the slot, and an entry for each row.
 pub record FoundSlot : Type 0 where
@@ -22,9 +22,10 @@ pub record FoundSlot : Type 0 where
 abbrev pub found_slot : Outcome → ℕ → List ℕ → FoundSlot
 found_slot o next entries = record { outcome = o; next = next; entries = entries }
 
--- What the code's answer stands for.
-abbrev pub found_told : SlotRead → FoundSlot
-found_told r = found_slot (outcome r.refusal) r.next r.entries
+-- What the code's answer stands for: the slot, or the refusal with place 0 and zeros beside it.
+abbrev pub found_told : Result SlotRead Refusal → FoundSlot
+found_told (Ok r) = found_slot accepted r.next r.entries
+found_told (Err r) = found_slot (refused_by r) 0 (no_releases most_rows)
 
 -- What is handed over: the slot, or the one refusal and zeros beside it.
 abbrev pub slot_handed : Step (List ℕ) → FoundSlot
@@ -35,9 +36,9 @@ slot_handed (refuse number place) = found_slot (refused number place) 0 (no_rele
 unfoldable pub read_slot : Sheet → List ℕ → ℕ → FoundSlot
 read_slot h s at = slot_handed (pick (legal h) (slot h (no_releases most_rows) s at) (refuse 10 0))
 
--- What the code's answer stands for, with its list.
-abbrev pub read_told : ScenarioRead → List ℕ → Answer
-read_told r l = answer (outcome r.refusal) r.slots l
+-- What the code's answer stands for, with its list: as of what is written, so many slots, or the refusal and none.
+abbrev pub read_told : Result ℕ Refusal → List ℕ → Answer
+read_told = written_told
 
 -- What was read into a list.
 abbrev pub filled_by : Step Held → List ℕ → Answer

@@ -1,5 +1,5 @@
 -- Wrong rules of a scenario, each the rule of wish 1 but for one thing, and the files and lists that tell them.
-use Rattle.std.specs.Prelude.{◌+◌, ◌-◌, ◌/◌, ◌∷◌, ◌++◌}
+use Rattle.std.specs.Prelude.{Result, ◌+◌, ◌-◌, ◌/◌, ◌∷◌, ◌++◌}
 use Rattle.basis.specs.Prelude.{ℕ, zero, suc, List, [], length, set, take, drop, ltb, leb}
 use Rattle.basis.specs.Words.{pick}
 use Rattle.basis.specs.Refusals.{Outcome, accepted, refused}
@@ -10,14 +10,13 @@ use Rattle.scenario.specs.Form.{Held, no_slots, slot_before, mark_bytes, budget_
 use Rattle.scenario.specs.Written.{releases_in, releases_bytes}
 use Rattle.basis.specs.Lent.{Answer, answer, written_told, nothing_by, written_by}
 use Rattle.scenario.specs.Answers.{read_told, filled_by, check_list}
-use Rattle.scenario.specs.declared.reader.ScenarioRead.{ScenarioRead}
-use Rattle.basis.specs.declared.stored.Written.{Written}
+use Rattle.basis.specs.declared.refusal.Refusal.{Refusal}
 
 -- The code's answer with the list or the buffer after it.
-abbrev pub read_answer : ScenarioRead × List ℕ → Answer
+abbrev pub read_answer : Result ℕ Refusal × List ℕ → Answer
 read_answer (r, l) = read_told r l
 
-abbrev pub written_answer : Written × List ℕ → Answer
+abbrev pub written_answer : Result ℕ Refusal × List ℕ → Answer
 written_answer (r, out) = written_told r out
 
 -- k releases by another rule of a count, and of the least row after one.

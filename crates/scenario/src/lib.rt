@@ -2,9 +2,10 @@
 #![tactic(auto)]
 
 mod reader;
+mod rows;
 mod slot;
 mod writer;
 
-pub use reader::{MARK, ScenarioRead, read_scenario};
+pub use reader::{MARK, read_scenario};
 pub use slot::{SLOT_REACH, SlotRead, read_slot};
 pub use writer::write_scenario;

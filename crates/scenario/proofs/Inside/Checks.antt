@@ -1,56 +1,30 @@
 -- The checks of a list before it is written, and what a list that passes them shows. Assumes nothing.
-use Rattle.basis.specs.Prelude.{ℕ, ◌+◌, ◌%◌, ◌≤◌, ◌<◌, ◌≡◌, refl, sym, ap, ap₂, ◌∙◌, Bool, true, false, List, length, arith, eqb, get_or, eq-eqb, ne_eqb, eqb-true, mod-eq_of_lt, mul-mod_left, ◌*◌, mod-add-mod}
-use Rattle.scenario.proofs.Names.{first_found, first_more, Outcome, accepted, outcome, refused, first_of, pick, Refusal, check_list, check_whole, over_at, over_budget, budget_at, legal, Sheet}
-use Rattle.basis.specs.declared.refusal.Refusal.TheVariants as refusal-variants
+use Rattle.basis.specs.Prelude.{ℕ, ◌+◌, ◌%◌, ◌≤◌, ◌<◌, ◌≡◌, refl, sym, ap, ◌∙◌, Bool, true, false, List, length, arith, eqb, get_or, eq-eqb, ne_eqb, eqb-true, lt-ltb, le-ltb}
+use Rattle.scenario.proofs.Names.{first_found, first_more, Outcome, accepted, refused, first_of, pick, check_list, check_whole, over_at, over_budget, budget_at, legal, Sheet}
 
-module _ (h : Sheet) (l : List ℕ) (n i k : ℕ) (en : n ≡ h.count) (so_far : first_of i (over_at h l) ≡ accepted) (ek : k ≡ i % n) (v : ℕ) (ev : v ≡ budget_at h k)
-    (c : Refusal) (ec : outcome c ≡ over_budget v (get_or l i 0) k) where
-  here_is : outcome c ≡ over_at h l i
+-- entry i, where none before it is over
+module _ (h : Sheet) (l : List ℕ) (i n : ℕ) (en : n ≡ h.count) (so_far : first_of i (over_at h l) ≡ accepted) (v : ℕ) (ev : v ≡ budget_at h (i % n)) where
+  here_is : over_at h l i ≡ over_budget v (get_or l i 0) (i % n)
   unfolding over_at
-  here_is =
-      let q : k ≡ i % h.count = ek ∙ ap (λ (m : ℕ). i % m) en in
-      ec ∙ ap₂ (λ (b : ℕ) (m : ℕ). over_budget b (get_or l i 0) m) (ev ∙ ap (budget_at h) q) q
+  here_is = sym (ap (λ (b : ℕ). over_budget b (get_or l i 0) (i % n)) ev ∙ ap (λ (m : ℕ). over_budget (budget_at h (i % m)) (get_or l i 0) (i % m)) en)
 
-  pub entry_over : (a b : ℕ) → i < length l → c ≡ refusal-variants.Refused a b → refused a b ≡ first_of (length l) (over_at h l)
-  entry_over a b m f = sym (first_found (length l) i (over_at h l) a b m so_far (sym here_is ∙ ap outcome f))
+  pub entry_over : i < length l → v < get_or l i 0 → refused 12 (i % n) ≡ first_of (length l) (over_at h l)
+  unfolding over_budget
+  entry_over b o = sym (first_found (length l) i (over_at h l) 12 (i % n) b so_far (here_is ∙ simp (lt-ltb v (get_or l i 0) o)))
 
-  pub entry_fine : c ≡ refusal-variants.Accepted → first_of (i + 1) (over_at h l) ≡ accepted
-  entry_fine f = first_more i (over_at h l) so_far (sym here_is ∙ ap outcome f)
+  pub entry_fine : get_or l i 0 ≤ v → first_of (i + 1) (over_at h l) ≡ accepted
+  unfolding over_budget
+  entry_fine o = first_more i (over_at h l) so_far (here_is ∙ simp (le-ltb v (get_or l i 0) o))
 
-pub entries_fine : (h : Sheet) (l : List ℕ) (i : ℕ) → first_of i (over_at h l) ≡ accepted → i ≤ length l → length l ≤ i → accepted ≡ first_of (length l) (over_at h l)
-entries_fine h l i e a b = let q : i ≡ length l = omega arith in sym (rw q at e)
-
--- the row of an entry, and that of the next
-pub row_next : (n row : ℕ) → row + 1 < n → row + 1 ≡ (row + 1) % n
-row_next n row h = sym (mod-eq_of_lt h)
-
-pub row_first : (n row : ℕ) → row < n → n ≤ row + 1 → 0 ≡ (row + 1) % n
-row_first n row h k = let e : row + 1 ≡ 1 * n = omega arith in sym (ap (λ (i : ℕ). i % n) e ∙ mul-mod_left 1 n)
-
-pub row_none : (n count : ℕ) → n ≡ count → 1 ≤ count → 0 ≡ 0 % n
-row_none n count e h = let pos : 0 < n = omega arith in sym (mod-eq_of_lt pos)
-
-pub row_of_next : (n i row next : ℕ) → row ≡ i % n → next ≡ (row + 1) % n → next ≡ (i + 1) % n
-row_of_next n i row next e f = f ∙ ap (λ (k : ℕ). (k + 1) % n) e ∙ mod-add-mod i n 1
-
--- the ways out of the checks
-module _ (h : Sheet) (l : List ℕ) where
-  pub list_uneven : (n : ℕ) → n ≡ h.count → (length l % n ≡ 0 → ⊥) → refused 11 0 ≡ check_whole h l
+-- the ways out of `check_whole`
+module _ (h : Sheet) (l : List ℕ) (n : ℕ) (en : n ≡ h.count) where
+  pub list_uneven : (length l % n ≡ 0 → ⊥) → refused 11 0 ≡ check_whole h l
   unfolding check_whole
-  list_uneven n en d = sym (simp (ne_eqb (length l % h.count) 0 (λ z. d (ap (λ (k : ℕ). length l % k) en ∙ z))))
+  list_uneven d = sym (simp (ne_eqb (length l % h.count) 0 (λ z. d (ap (λ (k : ℕ). length l % k) en ∙ z))))
 
-  pub list_even : (n : ℕ) → n ≡ h.count → length l % n ≡ 0 → (o : Outcome) → o ≡ first_of (length l) (over_at h l) → o ≡ check_whole h l
+  pub list_even : length l % n ≡ 0 → (o : Outcome) → o ≡ first_of (length l) (over_at h l) → o ≡ check_whole h l
   unfolding check_whole
-  list_even n en d o e = e ∙ sym (simp (eq-eqb (length l % h.count) 0 (sym (ap (λ (k : ℕ). length l % k) en) ∙ d)))
-
-  module _ (t : Bool) (et : t ≡ legal h) where
-    pub list_illegal : t ≡ false → refused 10 0 ≡ check_list h l
-    unfolding check_list
-    list_illegal f = ap (λ (b : Bool). pick b (check_whole h l) (refused 10 0)) (sym f ∙ et)
-
-    pub list_legal : t ≡ true → (o : Outcome) → o ≡ check_whole h l → o ≡ check_list h l
-    unfolding check_list
-    list_legal f o e = e ∙ ap (λ (b : Bool). pick b (check_whole h l) (refused 10 0)) (sym f ∙ et)
+  list_even d o e = e ∙ sym (simp (eq-eqb (length l % h.count) 0 (sym (ap (λ (k : ℕ). length l % k) en) ∙ d)))
 
 -- what a list that is accepted shows
 pub checked_legal : (h : Sheet) (l : List ℕ) → check_list h l ≡ accepted → legal h ≡ true

@@ -1,7 +1,12 @@
 -- The loop that counts the slots of a scenario. Assumes nothing.
-use Rattle.basis.specs.Prelude.{ℕ, zero, suc, ◌+◌, ◌-◌, ◌≤◌, ◌<◌, ◌≡◌, refl, sym, ap, ◌∙◌, List, arith, length}
-use Rattle.scenario.proofs.Names.{Step, after, ok, refuse, map_step, step, Number, Is, Refused, Held, no_releases, slot_before, slot, slots, Landed, slots_of, Sheet}
-use Rattle.scenario.proofs.Inside.OneSlot.{slot_goes, slot_no, slot_yes, landed_no, landed_ok, slots_one, slots_no, slots_end}
+use Rattle.basis.specs.Prelude.{ℕ, zero, suc, ◌+◌, ◌-◌, ◌≤◌, ◌<◌, ◌≡◌, refl, ap, ◌∙◌, List, arith, length}
+use Rattle.std.specs.Prelude.{Ok}
+use Rattle.scenario.proofs.Names.{Counted, Step, after, ok, refuse, map_step, map_step_no, map_step_ok, Held, no_releases, slot_before, slot, slots, Sheet}
+use Rattle.scenario.proofs.Inside.OneSlot.{slot_goes, slot_no, slot_yes, slots_one, slots_no, slots_end}
+
+-- the number of slots
+abbrev slots_of : Held → ℕ
+slots_of x = x.slots
 
 -- slots that were counted, and those still to be
 abbrev added : ℕ → Step ℕ → Step ℕ
@@ -28,27 +33,28 @@ pub none_counted : (h : Sheet) (s : List ℕ) → Counting h s 4 0
 none_counted h s = record { fuel = length s; enough = omega arith; few = omega arith; so_far = added_none (map_step slots_of (slots h (length s) s 4)) }
 
 module _ (h : Sheet) (s : List ℕ) (next count : ℕ) (w : Counting h s next count) where
-  pub all_counted_lem : length s ≤ next → ok count next ≡ map_step slots_of (slots h (length s) s 4)
+  pub all_counted_lem : length s ≤ next → Counted (slots h (length s) s 4) (Ok count)
   unfolding map_step
   all_counted_lem b =
       let z : count + 0 ≡ count = omega arith in
-      sym (w.so_far ∙ ap (λ (x : Step Held). added count (map_step slots_of x)) (slots_end h w.fuel s next b) ∙ ap (λ (k : ℕ). ok k next) z)
+      let (y, q, k) = map_step_ok slots_of (slots h (length s) s 4) (w.so_far ∙ ap (λ (x : Step Held). added count (map_step slots_of x)) (slots_end h w.fuel s next b) ∙ ap (λ (k : ℕ). ok k next) z) in
+      (y, next, q, k)
 
-  module _ (b : next < length s) (l l' : List ℕ) (y : Number) (e : Landed (slot h l s next) (step y) l') where
-    pub count_no : (k p : ℕ) → y ≡ Refused k p → refuse k p ≡ map_step slots_of (slots h (length s) s 4)
+  module _ (b : next < length s) (l : List ℕ) where
+    pub count_no : (k p : ℕ) → slot h l s next ≡ refuse k p → slots h (length s) s 4 ≡ refuse k p
     unfolding map_step
     count_no k p g = go w.fuel w.enough w.so_far
       where
         none : slot h (no_releases h.count) s next ≡ refuse k p
-        none = slot_no h l (no_releases h.count) s next k p (landed_no (slot h l s next) l' y e k p g)
+        none = slot_no h l (no_releases h.count) s next k p g
 
-        go : (f : ℕ) → length s ≤ next + f → map_step slots_of (slots h (length s) s 4) ≡ added count (map_step slots_of (slots h f s next)) → refuse k p ≡ map_step slots_of (slots h (length s) s 4)
+        go : (f : ℕ) → length s ≤ next + f → map_step slots_of (slots h (length s) s 4) ≡ added count (map_step slots_of (slots h f s next)) → slots h (length s) s 4 ≡ refuse k p
         go zero m q = absurd (omega arith)
-        go (suc f) m q = sym (q ∙ ap (λ (x : Step Held). added count (map_step slots_of x)) (slots_no h f s next k p b none))
+        go (suc f) m q = map_step_no slots_of (slots h (length s) s 4) (q ∙ ap (λ (x : Step Held). added count (map_step slots_of x)) (slots_no h f s next k p b none))
 
-    module _ (v a : ℕ) (g : y ≡ Is v a) where
+    module _ (l' : List ℕ) (a : ℕ) (g : slot h l s next ≡ ok l' a) where
       one : (x : List ℕ) × (slot h (no_releases h.count) s next ≡ ok x a)
-      one = slot_yes h l (no_releases h.count) s next l' a (landed_ok (slot h l s next) l' y e v a g)
+      one = slot_yes h l (no_releases h.count) s next l' a g
 
       count_goes : next < a
       count_goes = (slot_goes h (no_releases h.count) s next one.0 a one.1).0

@@ -1,22 +1,9 @@
--- The loops that make the front of a list zero and fill it with the slots of a scenario. Assumes nothing.
+-- The loop that fills the front of a list, which is zero, with the slots of a scenario. Assumes nothing.
 use borrow.Rule.Slice.PartMut.{put_mid}
-use Rattle.basis.specs.Prelude.{ℕ, zero, suc, ◌+◌, ◌-◌, ◌≤◌, ◌<◌, ◌≡◌, refl, sym, ap, ap₂, ◌∙◌, List, [], ◌++◌, append-nil, append_snoc, append_assoc, arith, length, get_or, set, set_at, take, take_all, take_at, take-append-drop, drop, drop_at, drop-cons, drop_of_length-le, length-append, length-drop, length-replicate, replicate-append-replicate, add-one}
-use Rattle.scenario.proofs.Names.{never_ok, ok_same, Step, ok, refuse, map_step, step, Number, Is, Refused, Held, no_releases, slot_before, slot, slots, Fills, Landed, fill_by, Sheet}
-use Rattle.scenario.proofs.Inside.OneSlot.{slot_goes, slot_onto, landed_no, landed_ok, slots_end, slots_apart}
-
--- the loop of `clear`
-pub clear_none : (l : List ℕ) → l ≡ no_releases 0 ++ drop 0 l
-clear_none l = refl
-
-pub clear_one : (l₀ l : List ℕ) (i n : ℕ) → i < n → n ≤ length l₀ → l ≡ no_releases i ++ drop i l₀ → set l i 0 ≡ no_releases (i + 1) ++ drop (i + 1) l₀
-clear_one l₀ l i n b few e =
-    ap (λ (z : List ℕ). set z i 0) (e ∙ ap (λ (z : List ℕ). no_releases i ++ z) (drop-cons l₀ i 0 (omega arith)))
-    ∙ set_at (no_releases i) (get_or l₀ i 0) (drop (suc i) l₀) 0 i (length-replicate i 0)
-    ∙ sym (append_snoc (no_releases i) 0 (drop (suc i) l₀))
-    ∙ ap₂ (λ (z : List ℕ) (k : ℕ). z ++ drop k l₀) (replicate-append-replicate i 1 0) (sym (add-one i))
-
-pub clear_all : (l₀ l : List ℕ) (i n : ℕ) → i ≤ n → n ≤ i → l ≡ no_releases i ++ drop i l₀ → l ≡ no_releases n ++ drop n l₀
-clear_all l₀ l i n a b e = let q : i ≡ n = omega arith in rw q at e
+use Rattle.basis.specs.Prelude.{ℕ, zero, suc, ◌+◌, ◌-◌, ◌≤◌, ◌<◌, ◌≡◌, rules, refl, sym, subst, ap, ap₂, ◌∙◌, List, [], ◌++◌, append-nil, append_assoc, arith, length, take, take_all, take_at, take-append-drop, drop, drop_at, drop_of_length-le, length-append, length-drop, length-replicate, replicate-append-replicate}
+use Rattle.std.specs.Prelude.{Result, Ok, Err, IsOk}
+use Rattle.scenario.proofs.Names.{Refusal, Landed, never_ok, ok_same, Step, ok, refuse, map_step, Held, no_releases, slot_before, slot, slots, Fills, fill_by, Sheet}
+use Rattle.scenario.proofs.Inside.OneSlot.{slot_goes, slot_onto, slots_end, slots_apart}
 
 -- the slots so far stand at the front of the list, and then zeros for those still to be read
 pub record Filling (h : Sheet) (s l₀ l : List ℕ) (next base : ℕ) : Type 0 where
@@ -109,50 +96,54 @@ module _ (h : Sheet) (s l₀ l : List ℕ) (next base : ℕ) (w : Filling h s l�
     pub lent_room : h.count ≤ length lent
     lent_room = let x = slot_next b in omega (arith, ap length (lent_is x), length-append (no_releases h.count) (onward x), length-replicate {A = ℕ} h.count 0)
 
-    module _ (y : Number) (l' : List ℕ) (e : Landed (slot h lent s next) (step y) l') where
-      slot_there : (x : Next) → slot h lent s next ≡ ok (x.entries ++ onward x) x.to
-      unfolding map_step
-      slot_there x =
-          ap (λ (z : List ℕ). slot h z s next) (lent_is x)
-          ∙ sym (slot_onto h (no_releases h.count) (onward x) s next (omega (arith, length-replicate {A = ℕ} h.count 0)))
-          ∙ ap (map_step (λ (z : List ℕ). z ++ onward x)) x.slot_is
+    slot_there : (x : Next) → slot h lent s next ≡ ok (x.entries ++ onward x) x.to
+    unfolding map_step
+    slot_there x =
+        ap (λ (z : List ℕ). slot h z s next) (lent_is x)
+        ∙ sym (slot_onto h (no_releases h.count) (onward x) s next (omega (arith, length-replicate {A = ℕ} h.count 0)))
+        ∙ ap (map_step (λ (z : List ℕ). z ++ onward x)) x.slot_is
 
-      pub fill_never : (k p : ℕ) → y ≡ Refused k p → (l'' : List ℕ) → l'' ≡ fill_by (slots h (length s) s 4) l₀
-      fill_never k p g l'' = absurd (never_ok (landed_no (slot h lent s next) l' y e k p g) (slot_there (slot_next b)))
+    -- it is not refused
+    pub fill_never : (l' : List ℕ) (r : Result ℕ Refusal) → Landed (slot h lent s next) r l' → IsOk r
+    fill_never l' (Ok n) e = search rules
+    fill_never l' (Err x) e = absurd (never_ok e (slot_there (slot_next b)))
 
-      module _ (v a : ℕ) (g : y ≡ Is v a) where
-        same_slot : (x : Next) → (x.entries ++ onward x ≡ l') × (x.to ≡ a)
-        same_slot x = ok_same (sym (slot_there x) ∙ landed_ok (slot h lent s next) l' y e v a g)
+    module _ (l' : List ℕ) (r : Result ℕ Refusal) (e : Landed (slot h lent s next) r l') (a : ℕ) (ea : r ≡ Ok a) where
+      g : slot h lent s next ≡ ok l' a
+      g = subst (λ (x : Result ℕ Refusal). Landed (slot h lent s next) x l') ea e
 
-        fill_goes : next < a
-        fill_goes = let x = slot_next b in omega (arith, (same_slot x).1, (slot_goes h (no_releases h.count) s next x.entries x.to x.slot_is).0)
+      same_slot : (x : Next) → (x.entries ++ onward x ≡ l') × (x.to ≡ a)
+      same_slot x = ok_same (sym (slot_there x) ∙ g)
 
-        pub fill_less : length s - a < length s - next
-        fill_less = omega (arith, fill_goes)
+      fill_goes : next < a
+      fill_goes = let x = slot_next b in omega (arith, (same_slot x).1, (slot_goes h (no_releases h.count) s next x.entries x.to x.slot_is).0)
 
-        put_there : (x : Next) → put_mid base (length l - base) l l' ≡ (w.done ++ x.entries) ++ onward x
-        put_there x =
-            let before : take base l ≡ w.done = ap (take base) w.list ∙ take_at w.done (no_releases (length w.rest.entries) ++ w.past) base w.long in
-            let beyond : drop (length l - base) (drop base l) ≡ [] = drop_of_length-le (drop base l) {i = length l - base} (omega (arith, length-drop base l)) in
-            ap₂ (λ (u : List ℕ) (v : List ℕ). u ++ (l' ++ v)) before beyond
-            ∙ ap (λ (z : List ℕ). w.done ++ z) (append-nil l' ∙ sym (same_slot x).0)
-            ∙ sym (append_assoc w.done x.entries (onward x))
+      pub fill_less : length s - a < length s - next
+      fill_less = omega (arith, fill_goes)
 
-        pub fill_more : (n : ℕ) → n ≡ h.count → Filling h s l₀ (put_mid base (length l - base) l l') a (base + n)
-        fill_more n en =
-            let x = slot_next b in
-            record {
-              fuel = x.fuel;
-              enough = omega (arith, x.enough, fill_goes);
-              rest = x.others;
-              end = w.end;
-              left = ap (slots h x.fuel s) (sym (same_slot x).1) ∙ x.others_are;
-              done = w.done ++ x.entries;
-              long = omega (arith, length-append w.done x.entries, slot_long x, w.long);
-              past = w.past;
-              list = put_there x;
-              whole =
-                  w.whole ∙ ap (λ (z : Held). w.done ++ (z.entries ++ w.past)) (sym x.joined)
-                  ∙ ap (λ (z : List ℕ). w.done ++ z) (append_assoc x.entries x.others.entries w.past)
-                  ∙ sym (append_assoc w.done x.entries (x.others.entries ++ w.past));
-            }
+      put_there : (x : Next) → put_mid base (length l - base) l l' ≡ (w.done ++ x.entries) ++ onward x
+      put_there x =
+          let before : take base l ≡ w.done = ap (take base) w.list ∙ take_at w.done (no_releases (length w.rest.entries) ++ w.past) base w.long in
+          let beyond : drop (length l - base) (drop base l) ≡ [] = drop_of_length-le (drop base l) {i = length l - base} (omega (arith, length-drop base l)) in
+          ap₂ (λ (u : List ℕ) (v : List ℕ). u ++ (l' ++ v)) before beyond
+          ∙ ap (λ (z : List ℕ). w.done ++ z) (append-nil l' ∙ sym (same_slot x).0)
+          ∙ sym (append_assoc w.done x.entries (onward x))
+
+      pub fill_more : (n : ℕ) → n ≡ h.count → Filling h s l₀ (put_mid base (length l - base) l l') a (base + n)
+      fill_more n en =
+          let x = slot_next b in
+          record {
+            fuel = x.fuel;
+            enough = omega (arith, x.enough, fill_goes);
+            rest = x.others;
+            end = w.end;
+            left = ap (slots h x.fuel s) (sym (same_slot x).1) ∙ x.others_are;
+            done = w.done ++ x.entries;
+            long = omega (arith, length-append w.done x.entries, slot_long x, w.long);
+            past = w.past;
+            list = put_there x;
+            whole =
+                w.whole ∙ ap (λ (z : Held). w.done ++ (z.entries ++ w.past)) (sym x.joined)
+                ∙ ap (λ (z : List ℕ). w.done ++ z) (append_assoc x.entries x.others.entries w.past)
+                ∙ sym (append_assoc w.done x.entries (x.others.entries ++ w.past));
+          }

@@ -1,6 +1,8 @@
 -- How many bytes the entries of a slot take, one after another. Assumes nothing.
-use Rattle.basis.specs.Prelude.{ℕ, suc, ◌+◌, ◌≤◌, ◌<◌, ◌≡◌, sym, ap, ap₂, ◌∙◌, Bool, true, List, false, [], ◌∷◌, ◌++◌, append-nil, append_assoc, arith, add-one, length, get_or, add-zero, take, length-append, length-take-le, take-suc, eqb, take_all, eq-eqb, ne_eqb}
-use Rattle.scenario.proofs.Names.{most_groups, pick, spell, width, entry_bytes, one_released, releases_bytes, releases_in, slot_bytes}
+use Rattle.std.proofs.lemmas.List.Recursion.{is_count_by}
+use Rattle.std.specs.Prelude.{count_by}
+use Rattle.basis.specs.Prelude.{ℕ, suc, ◌+◌, ◌≤◌, ◌<◌, ◌≡◌, refl, sym, ap, ap₂, ◌∙◌, Bool, true, List, false, [], ◌∷◌, ◌++◌, append-nil, append_assoc, arith, add-one, length, get_or, add-zero, take, length-append, length-take-le, take-suc, eqb, cond, not, eq-eqb, ne_eqb}
+use Rattle.scenario.proofs.Names.{most_groups, pick, spell, width, entry_bytes, releases_bytes, releases_in, slot_bytes}
 use Rattle.scenario.proofs.Inside.OneSlot.{spelt_few}
 
 pub width_few : (v : ℕ) → width v ≤ most_groups
@@ -36,34 +38,20 @@ bytes_more l i b =
     ∙ ap (λ (k : ℕ). releases_bytes 0 (take i l) ++ releases_bytes k (get_or l i 0 ∷ [])) e
     ∙ ap (λ (x : List ℕ). releases_bytes 0 (take i l) ++ x) (releases_one i (get_or l i 0))
 
-released_both : (xs ys : List ℕ) → releases_in (xs ++ ys) ≡ releases_in xs + releases_in ys
+-- `count_releases`
+pub released_count : (l : List ℕ) → count_by (λ v. not (eqb v 0)) l ≡ releases_in l
 unfolding releases_in
-released_both [] ys = omega arith
-released_both (v ∷ xs) ys = go (eqb v 0) (releases_in (xs ++ ys)) (releases_in xs) (releases_in ys) (released_both xs ys)
+released_count l = sym (is_count_by releases_in (λ v. not (eqb v 0)) refl (λ v l. go (eqb v 0) (releases_in l)) l)
   where
-    go : (t : Bool) (a b c : ℕ) → a ≡ b + c → pick t a (suc a) ≡ pick t b (suc b) + c
-    go true a b c q = q
-    go false a b c q = omega arith
+    go : (t : Bool) (n : ℕ) → pick t n (suc n) ≡ cond (not t) (1 + n) n
+    go true n = refl
+    go false n = omega arith
 
-released_more : (l : List ℕ) (i : ℕ) → i < length l → releases_in (take (i + 1) l) ≡ releases_in (take i l) + one_released (get_or l i 0)
-unfolding releases_in one_released
-released_more l i b =
-    ap releases_in (ap (λ (k : ℕ). take k l) (add-one i) ∙ take-suc l i 0 b) ∙ released_both (take i l) (get_or l i 0 ∷ [])
-
--- `count_releases`, `releases_length`
-pub count_one : (l : List ℕ) (i count r : ℕ) → i < length l → count ≡ releases_in (take i l) → r ≡ one_released (get_or l i 0) → count + r ≡ releases_in (take (i + 1) l)
-count_one l i count r b e f = ap₂ (λ (x : ℕ) (y : ℕ). x + y) e f ∙ sym (released_more l i b)
-
-pub count_whole : (l : List ℕ) (i count : ℕ) → count ≡ releases_in (take i l) → length l ≤ i → count ≡ releases_in l
-count_whole l i count e b = e ∙ ap releases_in (take_all i l b)
-
+-- `releases_length`
 pub long_one : (l : List ℕ) (i long r : ℕ) → i < length l → long ≡ length (releases_bytes 0 (take i l)) → r ≡ length (entry_bytes i (get_or l i 0)) → long + r ≡ length (releases_bytes 0 (take (i + 1) l))
 long_one l i long r b e f = omega (arith, length-append (releases_bytes 0 (take i l)) (entry_bytes i (get_or l i 0)), ap length (bytes_more l i b))
 
-pub long_whole : (l : List ℕ) (i long : ℕ) → long ≡ length (releases_bytes 0 (take i l)) → length l ≤ i → long ≡ length (releases_bytes 0 l)
-long_whole l i long e b = e ∙ ap (λ (x : List ℕ). length (releases_bytes 0 x)) (take_all i l b)
-
--- `one_release`, `entry_length`, `slot_length`
+-- `entry_length`, `slot_length`
 pub entry_none : (i v : ℕ) → v ≡ 0 → 0 ≡ length (entry_bytes i v)
 unfolding entry_bytes
 entry_none i v e = sym (simp (eq-eqb v 0 e))

@@ -1,7 +1,7 @@
 -- One slot of a scenario: it goes on, keeps the length of its entries, leaves rows past n alone and is refused alike into all entries; and the slots after it. Assumes nothing.
 use lib.Seq.{set-append_left}
-use Rattle.basis.specs.Prelude.{ℕ, zero, suc, ◌+◌, ◌/◌, ◌≤◌, ◌<◌, ◌≡◌, refl, sym, ap, ap₂, ◌∙◌, Bool, true, take-set-lt, false, List, ⊎_elim, ◌∷◌, ◌++◌, subst, arith, not-suc-le-zero, length, set, length-set, take, ltb, lt-ltb, ltb-true, le-ltb, ltb-false}
-use Rattle.scenario.proofs.Names.{after_ok, map_step_no, map_step_ok, never_ok, not_stopped, ok_same, passed, refuse_same, lt_or_le, most_groups, most_rows, Step, after, give, ok, refuse, begins, map_step, pick, bounded, taken, spelt_more_lem, spelt_one, number, step, up_to, spelt, Number, Is, Refused, slot_handed, read_slot, Held, budget_at, mark_bytes, no_releases, no_slots, slot_before, releases, row, scenario, slot, slots, Landed, legal, Sheet}
+use Rattle.basis.specs.Prelude.{ℕ, zero, suc, ◌+◌, ◌/◌, ◌≤◌, ◌<◌, ◌≡◌, refl, sym, ap, ◌∙◌, Bool, true, take-set-lt, false, List, ⊎_elim, ◌∷◌, ◌++◌, arith, not-suc-le-zero, length, set, length-set, take, ltb, lt-ltb, ltb-true, le-ltb, ltb-false}
+use Rattle.scenario.proofs.Names.{after_ok, map_step_no, map_step_ok, not_stopped, ok_same, passed, lt_or_le, most_groups, most_rows, Step, after, give, ok, refuse, begins, map_step, pick, bounded, taken, spelt_more_lem, spelt_one, number, up_to, spelt, slot_handed, read_slot, Held, budget_at, mark_bytes, no_releases, no_slots, slot_before, releases, row, scenario, slot, slots, legal, Sheet}
 
 -- a number takes no more bytes than groups
 pub spelt_few : (g v : ℕ) → length (spelt g v) ≤ g
@@ -125,28 +125,6 @@ unfolding map_step
 slot_yes h l l' s at x m e =
     let (x', q, _) = map_step_ok no_value (slot h l' s at) (slot_alike h l' l s at ∙ ap (map_step no_value) e) in
     (x', q)
-
--- what an answer and the lent entries say of what was read, and what was read of them
-module _ (x : Step (List ℕ)) (l : List ℕ) where
-  pub landed_no : (y : Number) → Landed x (step y) l → (k p : ℕ) → y ≡ Refused k p → x ≡ refuse k p
-  landed_no y e k p g = go x e
-    where
-      go : (z : Step (List ℕ)) → Landed z (step y) l → z ≡ refuse k p
-      go (ok v n) q = absurd (never_ok (ap step g) q.0)
-      go (refuse i j) q = let (a, b) = refuse_same (sym q ∙ ap step g) in ap₂ (λ (x : ℕ) (y : ℕ). refuse x y) a b
-
-  pub landed_ok : (y : Number) → Landed x (step y) l → (v m : ℕ) → y ≡ Is v m → x ≡ ok l m
-  landed_ok y e v m g = go x e
-    where
-      go : (z : Step (List ℕ)) → Landed z (step y) l → z ≡ ok l m
-      go (ok w n) q = let (_, b) = ok_same (sym q.0 ∙ ap step g) in ap₂ (λ (x : List ℕ) (n : ℕ). ok x n) (sym q.1) b
-      go (refuse i j) q = absurd (never_ok q (ap step g))
-
-  pub land_no : (k p : ℕ) → x ≡ refuse k p → Landed x (refuse k p) l
-  land_no k p e = subst (λ (z : Step (List ℕ)). Landed z (refuse k p) l) (sym e) refl
-
-  pub land_ok : (m : ℕ) → x ≡ ok l m → Landed x (ok 0 m) l
-  land_ok m e = subst (λ (z : Step (List ℕ)). Landed z (ok 0 m) l) (sym e) (refl, refl)
 
 -- a slot more, and the end
 pub slots_one : (h : Sheet) (f : ℕ) (s : List ℕ) (at : ℕ) (l : List ℕ) (m : ℕ) → at < length s → slot h (no_releases h.count) s at ≡ ok l m

@@ -1,7 +1,8 @@
 -- The ways out of the reader of a scenario. Assumes nothing.
-use borrow.Author.Rules.{Fits-under}
-use Rattle.basis.specs.Prelude.{ℕ, zero, suc, ◌+◌, ◌*◌, ◌/◌, ◌^◌, ◌≤◌, ◌<◌, ◌≡◌, sym, ap, ap₂, subst, ◌∙◌, div-lt_iff_lt-mul, le-div_iff_mul-le, Bool, true, false, List, ⊎_elim, ◌++◌, arith, length, sets, sets-eq, take, take_at, drop, drop_at, zero-add, length-append, length-replicate, le-ltb, le-leb, lt-leb, w64, Fits}
-use Rattle.scenario.proofs.Names.{got, map_step_no, map_step_ok, ok_same, lt_or_le, Step, ok, refuse, begins, map_step, accepted, refused, pick, step, Number, Is, Refused, Answer, answer, filled_by, nothing_by, read_scenario, Held, mark_bytes, no_releases, no_slots, scenario, slots, Fills, fill_by, slots_of, legal_is, legal, Sheet}
+use Rattle.std.specs.Prelude.{Ok, Err}
+use Rattle.basis.specs.declared.refusal.Refusal.TheVariants as refusals
+use Rattle.basis.specs.Prelude.{ℕ, zero, suc, ◌+◌, ◌*◌, ◌/◌, ◌≤◌, ◌<◌, ◌≡◌, sym, ap, ap₂, subst, ◌∙◌, div-lt_iff_lt-mul, le-div_iff_mul-le, Bool, true, false, List, ⊎_elim, ◌++◌, arith, length, sets, sets-eq, take, take_at, drop, drop_at, zero-add, length-append, length-replicate, le-ltb, le-leb, lt-leb, length-take-le}
+use Rattle.scenario.proofs.Names.{Refusal, Counted, ok_same, lt_or_le, Step, ok, refuse, begins, accepted, refused, pick, Answer, answer, filled_by, nothing_by, read_told, read_scenario, Held, mark_bytes, no_releases, no_slots, scenario, slots, Fills, fill_by, legal, sheet_in, Sheet}
 use Rattle.scenario.proofs.Inside.OneSlot.{slot_goes, slots_apart, scenario_is}
 
 -- as many entries as slots say
@@ -20,69 +21,57 @@ slots_long h (suc f) s at x n e =
     subst (λ (y : Held). length y.entries ≡ y.slots * h.count) ex (omega arith))
     (lt_or_le at (length s))
 
--- the ways out of `read_marked`
-module _ (h : Sheet) (s l : List ℕ) (pos : 1 ≤ h.count) (x : Number) (ex : step x ≡ map_step slots_of (slots h (length s) s 4)) where
-  pub read_no : (k p : ℕ) → x ≡ Refused k p → nothing_by (refused k p) l ≡ filled_by (slots h (length s) s 4) l
-  read_no k p g = sym (ap (λ (z : Step Held). filled_by z l) (map_step_no slots_of (slots h (length s) s 4) (got step ex g)))
+-- what is read after the mark, of which k slots are counted
+module _ (h : Sheet) (s out : List ℕ) (n : ℕ) (en : n ≡ h.count) (pos : 1 ≤ n) (k : ℕ) (w : Counted (slots h (length s) s 4) (Ok k)) where
+  -- as many entries
+  as_many : length w.0.entries ≡ k * n
+  as_many = let (y, m, q, ek) = w in slots_long h (length s) s 4 y m q ∙ ap₂ (λ (i : ℕ) (j : ℕ). i * j) ek (sym en)
 
-  module _ (n : ℕ) (en : n ≡ h.count) (k m : ℕ) (g : x ≡ Is k m) where
-    as_rows : length l / n ≡ length l / h.count
-    as_rows = ap (λ (i : ℕ). length l / i) en
+  pub read_short : length out / n < k → nothing_by (refused 15 0) out ≡ filled_by (slots h (length s) s 4) out
+  read_short c =
+      let (y, m, q, ek) = w in
+      let over : length out < length y.entries = omega (arith, (div-lt_iff_lt-mul {k = n} {x = length out} {y = k} pos).0 c, as_many) in
+      sym (ap (λ (z : Step Held). filled_by z out) q ∙ simp (lt-leb (length y.entries) (length out) over))
 
-    pub read_short : length l / n < k → nothing_by (refused 15 0) l ≡ filled_by (slots h (length s) s 4) l
-    read_short c =
-        let (y, q, ek) = map_step_ok slots_of (slots h (length s) s 4) (got step ex g) in
-        let over : length l < length y.entries = omega (arith, (div-lt_iff_lt-mul {k = h.count} {x = length l} {y = k} pos).0 (omega (arith, as_rows)), slots_long h (length s) s 4 y m q, ap (λ (z : ℕ). z * h.count) ek) in
-        sym (ap (λ (z : Step Held). filled_by z l) q ∙ simp (lt-leb (length y.entries) (length l) over))
+  -- where there is room: as many entries are made zero as there are to be filled
+  module _ (c : k ≤ length out / n) (zeros : List ℕ) (ez : zeros ≡ no_releases (length (take (k * n) out))) where
+    room : k * n ≤ length out
+    room = (le-div_iff_mul-le {k = n} {x = k} {y = length out} pos).0 c
 
-    -- where there is room: as many entries are made zero as there are to be filled
-    module _ (c : k ≤ length l / n) where
-      pub clear_room : k * n ≤ length l
-      clear_room = omega (arith, (le-div_iff_mul-le {k = h.count} {x = k} {y = length l} pos).0 (omega (arith, as_rows)), ap (λ (z : ℕ). k * z) en)
+    zeros_long : length zeros ≡ k * n
+    zeros_long = ap length ez ∙ length-replicate (length (take (k * n) out)) 0 ∙ length-take-le (k * n) out room
 
-      pub clear_fits : length l * 8 < 2 ^ 63 → Fits w64 (k * n)
-      clear_fits b = Fits-under w64 (k * n) (2 ^ 63) (omega (arith, clear_room)) tt
+    pub fill_room : Fills (slots h (length s) s 4) (zeros ++ drop (k * n) out)
+    fill_room =
+        let (y, m, q, ek) = w in
+        subst (λ (z : Step Held). Fills z (zeros ++ drop (k * n) out)) (sym q)
+        (ap (λ (i : ℕ). take i (zeros ++ drop (k * n) out)) as_many ∙ take_at zeros (drop (k * n) out) (k * n) zeros_long ∙ ez ∙ ap no_releases (length-take-le (k * n) out room ∙ sym as_many))
 
-      as_many : (y : Held) → slots h (length s) s 4 ≡ ok y m → y.slots ≡ k → length y.entries ≡ k * n
-      as_many y q ek = slots_long h (length s) s 4 y m q ∙ ap₂ (λ (i : ℕ) (j : ℕ). i * j) ek (sym en)
-
-      pub fill_room : (l₁ : List ℕ) → l₁ ≡ no_releases (k * n) ++ drop (k * n) l → Fills (slots h (length s) s 4) l₁
-      fill_room l₁ e₁ =
-          let (y, q, ek) = map_step_ok slots_of (slots h (length s) s 4) (got step ex g) in
-          let t = as_many y q ek in
-          subst (λ (z : Step Held). Fills z l₁) (sym q)
-          (ap₂ (λ (i : ℕ) (z : List ℕ). take i z) t e₁ ∙ take_at (no_releases (k * n)) (drop (k * n) l) (k * n) (length-replicate (k * n) 0) ∙ ap no_releases (sym t))
-
-      pub read_whole : (l₁ l' : List ℕ) → l' ≡ fill_by (slots h (length s) s 4) l₁ → l₁ ≡ no_releases (k * n) ++ drop (k * n) l → answer accepted k l' ≡ filled_by (slots h (length s) s 4) l
-      read_whole l₁ l' f e₁ =
-          let (y, q, ek) = map_step_ok slots_of (slots h (length s) s 4) (got step ex g) in
-          let t = as_many y q ek in
-          let room : length y.entries ≤ length l = omega (arith, clear_room) in
-          let past : drop (length y.entries) l₁ ≡ drop (0 + length y.entries) l =
-          ap₂ (λ (i : ℕ) (z : List ℕ). drop i z) t e₁ ∙ drop_at (no_releases (k * n)) (drop (k * n) l) (k * n) (length-replicate (k * n) 0)
-          ∙ ap (λ (i : ℕ). drop i l) (sym (zero-add (length y.entries) ∙ t)) in
-          let put : l' ≡ sets l 0 y.entries =
-          f ∙ ap (λ (z : Step Held). fill_by z l₁) q ∙ ap (λ (z : List ℕ). y.entries ++ z) past ∙ sym (sets-eq y.entries l 0 (omega arith)) in
-          sym (ap (λ (z : Step Held). filled_by z l) q ∙ simp (le-leb (length y.entries) (length l) room) (ap₂ (λ (j : ℕ) (z : List ℕ). answer accepted j z) ek (sym put)))
+    pub read_whole : (l' : List ℕ) → l' ≡ fill_by (slots h (length s) s 4) (zeros ++ drop (k * n) out) → answer accepted k l' ≡ filled_by (slots h (length s) s 4) out
+    read_whole l' f =
+        let (y, m, q, ek) = w in
+        let fits : length y.entries ≤ length out = omega (arith, room, as_many) in
+        let past : drop (length y.entries) (zeros ++ drop (k * n) out) ≡ drop (0 + length y.entries) out =
+        ap (λ (i : ℕ). drop i (zeros ++ drop (k * n) out)) as_many ∙ drop_at zeros (drop (k * n) out) (k * n) zeros_long
+        ∙ ap (λ (i : ℕ). drop i out) (sym (zero-add (length y.entries) ∙ as_many)) in
+        let put : l' ≡ sets out 0 y.entries =
+        f ∙ ap (λ (z : Step Held). fill_by z (zeros ++ drop (k * n) out)) q ∙ ap (λ (z : List ℕ). y.entries ++ z) past ∙ sym (sets-eq y.entries out 0 (omega arith)) in
+        sym (ap (λ (z : Step Held). filled_by z out) q ∙ simp (le-leb (length y.entries) (length out) fits) (ap₂ (λ (j : ℕ) (z : List ℕ). answer accepted j z) ek (sym put)))
 
 -- the ways out of `read_scenario`
-module _ (h : Sheet) (s l : List ℕ) (t : Bool) (et : t ≡ legal h) where
-  pub read_illegal : t ≡ false → nothing_by (refused 10 0) l ≡ read_scenario h s l
+pub read_illegal : (h : Sheet) (s out : List ℕ) (r : Refusal) → (r ≡ refusals.Sheet) × (legal h ≡ false) → read_told (Err r) out ≡ read_scenario h s out
+unfolding read_scenario
+read_illegal h s out r (e, f) = ap (λ (x : Refusal). read_told (Err x) out) e ∙ sym (ap (λ (b : Bool). pick b (filled_by (scenario h s 0) out) (nothing_by (refused 10 0) out)) f)
+
+module _ (l l₀ s out : List ℕ) (same : (l ≡ l₀) × (legal (sheet_in l₀) ≡ true)) (b : Bool) (eb : b ≡ begins mark_bytes s) where
+  read_as : read_scenario (sheet_in l₀) s out ≡ filled_by (pick b (slots (sheet_in l) (length s) s 4) (refuse 1 0)) out
   unfolding read_scenario
-  read_illegal f = ap (λ (b : Bool). pick b (filled_by (scenario h s 0) l) (nothing_by (refused 10 0) l)) (sym f ∙ et)
+  read_as =
+      ap (λ (t : Bool). pick t (filled_by (scenario (sheet_in l₀) s 0) out) (nothing_by (refused 10 0) out)) same.1
+      ∙ ap (λ (x : Step Held). filled_by x out) (scenario_is (sheet_in l₀) s ∙ ap₂ (λ (t : Bool) (z : List ℕ). pick t (slots (sheet_in z) (length s) s 4) (refuse 1 0)) (sym eb) (sym same.0))
 
-  module _ (legally : t ≡ true) (b : Bool) (eb : b ≡ begins mark_bytes s) where
-    read_as : read_scenario h s l ≡ filled_by (pick b (slots h (length s) s 4) (refuse 1 0)) l
-    unfolding read_scenario
-    read_as =
-        ap (λ (b : Bool). pick b (filled_by (scenario h s 0) l) (nothing_by (refused 10 0) l)) (sym et ∙ legally)
-        ∙ ap (λ (x : Step Held). filled_by x l) (scenario_is h s ∙ ap (λ (t : Bool). pick t (slots h (length s) s 4) (refuse 1 0)) (sym eb))
+  pub read_unmarked : b ≡ false → nothing_by (refused 1 0) out ≡ read_scenario (sheet_in l₀) s out
+  read_unmarked f = sym (read_as ∙ ap (λ (t : Bool). filled_by (pick t (slots (sheet_in l) (length s) s 4) (refuse 1 0)) out) f)
 
-    pub read_unmarked : b ≡ false → nothing_by (refused 1 0) l ≡ read_scenario h s l
-    read_unmarked f = sym (read_as ∙ ap (λ (t : Bool). filled_by (pick t (slots h (length s) s 4) (refuse 1 0)) l) f)
-
-    pub read_rest : b ≡ true → (a : Answer) → a ≡ filled_by (slots h (length s) s 4) l → a ≡ read_scenario h s l
-    read_rest is a f = f ∙ sym (read_as ∙ ap (λ (t : Bool). filled_by (pick t (slots h (length s) s 4) (refuse 1 0)) l) is)
-
-  pub rows_some : t ≡ true → 1 ≤ h.count
-  rows_some f = (legal_is h (sym et ∙ f)).some_rows
+  pub read_rest : b ≡ true → (a : Answer) → a ≡ filled_by (slots (sheet_in l) (length s) s 4) out → a ≡ read_scenario (sheet_in l₀) s out
+  read_rest is a f = f ∙ sym (read_as ∙ ap (λ (t : Bool). filled_by (pick t (slots (sheet_in l) (length s) s 4) (refuse 1 0)) out) is)

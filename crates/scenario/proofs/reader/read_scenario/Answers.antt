@@ -1,17 +1,33 @@
 -- `read_scenario` meets its promise. Assumes nothing.
-use Rattle.basis.specs.Prelude.{rules}
-use Rattle.scenario.proofs.Inside.Slotwise.{rows_few}
-use Rattle.scenario.proofs.Inside.Reads.{read_illegal, read_unmarked, read_rest, rows_some}
+use Rattle.basis.specs.Prelude.{ap, sym}
+use Rattle.std.proofs.lemmas.Result.{err_from_is_err_and}
+use Rattle.scenario.proofs.Names.{filled_by}
+use Rattle.scenario.proofs.Inside.Reads.{read_illegal, read_unmarked, read_rest, read_short, fill_room, read_whole}
 use Rattle.scenario.proofs.reader.read_scenario.Goals as goal
 
-pub read_marked-requires : goal.read_marked-requires
-read_marked-requires c = (search rules, search rows_some, search rows_few)
+pub returns-in_err-rows : goal.returns-in_err-rows
+returns-in_err-rows c =
+    let p = err_from_is_err_and c.from_residual.result c.from_residual.ensures.1 in
+    rw (p.1, p.2) (read_illegal _ _ _ _ c.in_err-rows.ensures)
 
-pub returns-then-begins_with : goal.returns-then-begins_with
-returns-then-begins_with c = search read_rest
+pub returns-then-not-begins_with : goal.returns-then-not-begins_with
+returns-then-not-begins_with c = read_unmarked _ _ _ _ c.in_ok-rows.ensures _ c.begins_with.ensures c.if-not-begins_with.true
 
-pub returns-then-fine : goal.returns-then-fine
-returns-then-fine c = search read_unmarked
+pub returns-in_err-slots : goal.returns-in_err-slots
+returns-in_err-slots c =
+    let p = err_from_is_err_and c.from_residual-in_err-slots.result c.from_residual-in_err-slots.ensures.1 in
+    rw (p.1, p.2) (read_rest _ _ _ _ c.in_ok-rows.ensures _ c.begins_with.ensures c.if-not-begins_with.false _ (sym (ap (λ x. filled_by x c.args.releases.now) c.in_err-slots.ensures)))
+
+pub returns-then-releases-rows : goal.returns-then-releases-rows
+returns-then-releases-rows c =
+    read_rest _ _ _ _ c.in_ok-rows.ensures _ c.begins_with.ensures c.if-not-begins_with.false _
+    (read_short _ _ _ _ c.in_ok-rows.rows.counted c.in_ok-rows.rows.some _ c.in_ok-slots.ensures c.if-releases-rows.true)
+
+pub fill-requires-2 : goal.fill-requires-2
+fill-requires-2 c =
+    fill_room _ _ _ _ c.in_ok-rows.rows.counted c.in_ok-rows.rows.some _ c.in_ok-slots.ensures c.if-releases-rows.false _ (c.fill.ensures.after (λ y e. e))
 
 pub returns : goal.returns
-returns c = search read_illegal
+returns c =
+    read_rest _ _ _ _ c.in_ok-rows.ensures _ c.begins_with.ensures c.if-not-begins_with.false _
+    (read_whole _ _ _ _ c.in_ok-rows.rows.counted c.in_ok-rows.rows.some _ c.in_ok-slots.ensures c.if-releases-rows.false _ (c.fill.ensures.after (λ y e. e)) _ c.fill-2.ensures)

@@ -1,31 +1,23 @@
 -- `read_releases` meets its promise. The invariant: what is still to be read, into the entries so far, is the whole. Assumes nothing.
-use Rattle.basis.specs.Prelude.{rules}
-use Rattle.scenario.proofs.Inside.Slotwise.{begun, all_read, row_few, row_there, row_scaled, row_next, no_row, no_amount_lem, one_more}
+use Rattle.basis.specs.Prelude.{◌∙◌}
+use Rattle.std.proofs.lemmas.Result.{err_from_is_err_and}
+use Rattle.scenario.proofs.Inside.Slotwise.{more_left, none_left, no_row, no_amount, one_more}
 use Rattle.scenario.proofs.slot.read_releases.Goals as goal
 
-pub loop-left-init : goal.loop-left-init
-loop-left-init c = (begun _ _ _ _ _, search rules, search rules, search rules, search rules)
+pub returns-in_err-row : goal.returns-in_err-row
+returns-in_err-row c =
+    let p = err_from_is_err_and c.from_residual.result c.from_residual.ensures.1 in
+    rw (p.1, p.2) (c.loop-release.invariant ∙ more_left _ _ _ _ _ _ _ c.loop-release-test.true ∙ no_row _ _ _ _ _ _ _ _ c.in_err-row.ensures.told)
 
-pub returns-in-Refused : goal.returns-in-Refused
-returns-in-Refused c = search no_row
+pub returns-in_err-amount : goal.returns-in_err-amount
+returns-in_err-amount c =
+    let p = err_from_is_err_and c.from_residual-in_err-amount.result c.from_residual-in_err-amount.ensures.1 in
+    rw (p.1, p.2)
+    (c.loop-release.invariant ∙ more_left _ _ _ _ _ _ _ c.loop-release-test.true ∙ no_amount _ _ _ _ _ _ _ _ c.in_ok-row.ensures.told _ c.budget.ensures _ c.in_err-amount.ensures)
 
-pub budget_in-most-requires : goal.budget_in-most-requires
-budget_in-most-requires c = search row_few
-
-pub returns-in-Refused-read_up_to : goal.returns-in-Refused-read_up_to
-returns-in-Refused-read_up_to c = search no_amount_lem
-
-pub offset_bounds-entries-r : goal.offset_bounds-entries-r
-offset_bounds-entries-r c = search row_scaled
-
-pub bounds-entries-r : goal.bounds-entries-r
-bounds-entries-r c = search row_there
-
-pub overflow_add-least : goal.overflow_add-least
-overflow_add-least c = search (rules, row_next)
-
-pub loop-left-preserved : goal.loop-left-preserved
-loop-left-preserved c = (search one_more, search rules, search rules, search rules, search rules)
+pub loop-release-preserved : goal.loop-release-preserved
+loop-release-preserved c =
+    c.loop-release.invariant ∙ more_left _ _ _ _ _ _ _ c.loop-release-test.true ∙ one_more _ _ _ _ _ _ _ _ c.in_ok-row.ensures.told _ c.budget.ensures _ _ c.in_ok-amount.ensures
 
 pub returns : goal.returns
-returns c = search all_read
+returns c = c.loop-release.invariant ∙ none_left _ _ _ _ _ _ _ c.loop-release-test.false

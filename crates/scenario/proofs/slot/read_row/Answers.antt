@@ -1,15 +1,19 @@
 -- `read_row` meets its promise. Assumes nothing.
+use Rattle.basis.specs.Prelude.{arith}
+use Rattle.std.proofs.lemmas.Result.{err_from_is_err_and}
 use Rattle.scenario.proofs.Inside.Slotwise.{row_none, row_past, row_again, row_read}
 use Rattle.scenario.proofs.slot.read_row.Goals as goal
 
-pub returns-then-count-r : goal.returns-then-count-r
-returns-then-count-r c = search row_past
+pub returns-in_err-number-clause-told : goal.returns-in_err-number-clause-told
+returns-in_err-number-clause-told c =
+    let p = err_from_is_err_and c.from_residual.result c.from_residual.ensures.1 in
+    rw (p.1, p.2) (row_none _ _ _ _ _ _ c.in_err-number.ensures)
 
-pub returns-then-r-least : goal.returns-then-r-least
-returns-then-r-least c = search row_again
+pub returns-then-rows-r-clause-told : goal.returns-then-rows-r-clause-told
+returns-then-rows-r-clause-told c = row_past _ _ _ _ _ _ c.in_ok-number.ensures (omega (arith, c.args.rows.now.counted))
 
-pub returns-in-Refused : goal.returns-in-Refused
-returns-in-Refused c = search row_none
+pub returns-then-r-least-clause-told : goal.returns-then-r-least-clause-told
+returns-then-r-least-clause-told c = row_again _ _ _ _ _ _ c.in_ok-number.ensures (omega (arith, c.args.rows.now.counted)) c.if-r-least.true
 
-pub returns-else-r-least : goal.returns-else-r-least
-returns-else-r-least c = search row_read
+pub returns-clause-told : goal.returns-clause-told
+returns-clause-told c = row_read _ _ _ _ _ _ c.in_ok-number.ensures (omega (arith, c.args.rows.now.counted)) c.if-r-least.false

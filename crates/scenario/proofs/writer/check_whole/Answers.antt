@@ -2,8 +2,8 @@
 use Rattle.scenario.proofs.Inside.Checks.{list_uneven, list_even}
 use Rattle.scenario.proofs.writer.check_whole.Goals as goal
 
-pub returns-then-releases-n-ne0 : goal.returns-then-releases-n-ne0
-returns-then-releases-n-ne0 c = search list_uneven
+pub returns-then-releases-rows-ne0 : goal.returns-then-releases-rows-ne0
+returns-then-releases-rows-ne0 c = list_uneven _ _ _ c.args.rows.now.counted c.if-releases-rows-ne0.true
 
 pub returns : goal.returns
-returns c = search list_even
+returns c = list_even _ _ _ c.args.rows.now.counted c.if-releases-rows-ne0.false _ c.check_entries.ensures

@@ -1,10 +1,11 @@
--- `fits` meets its promise: the room that is left, and the slots so far, are the whole room. Assumes nothing.
-use Rattle.basis.specs.Prelude.{◌+◌, ◌-◌, ◌*◌, ◌≤◌, ◌≡◌, length}
-use Rattle.scenario.proofs.Names.{most_rows, scenario_bytes}
+-- `fits` meets its promise: what is left has the room that the slots still to come leave of the whole. Assumes nothing.
+use Rattle.basis.specs.Prelude.{◌+◌, ◌≡◌, length}
+use Rattle.std.specs.Slice.Iter.{chunks_exact_rest, chunks_exact_size}
+use Rattle.scenario.proofs.Names.{sheet_in, file_of}
+use Rattle.scenario.proofs.Inside.Files.{rest_bytes}
 use Rattle.scenario.proofs.writer.fits.Given as goal
 
-abbrev pub invariant-loop-j : goal.invariant-loop-j
-invariant-loop-j l = (l.j ≤ l.slots) × (l.n ≤ most_rows) × (l.slots * l.n ≡ length l.releases) × (l.left + length (scenario_bytes l.n l.j l.releases) ≡ l.room)
-
-abbrev pub decreases-loop-j : goal.decreases-loop-j
-decreases-loop-j l = l.slots - l.j
+abbrev pub invariant-loop-slot : goal.invariant-loop-slot
+invariant-loop-slot l =
+    (chunks_exact_size l.slot-iterator ≡ (sheet_in l.rows.sheet.now).count)
+    × (l.left + length (file_of (sheet_in l.rows.sheet.now) l.releases) ≡ l.room + length (rest_bytes (sheet_in l.rows.sheet.now) (chunks_exact_rest l.slot-iterator)))

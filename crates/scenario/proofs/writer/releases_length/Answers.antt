@@ -1,17 +1,12 @@
 -- `releases_length` meets its promise: the entries so far are measured. Assumes nothing.
-use Rattle.basis.specs.Prelude.{rules, refl}
+use Rattle.basis.specs.Prelude.{arith, refl}
 use Rattle.scenario.proofs.Names.{releases_bytes}
-use Rattle.scenario.proofs.Inside.Lengths.{long_one, long_whole}
+use Rattle.scenario.proofs.Inside.Lengths.{long_one}
 use Rattle.scenario.proofs.writer.releases_length.Goals as goal
 
-pub loop-i-init : goal.loop-i-init
+pub loop-row-init : goal.loop-row-init
 unfolding releases_bytes
-loop-i-init c = (search rules, search rules, search rules, refl)
+loop-row-init c = (omega arith, refl)
 
-pub loop-i-preserved : goal.loop-i-preserved
-unfolding releases_bytes
-loop-i-preserved c = (search rules, search rules, search rules, search long_one)
-
-pub returns : goal.returns
-unfolding releases_bytes
-returns c = (search long_whole, search rules)
+pub loop-row-preserved : goal.loop-row-preserved
+loop-row-preserved c = (omega arith, long_one _ _ _ _ c.loop-row-test.true c.loop-row.invariant.1 c.entry_length-long.ensures.0)

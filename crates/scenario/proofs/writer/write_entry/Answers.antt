@@ -1,14 +1,14 @@
 -- `write_entry` meets its promise. Assumes nothing.
-use Rattle.basis.specs.Prelude.{rules}
+use Rattle.basis.specs.Prelude.{arith}
 use Rattle.scenario.proofs.Inside.Lengths.{entry_none, entry_some}
-use Rattle.scenario.proofs.Inside.Stores.{entry_not_stored, entry_room, entry_within, entry_stored}
+use Rattle.scenario.proofs.Inside.Stores.{entry_not_stored, entry_stored}
 use Rattle.scenario.proofs.writer.write_entry.Goals as goal
 
 pub returns-then-value-eq0 : goal.returns-then-value-eq0
-returns-then-value-eq0 c = (search entry_none, search rules, search entry_not_stored)
-
-pub overflow_add-at : goal.overflow_add-at
-overflow_add-at c = search (rules, entry_room)
+returns-then-value-eq0 c = (omega (arith, entry_none c.args.row _ c.if-value-eq0.true), entry_not_stored _ _ _ _ c.if-value-eq0.true)
 
 pub returns : goal.returns
-returns c = (search entry_some, search entry_within, search entry_stored)
+returns c = (
+  omega (arith, entry_some _ _ _ _ c.if-value-eq0.false c.write_number.ensures.0 c.write_number-2.ensures.0),
+  entry_stored _ _ _ _ _ _ _ c.if-value-eq0.false c.write_number.ensures.0 c.write_number.ensures.2 c.write_number-2.ensures.2,
+)

@@ -1,12 +1,23 @@
 -- `write_scenario` meets its promise. Assumes nothing.
-use Rattle.scenario.proofs.Inside.Files.{write_refused, count_some, count_few, list_whole, write_rest}
+use Rattle.std.proofs.lemmas.Result.{err_from_is_err_and}
+use Rattle.scenario.proofs.Inside.Files.{write_illegal, write_refused, write_short, write_room, write_whole}
 use Rattle.scenario.proofs.writer.write_scenario.Goals as goal
 
-pub write_checked-requires : goal.write_checked-requires
-write_checked-requires c = (search count_some, search count_few, search list_whole)
+pub returns-in_err-rows : goal.returns-in_err-rows
+returns-in_err-rows c =
+    let p = err_from_is_err_and c.from_residual.result c.from_residual.ensures.1 in
+    rw (p.1, p.2) (write_illegal _ _ _ _ c.in_err-rows.ensures)
 
-pub returns-in-Refused : goal.returns-in-Refused
-returns-in-Refused c = search write_refused
+pub returns-in_err-check_whole : goal.returns-in_err-check_whole
+returns-in_err-check_whole c =
+    let p = err_from_is_err_and c.from_residual-in_err-check_whole.result c.from_residual-in_err-check_whole.ensures.1 in
+    rw (p.1, p.2) (write_refused _ _ _ _ c.in_ok-rows.ensures _ c.in_err-check_whole.ensures)
 
-pub returns-in-Accepted : goal.returns-in-Accepted
-returns-in-Accepted c = search write_rest
+pub returns-then-not-fits : goal.returns-then-not-fits
+returns-then-not-fits c = write_short _ _ _ _ c.in_ok-rows.ensures c.in_ok-check_whole.ensures _ c.fits.ensures c.if-not-fits.true
+
+pub write_all-requires : goal.write_all-requires
+write_all-requires c = write_room _ _ _ _ c.in_ok-rows.ensures c.in_ok-check_whole.ensures _ c.fits.ensures c.if-not-fits.false
+
+pub returns : goal.returns
+returns c = write_whole _ _ _ _ c.in_ok-rows.ensures c.in_ok-check_whole.ensures _ c.fits.ensures c.if-not-fits.false _ _ c.write_all.ensures
