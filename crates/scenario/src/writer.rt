@@ -13,12 +13,12 @@ use crate::reader::MARK;
 use crate::rows::Rows;
 use basis::Refusal;
 
-// Whether an entry of the list is over its row's budget, the first of them.
-fn check_entries(rows: &Rows, releases: &[u64]) -> Result<(), Refusal>
-    ensures { outcome result ≡ first_of (length releases.now) (over_at (sheet_in rows.now.sheet.now) releases.now) }
+// Whether an entry of a slot is over its row's budget, the first of them.
+fn check_slot(rows: &Rows, slot: &[u64]) -> Result<(), Refusal>
+    requires { length slot.now ≡ rows.now.count }
+    ensures { outcome result ≡ first_of (length slot.now) (over_at (sheet_in rows.now.sheet.now) slot.now) }
 {
-    for (i, value) in releases.iter().enumerate() {
-        let row = i % rows.count;
+    for (row, value) in slot.iter().enumerate() {
         if rows.budget(row) < *value {
             return Err(Refusal::Budget(row));
         }
@@ -33,7 +33,10 @@ fn check_whole(rows: &Rows, releases: &[u64]) -> Result<(), Refusal>
     if releases.len() % rows.count != 0 {
         return Err(Refusal::Releases);
     }
-    check_entries(rows, releases)
+    for slot in releases.chunks_exact(rows.count) {
+        check_slot(rows, slot)?;
+    }
+    Ok(())
 }
 
 // How many entries of a slot are a release.
