@@ -13,7 +13,7 @@ use basis::{MOST_ROWS, Refusal};
 pub const MARK: [u8; 4] = *b"GSC\x01";
 
 // How many slots there are after the mark.
-fn count_slots(rows: &Rows, bytes: &[u8]) -> Result<u64, Refusal>
+fn count_slots(rows: &Rows, bytes: &[u8]) -> Result<usize, Refusal>
     ensures { Counted (slots (sheet_in rows.now.sheet.now) (length bytes.now) bytes.now 4) result }
 {
     let mut next = MARK.len();
@@ -26,7 +26,8 @@ fn count_slots(rows: &Rows, bytes: &[u8]) -> Result<u64, Refusal>
     Ok(count)
 }
 
-// Fills a list with the slots after the mark, where none is refused and as many zeros stand at its front as they have entries.
+// Fills a list with the slots after the mark, where none is refused and as many zeros stand at its front as they have entries. The loop goes by the bytes, and cuts the
+// parts of the list itself: too little is known of a list whose chunks are written into.
 fn fill(rows: &Rows, bytes: &[u8], releases: &mut [u64])
     requires { Fills (slots (sheet_in rows.now.sheet.now) (length bytes.now) bytes.now 4) releases.old }
     ensures { releases.new ≡ fill_by (slots (sheet_in rows.now.sheet.now) (length bytes.now) bytes.now 4) releases.old }
@@ -48,10 +49,10 @@ pub fn read_scenario(sheet: &[u64], bytes: &[u8], releases: &mut [u64]) -> Resul
         return Err(Refusal::Mark);
     }
     let slots = count_slots(&rows, bytes)?;
-    if ((releases.len() / rows.count) as u64) < slots {
+    if releases.len() / rows.count < slots {
         return Err(Refusal::Room);
     }
-    releases[..slots as usize * rows.count].fill(0);
+    releases[..slots * rows.count].fill(0);
     fill(&rows, bytes, releases);
-    Ok(slots)
+    Ok(slots as u64)
 }

@@ -25,14 +25,14 @@ fn read_row(rows: &Rows, bytes: &[u8], at: usize, least: usize) -> Result<(usize
     ensures there { IfOk result (λ x. x.0 < rows.now.count) }
 {
     let (number, next) = numbers::read_number(bytes, at)?;
-    let r = number as usize;
-    if rows.count <= r {
+    let row = number as usize;
+    if rows.count <= row {
         return Err(Refusal::Row(at));
     }
-    if r < least {
+    if row < least {
         return Err(Refusal::Order(at));
     }
-    Ok((r, next))
+    Ok((row, next))
 }
 
 // So many releases of a slot into lent entries, and the place after them.

@@ -1,7 +1,7 @@
 -- The loops of the writer over the slots, after the mark: what they measure and store, and the ways out of the writer. Assumes nothing.
 use Rattle.std.specs.Prelude.{Err}
 use Rattle.std.proofs.Math.Nat.{add-div_left, div-eq_of_lt}
-use Rattle.basis.specs.Prelude.{ℕ, suc, ◌+◌, ◌/◌, ◌≤◌, ◌<◌, ◌≡◌, sym, ap, ap₂, ◌∙◌, Bool, true, false, List, [], ◌++◌, add-one, length, take, take_at, drop, drop_at, length-append, leb, leb-true, sets}
+use Rattle.basis.specs.Prelude.{ℕ, suc, ◌+◌, ◌/◌, ◌≤◌, ◌<◌, ◌≡◌, sym, ap, ap₂, ◌∙◌, Bool, true, false, List, [], ◌++◌, add-one, length, take, take_at, drop, drop_at, length-append, leb, sets}
 use Rattle.basis.specs.Refusals.{refused_by}
 use Rattle.basis.specs.declared.refusal.Refusal.TheVariants as refusals
 use Rattle.scenario.proofs.Names.{Refusal, Outcome, accepted, refused, pick, answer, nothing_by, written_by, written_told, sets_after, check_list, check_whole, write_scenario, mark_bytes, file_of, scenario_bytes, slot_bytes, slots_bytes, legal, sheet_in, Sheet}
@@ -64,9 +64,6 @@ module _ (t t₀ l out : List ℕ) (same : (t ≡ t₀) × (legal (sheet_in t₀
     write_short f =
         sym (ap (λ (c : Bool). pick c (answer accepted (length (file_of (sheet_in t) l)) (sets out 0 (file_of (sheet_in t) l))) (nothing_by (refused 15 0) out)) (sym eb ∙ f))
         ∙ write_as accepted e
-
-    pub write_room : b ≡ true → length (file_of (sheet_in t) l) ≤ length out
-    write_room f = leb-true _ _ (sym eb ∙ f)
 
     pub write_whole : b ≡ true → (k : ℕ) (out' : List ℕ) → (k ≡ length (file_of (sheet_in t) l)) × (out' ≡ sets out 0 (file_of (sheet_in t) l)) → answer accepted k out' ≡ write_scenario (sheet_in t₀) l out
     write_whole f k out' (ek, eo) =

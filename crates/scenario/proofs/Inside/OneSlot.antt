@@ -1,6 +1,7 @@
 -- One slot of a scenario: it goes on, keeps the length of its entries, leaves rows past n alone and is refused alike into all entries; and the slots after it. Assumes nothing.
 use lib.Seq.{set-append_left}
-use Rattle.basis.specs.Prelude.{ℕ, zero, suc, ◌+◌, ◌/◌, ◌≤◌, ◌<◌, ◌≡◌, refl, sym, ap, ◌∙◌, Bool, true, take-set-lt, false, List, ⊎_elim, ◌∷◌, ◌++◌, arith, not-suc-le-zero, length, set, length-set, take, ltb, lt-ltb, ltb-true, le-ltb, ltb-false}
+use Rattle.std.proofs.lemmas.List.{take-replicate}
+use Rattle.basis.specs.Prelude.{ℕ, zero, suc, ◌+◌, ◌/◌, ◌≤◌, ◌<◌, ◌≡◌, refl, sym, ap, ◌∙◌, Bool, true, take-set-lt, false, List, ⊎_elim, ◌++◌, arith, length, set, length-set, take, ltb, lt-ltb, ltb-true, le-ltb, ltb-false}
 use Rattle.scenario.proofs.Names.{after_ok, map_step_no, map_step_ok, not_stopped, ok_same, passed, lt_or_le, most_groups, most_rows, Step, after, give, ok, refuse, begins, map_step, pick, bounded, taken, spelt_more_lem, spelt_one, number, up_to, spelt, slot_handed, read_slot, Held, budget_at, mark_bytes, no_releases, no_slots, slot_before, releases, row, scenario, slot, slots, legal, Sheet}
 
 -- a number takes no more bytes than groups
@@ -64,16 +65,11 @@ releases_front h (suc k) least l s at =
     releases_front h k (r + 1) (set l r c) s b
     ∙ ap (λ (x : List ℕ). releases h k (r + 1) x s b) (take-set-lt h.count l r c (row_is h.count least s at r a e₁).few)
 
-take_all_alike : (n m : ℕ) → n ≤ m → take n (no_releases m) ≡ no_releases n
-take_all_alike zero m h = refl
-take_all_alike (suc n) zero h = absurd (not-suc-le-zero h)
-take_all_alike (suc n) (suc m) h = ap (λ (x : List ℕ). 0 ∷ x) (take_all_alike n m (omega arith))
-
 pub slot_front : (h : Sheet) (s : List ℕ) (at : ℕ) → h.count ≤ most_rows → map_step (take h.count) (slot h (no_releases most_rows) s at) ≡ slot h (no_releases h.count) s at
 unfolding slot
 slot_front h s at few =
     told_pick (take h.count) (number s at) _ _ λ k a e.
-    releases_front h k 0 (no_releases most_rows) s a ∙ ap (λ (x : List ℕ). releases h k 0 x s a) (take_all_alike h.count most_rows few)
+    releases_front h k 0 (no_releases most_rows) s a ∙ ap (λ (x : List ℕ). releases h k 0 x s a) (take-replicate h.count most_rows 0 few)
 
 -- the reader of one slot on a legal sheet
 pub read_slot_is : (h : Sheet) (s : List ℕ) (at : ℕ) → legal h ≡ true → read_slot h s at ≡ slot_handed (slot h (no_releases most_rows) s at)

@@ -9,11 +9,11 @@ returns-in_err-number-clause-told c =
     let p = err_from_is_err_and c.from_residual.result c.from_residual.ensures.1 in
     rw (p.1, p.2) (row_none _ _ _ _ _ _ c.in_err-number.ensures)
 
-pub returns-then-rows-r-clause-told : goal.returns-then-rows-r-clause-told
-returns-then-rows-r-clause-told c = row_past _ _ _ _ _ _ c.in_ok-number.ensures (omega (arith, c.args.rows.now.counted))
+pub returns-then-rows-row-clause-told : goal.returns-then-rows-row-clause-told
+returns-then-rows-row-clause-told c = row_past _ _ _ _ _ _ c.in_ok-number.ensures (omega (arith, c.args.rows.now.counted))
 
-pub returns-then-r-least-clause-told : goal.returns-then-r-least-clause-told
-returns-then-r-least-clause-told c = row_again _ _ _ _ _ _ c.in_ok-number.ensures (omega (arith, c.args.rows.now.counted)) c.if-r-least.true
+pub returns-then-row-least-clause-told : goal.returns-then-row-least-clause-told
+returns-then-row-least-clause-told c = row_again _ _ _ _ _ _ c.in_ok-number.ensures (omega (arith, c.args.rows.now.counted)) c.if-row-least.true
 
 pub returns-clause-told : goal.returns-clause-told
-returns-clause-told c = row_read _ _ _ _ _ _ c.in_ok-number.ensures (omega (arith, c.args.rows.now.counted)) c.if-r-least.false
+returns-clause-told c = row_read _ _ _ _ _ _ c.in_ok-number.ensures (omega (arith, c.args.rows.now.counted)) c.if-row-least.false

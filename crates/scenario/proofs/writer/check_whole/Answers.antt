@@ -1,5 +1,5 @@
 -- `check_whole` meets its promise: no entry of the slots so far is over. Assumes nothing.
-use Rattle.basis.specs.Prelude.{◌∙◌, sym, arith}
+use Rattle.basis.specs.Prelude.{◌∙◌, arith}
 use Rattle.std.proofs.lemmas.Result.{err_from_is_err_and}
 use Rattle.scenario.proofs.Names.{sheet_in}
 use Rattle.scenario.proofs.Inside.Checks.{none_passed, slot_passed, slot_over, all_passed, list_uneven, list_even, list_checked}
@@ -11,9 +11,6 @@ returns-then-releases-rows-ne0 c = list_uneven _ _ _ c.args.rows.now.counted c.i
 pub loop-slot-init : goal.loop-slot-init
 loop-slot-init c =
     rw (c.into_iter-slot-iterator.ensures.into_iter_gives, c.chunks_exact-slot-items.ensures.rest, c.chunks_exact-slot-items.ensures.size) (c.args.rows.now.counted, none_passed _ _)
-
-pub check_slot-requires : goal.check_slot-requires
-check_slot-requires c = c.in-Some.ensures.steps.1.1 ∙ c.loop-slot.invariant.0 ∙ sym c.args.rows.now.counted
 
 pub returns-in_err-check_slot : goal.returns-in_err-check_slot
 returns-in_err-check_slot c =

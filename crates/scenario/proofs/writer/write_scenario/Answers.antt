@@ -1,6 +1,6 @@
 -- `write_scenario` meets its promise. Assumes nothing.
 use Rattle.std.proofs.lemmas.Result.{err_from_is_err_and}
-use Rattle.scenario.proofs.Inside.Files.{write_illegal, write_refused, write_short, write_room, write_whole}
+use Rattle.scenario.proofs.Inside.Files.{write_illegal, write_refused, write_short, write_whole}
 use Rattle.scenario.proofs.writer.write_scenario.Goals as goal
 
 pub returns-in_err-rows : goal.returns-in_err-rows
@@ -15,9 +15,6 @@ returns-in_err-check_whole c =
 
 pub returns-then-not-fits : goal.returns-then-not-fits
 returns-then-not-fits c = write_short _ _ _ _ c.in_ok-rows.ensures c.in_ok-check_whole.ensures _ c.fits.ensures c.if-not-fits.true
-
-pub write_all-requires : goal.write_all-requires
-write_all-requires c = write_room _ _ _ _ c.in_ok-rows.ensures c.in_ok-check_whole.ensures _ c.fits.ensures c.if-not-fits.false
 
 pub returns : goal.returns
 returns c = write_whole _ _ _ _ c.in_ok-rows.ensures c.in_ok-check_whole.ensures _ c.fits.ensures c.if-not-fits.false _ _ c.write_all.ensures
