@@ -5,31 +5,25 @@ ghost use Rattle.reader.specs.Answers as readers;
 ghost use Rattle.bound.specs.Bound.{bounds_of};
 ghost use Rattle.bound.specs.Bound as bounds;
 
+use basis::Refusal;
 use bound::Results;
-use reader::Reading;
 use sheet::Sheet;
 
 // The bounds of a sheet.
-fn bounds_of(sheet: Sheet) -> Results
+fn bounds_of(sheet: Sheet) -> Result<Results, Refusal>
     ensures { bounds.answer result ≡ bounds_of sheet }
 {
-    let told = bound::bounds(sheet);
-    let refusal = told.refusal;
+    let told = bound::bounds(sheet)?;
     let holds = told.holds;
     let rows = told.rows;
-    Results {
-        refusal,
-        holds,
-        rows,
-    }
+    Ok(Results { holds, rows })
 }
 
 // The sheet that some bytes hold.
-fn read_of(bytes: &[u8]) -> Reading
+fn read_of(bytes: &[u8]) -> Result<Sheet, Refusal>
     ensures { readers.outcome_and_sheet result ≡ reading bytes.now }
 {
     let told = reader::read(bytes);
-    let refusal = told.refusal;
-    let sheet = told.sheet;
-    Reading { refusal, sheet }
+    let sheet = told?;
+    Ok(sheet)
 }
