@@ -83,10 +83,18 @@ module _ (row : Row) (R : Duration) (s : Stretch) (b : ℕ) (al : Along row R s 
     whole_meets f g en et under =
         record { small_now = omega arith; small_then = omega arith; under = λ c d e. rw (ep, ez, en, et) (omega (arith, mul-le-mul_right (min row.threads b) (under c d e))) }
 
+    pub exact_meets : lasts row R s ≡ true → n ≡ on (duration_of row R s.from s.early) (min row.threads b) → t ≡ on (duration_of row R s.to s.late) (min row.threads b)
+        → RowMeets row R s b (record { now = p; then = z; spare = o })
+    exact_meets l en et = whole_meets _ _ en et (λ c d e. exact_under c d e l)
+
+    pub level_meets : n ≡ on (duration_of row R s.from s.early) (min row.threads b) → t ≡ on (duration_of row R s.from s.late) (min row.threads b)
+        → RowMeets row R s b (record { now = p; then = z; spare = o })
+    level_meets en et = whole_meets _ _ en et level_under
+
     pub own_meets : (l : Bool) (u : Duration) → l ≡ lasts row R s → u ≡ pick l s.to s.from → n ≡ on (duration_of row R s.from s.early) (min row.threads b)
         → t ≡ on (duration_of row R u s.late) (min row.threads b) → RowMeets row R s b (record { now = p; then = z; spare = o })
-    own_meets true u el eu en et = whole_meets _ _ en (rw eu at et) (λ c d e. exact_under c d e (sym el))
-    own_meets false u el eu en et = whole_meets _ _ en (rw eu at et) level_under
+    own_meets true u el eu en et = exact_meets (sym el) en (rw eu at et)
+    own_meets false u el eu en et = level_meets en (rw eu at et)
 
   share_most : (L Y : Duration) (n : FineAmount) → n ≡ on_fine (share_of row R L Y) (min row.threads b) → Y.0 ≤ widest_separation → n.0 ≤ 256 * (widest_separation * most_processors)
   unfolding share_of
