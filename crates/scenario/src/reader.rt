@@ -12,7 +12,7 @@ use basis::{MOST_ROWS, Refusal};
 // The scenario's mark.
 pub const MARK: [u8; 4] = *b"GSC\x01";
 
-// How many slots there are after the mark.
+// How many slots there are after the mark. Only a slot says where the next one begins, so the loop goes by the bytes.
 fn count_slots(rows: &Rows, bytes: &[u8]) -> Result<usize, Refusal>
     ensures { Counted (slots (sheet_in rows.now.sheet.now) (length bytes.now) bytes.now 4) result }
 {
@@ -26,8 +26,8 @@ fn count_slots(rows: &Rows, bytes: &[u8]) -> Result<usize, Refusal>
     Ok(count)
 }
 
-// Fills a list with the slots after the mark, where none is refused and as many zeros stand at its front as they have entries. The loop goes by the bytes, and cuts the
-// parts of the list itself: too little is known of a list whose chunks are written into.
+// Fills a list with the slots after the mark, where none is refused and as many zeros stand at its front as they have entries.
+// The list is cut by hand: after a loop over chunks that are written into, nothing is known of the list.
 fn fill(rows: &Rows, bytes: &[u8], releases: &mut [u64])
     requires { Fills (slots (sheet_in rows.now.sheet.now) (length bytes.now) bytes.now 4) releases.old }
     ensures { releases.new ≡ fill_by (slots (sheet_in rows.now.sheet.now) (length bytes.now) bytes.now 4) releases.old }
