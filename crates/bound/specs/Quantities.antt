@@ -35,10 +35,6 @@ minus a b = slots (a.0 - b.0)
 abbrev pub lesser : Duration → Duration → Duration
 lesser a b = slots (min a.0 b.0)
 
--- The longer of two durations.
-abbrev pub greater : Duration → Duration → Duration
-greater a b = slots (max a.0 b.0)
-
 -- A duration so many times.
 abbrev pub times : ℕ → Duration → Duration
 times n a = slots (n * a.0)
@@ -62,10 +58,6 @@ no_amount = record { 0 = 0 }
 -- One amount and another.
 abbrev pub plus_amount : Amount → Amount → Amount
 plus_amount a b = record { 0 = a.0 + b.0 }
-
--- What one amount is more by than another; none where it is not more.
-abbrev pub minus_amount : Amount → Amount → Amount
-minus_amount a b = record { 0 = a.0 - b.0 }
 
 -- The amounts f 0, .., f (n - 1) together.
 abbrev pub together : ℕ → (ℕ → Amount) → Amount

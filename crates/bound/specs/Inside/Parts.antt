@@ -36,18 +36,6 @@ pieces n = record { 0 = n }
 abbrev pub on_fine : Fine → ℕ → FineAmount
 on_fine a p = pieces (a.0 * p)
 
--- An amount in 256ths.
-abbrev pub fine_amount : Amount → FineAmount
-fine_amount a = pieces (256 * a.0)
-
--- One amount in 256ths and another.
-abbrev pub plus_fine : FineAmount → FineAmount → FineAmount
-plus_fine a b = pieces (a.0 + b.0)
-
--- What one amount in 256ths is more by than another; none where it is not more.
-abbrev pub minus_fine : FineAmount → FineAmount → FineAmount
-minus_fine a b = pieces (a.0 - b.0)
-
 -- An amount in 256ths, rounded up to a whole one, is no less than a whole one.
 abbrev pub reaches : FineAmount → Amount → Bool
 reaches a b = ltb (256 * b.0) (a.0 + 256)
