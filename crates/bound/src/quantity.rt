@@ -58,11 +58,6 @@ impl<const AMOUNT: bool, const PARTS: u64> Quantity<AMOUNT, PARTS> {
         Quantity(self.0 - other.0)
     }
 
-    // What is left of it after another, where that is no more.
-    pub(crate) fn without(self, other: Self) -> Option<Self> {
-        Some(Quantity(self.0.checked_sub(other.0)?))
-    }
-
     // The lesser of two: by hand, since where it is `min` of the numbers the compiler takes it with a jump, and ordinary sheets take up to a third longer.
     pub(crate) fn lesser(self, other: Self) -> Self
         ensures { result.0 ≡ min self.entry.0 other.entry.0 }

@@ -9,7 +9,7 @@ ghost use Rattle.bound.specs.Inside.Ready.{held_in, Length, Above};
 ghost use Rattle.bound.specs.Inside.Skipping.{share_of, Shares, AllFail};
 
 use crate::quantity::{Duration, FineAmount, Quantity};
-use crate::test::{q_of, room_of, span_of, window_of};
+use crate::test::{fewer, q_of, room_of, span_of, window_of};
 use crate::turn::Turn;
 use sheet::Row;
 
@@ -27,7 +27,7 @@ pub(crate) fn share_above(
     let x = span_of(row, bound, length);
     let part = x.part(row.budget, Quantity(row.separation));
     let share = part.lesser(X.fine());
-    share.on(row.threads.min(q))
+    share.on(fewer(row.threads, q))
 }
 
 // The sum of the amounts above row `k` by their shares.

@@ -78,10 +78,13 @@ fn ends_above(row: Row, bound: Duration, s: Stretch, q: u64, spare: FineAmount) 
     }
     let shared = share_ends(row, bound, s, q, spare);
     let lost = own.now.minus(shared.now);
-    match spare.without(lost) {
-        Some(spare) => Ends { spare, ..shared },
-        None => own,
+    if lost <= spare {
+        return Ends {
+            spare: spare.minus(lost),
+            ..shared
+        };
     }
+    own
 }
 
 // The ends of the first `i` rows above row `k`, and of row `i`.

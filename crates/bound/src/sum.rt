@@ -9,7 +9,7 @@ ghost use Rattle.bound.specs.Inside.Skipping.{Adds, Fills};
 
 use crate::pace::{Pace, joined, stay_of_row};
 use crate::quantity::{Amount, Duration, Quantity};
-use crate::test::{amount_above, q_of, room_of, window_of};
+use crate::test::{amount_above, fewer, q_of, room_of, window_of};
 use crate::turn::Turn;
 use basis::MOST_SEPARATION;
 
@@ -32,12 +32,13 @@ fn add_next(turn: &Turn, length: Duration, X: Duration, q: u64, added: Added) ->
     let stay = stay_of_row(row, bound, length, X);
     Added {
         sum: added.sum.plus(amount),
-        pace: joined(added.pace, row.threads.min(q), stay),
+        pace: joined(added.pace, fewer(row.threads, q), stay),
         rows: i + 1,
     }
 }
 
-// The test of a length of row `k`: rows above are added until their sum reaches q × X. It passes where the sum does not.
+// The test of a length of row `k`: rows above are added until their sum reaches q × X. It passes where the sum does not. The rows that are added count themselves: a `for`
+// would count them a second time.
 pub(crate) fn sum_above(turn: &Turn, length: Duration) -> Added
     requires { Length (sheet_in turn.now.sheet.now) turn.now.k length }
     ensures { (Adds (sheet_in turn.now.sheet.now) (held_in turn.now.results.now) turn.now.k length result) × (test.passes (sheet_in turn.now.sheet.now) (held_in turn.now.results.now) turn.now.k length ≡ less result.sum (test.room (sheet_in turn.now.sheet.now) turn.now.k length)) }
@@ -53,7 +54,7 @@ pub(crate) fn sum_above(turn: &Turn, length: Duration) -> Added
         },
         rows: 0,
     };
-    for _row in 0..turn.k {
+    while added.rows < turn.k {
         added = add_next(turn, length, X, q, added);
         if room <= added.sum {
             return added;
@@ -70,7 +71,7 @@ fn add_rest(turn: &Turn, length: Duration, added: Added) -> Added
     let q = q_of(turn);
     let X = window_of(turn, length);
     let mut all = added;
-    for _row in added.rows..turn.k {
+    while all.rows < turn.k {
         all = add_next(turn, length, X, q, all);
     }
     all

@@ -10,6 +10,13 @@ use crate::quantity::{Amount, Duration, Quantity};
 use crate::turn::Turn;
 use sheet::{Row, processors};
 
+// The smaller of two counts, by hand as the lesser of two quantities is.
+pub(crate) fn fewer(a: u64, b: u64) -> u64
+    ensures { result ≡ min a b }
+{
+    if a < b { a } else { b }
+}
+
 // q, of row `k`.
 pub(crate) fn q_of(turn: &Turn) -> u64
     ensures { result ≡ q (sheet_in turn.now.sheet.now) turn.now.k }
@@ -64,7 +71,7 @@ pub(crate) fn amount_above(
     let x = span_of(row, bound, length);
     let W = work_of(row, x);
     let duration = W.lesser(X);
-    duration.on(row.threads.min(q))
+    duration.on(fewer(row.threads, q))
 }
 
 // q × X, of row `k` and a length.

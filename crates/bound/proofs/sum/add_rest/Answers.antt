@@ -3,5 +3,5 @@ use Rattle.basis.specs.Prelude.{rules}
 use Rattle.bound.proofs.Sums.{fills_still}
 use Rattle.bound.proofs.sum.add_rest.Goals as goal
 
-pub loop-row-preserved : goal.loop-row-preserved
-loop-row-preserved c = (search rules, search rules, search fills_still)
+pub loop-all-preserved : goal.loop-all-preserved
+loop-all-preserved c = (search rules, search fills_still)

@@ -4,8 +4,8 @@ use Rattle.bound.proofs.Durations.{at_most_is}
 use Rattle.bound.proofs.Sums.{adds_none, reached_tells, all_tell}
 use Rattle.bound.proofs.sum.sum_above.Goals as goal
 
-pub loop-row-init : goal.loop-row-init
-loop-row-init c = (search rules, search adds_none)
+pub loop-added-init : goal.loop-added-init
+loop-added-init c = search adds_none
 
 pub returns-then-le : goal.returns-then-le
 returns-then-le c = (search rules, search (reached_tells, at_most_is))
