@@ -1,7 +1,7 @@
 -- The two kinds of quantity: a duration in slots, and an amount, which is slots times processors.
 -- Only `on` leads from one kind to the other, and no sum adds one kind to another.
 use Rattle.std.specs.Prelude.{◌+◌, ◌-◌, ◌*◌, ◌/◌, ◌%◌}
-use Rattle.basis.specs.Prelude.{ℕ, min, max, Bool, ltb}
+use Rattle.basis.specs.Prelude.{ℕ, min, Bool, ltb}
 use Rattle.basis.specs.Words.{sum}
 use Rattle.bound.specs.declared.quantity.Quantity.{Quantity}
 

@@ -1,6 +1,6 @@
 -- Durations and amounts in 256ths, by which the search takes shares of them. No promise of a public function speaks of them.
 -- Only `on_fine` leads from one kind to the other, and no sum adds one kind to another, nor 256ths to what is whole.
-use Rattle.std.specs.Prelude.{◌+◌, ◌-◌, ◌*◌, ◌/◌}
+use Rattle.std.specs.Prelude.{◌+◌, ◌*◌, ◌/◌}
 use Rattle.basis.specs.Prelude.{ℕ, min, Bool, ltb}
 use Rattle.bound.specs.declared.quantity.Quantity.{Quantity}
 use Rattle.bound.specs.Quantities.{Duration, Amount}
