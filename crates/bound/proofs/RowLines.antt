@@ -1,6 +1,6 @@
 -- A straight line that a row's amount is never below along a stretch, for each of three ways to choose it: its own amounts, its shares, and level. Assumes nothing.
-use Rattle.basis.specs.Prelude.{Bool, false, sym, ◌∙◌, ℕ, ◌+◌, ◌*◌, ◌-◌, ◌%◌, ◌≤◌, min, ◌≡◌, true, mul-le-mul_left, mul-le-mul_right, le_of_mul-le-mul_right, div-mul-le_self, mod-lt, arith, leb-true, leb, Fits, w64}
-use Rattle.bound.proofs.Names.{most_processors, lesser_evenly, Row, widest_separation, slots, plus, on, on_fine, x, W, duration_of, share_of, way, Along, RowMeets, lasts, pick, Above, Duration, Amount, FineAmount, Stretch}
+use Rattle.basis.specs.Prelude.{Bool, ◌∙◌, ℕ, ◌+◌, ◌*◌, ◌-◌, ◌%◌, ◌≤◌, min, ◌≡◌, true, mul-le-mul_left, mul-le-mul_right, le_of_mul-le-mul_right, div-mul-le_self, mod-lt, arith, leb-true, leb, Fits, w64}
+use Rattle.bound.proofs.Names.{most_processors, lesser_evenly, Row, widest_separation, slots, plus, on, on_fine, x, W, duration_of, share_of, way, Along, RowMeets, lasts, Duration, Amount, FineAmount, Stretch}
 use Rattle.bound.proofs.Durations.{most_fine}
 use Rattle.bound.proofs.Workload.{W_mono, W_shares, W_evenly}
 
@@ -70,11 +70,6 @@ module _ (row : Row) (R : Duration) (s : Stretch) (b : ℕ) (al : Along row R s 
     unfolding lasts
     lasts_is e t et ez ee = et ∙ rw (ee, er, ew, ez)
 
-  -- the length that its own amount at the end is of
-  pub last_along : (l : Bool) (u : Duration) → u ≡ pick l s.to s.from → Above row R u
-  last_along true u e = rw e al.to
-  last_along false u e = rw e al.from
-
   -- the code's three choices
   module _ (n t : Amount) (p z o : FineAmount) (ep : p.0 ≡ 256 * n.0) (ez : z.0 ≡ 256 * t.0) (sn : n.0 ≤ widest_separation * most_processors) (st : t.0 ≤ widest_separation * most_processors) where
     whole_meets : (f g : Duration) → n ≡ on f (min row.threads b) → t ≡ on g (min row.threads b)
@@ -90,11 +85,6 @@ module _ (row : Row) (R : Duration) (s : Stretch) (b : ℕ) (al : Along row R s 
     pub level_meets : n ≡ on (duration_of row R s.from s.early) (min row.threads b) → t ≡ on (duration_of row R s.from s.late) (min row.threads b)
         → RowMeets row R s b (record { now = p; then = z; spare = o })
     level_meets en et = whole_meets _ _ en et level_under
-
-    pub own_meets : (l : Bool) (u : Duration) → l ≡ lasts row R s → u ≡ pick l s.to s.from → n ≡ on (duration_of row R s.from s.early) (min row.threads b)
-        → t ≡ on (duration_of row R u s.late) (min row.threads b) → RowMeets row R s b (record { now = p; then = z; spare = o })
-    own_meets true u el eu en et = exact_meets (sym el) en (rw eu at et)
-    own_meets false u el eu en et = level_meets en (rw eu at et)
 
   share_most : (L Y : Duration) (n : FineAmount) → n ≡ on_fine (share_of row R L Y) (min row.threads b) → Y.0 ≤ widest_separation → n.0 ≤ 256 * (widest_separation * most_processors)
   unfolding share_of

@@ -1,6 +1,6 @@
 // A stretch of lengths, decided at its two ends: where the rows above reach the room at both, by amounts that grow evenly from one to the other and that they never
 // fall below, every length between fails. All of it in 256ths.
-ghost use Rattle.std.specs.Prelude.{◌≡◌, ◌+◌, ◌<◌};
+ghost use Rattle.std.specs.Prelude.{◌≡◌, true, ◌+◌, ◌<◌};
 ghost use Rattle.sheet.specs.Lists.{sheet_in};
 ghost use Rattle.bound.specs.Inside.Ready.{held_in, Length};
 ghost use Rattle.bound.specs.Inside.Skipping.{Stretches, Along, RowMeets, RowsMeet, lasts, AllFail};
@@ -39,14 +39,28 @@ fn lasts(row: Row, bound: Duration, s: Stretch, q: u64) -> bool
     end <= Quantity(row.separation)
 }
 
-// The ends of a row above by its own amounts, where its present separation lasts; else as if it had run no more at the end than at the start.
-fn own_ends(row: Row, bound: Duration, s: Stretch, lasting: bool, q: u64, spare: FineAmount) -> Ends
-    requires { (Along row bound s q) × (lasting ≡ lasts row bound s) }
+// The ends of a row above whose present separation lasts: its own amounts.
+fn exact_ends(row: Row, bound: Duration, s: Stretch, q: u64, spare: FineAmount) -> Ends
+    requires { (Along row bound s q) × (lasts row bound s ≡ true) }
     ensures { RowMeets row bound s q result }
 {
-    let last = s.to.where_so(lasting, s.from);
     let now = amount_above(row, bound, s.from, s.early, q);
-    let then = amount_above(row, bound, last, s.late, q);
+    let then = amount_above(row, bound, s.to, s.late, q);
+    Ends {
+        now: now.fine(),
+        then: then.fine(),
+        spare,
+    }
+}
+
+// The ends of any row above, as if it had run no more at the end than at the start. A function of its own, since one for both takes the later length by a choice, and hard
+// sheets take up to a tenth longer.
+fn level_ends(row: Row, bound: Duration, s: Stretch, q: u64, spare: FineAmount) -> Ends
+    requires { Along row bound s q }
+    ensures { RowMeets row bound s q result }
+{
+    let now = amount_above(row, bound, s.from, s.early, q);
+    let then = amount_above(row, bound, s.from, s.late, q);
     Ends {
         now: now.fine(),
         then: then.fine(),
@@ -71,20 +85,19 @@ fn ends_above(row: Row, bound: Duration, s: Stretch, q: u64, spare: FineAmount) 
     requires { Along row bound s q }
     ensures { RowMeets row bound s q result }
 {
-    let lasting = lasts(row, bound, s, q);
-    let own = own_ends(row, bound, s, lasting, q, spare);
-    if lasting {
-        return own;
+    if lasts(row, bound, s, q) {
+        return exact_ends(row, bound, s, q, spare);
     }
+    let level = level_ends(row, bound, s, q, spare);
     let shared = share_ends(row, bound, s, q, spare);
-    let lost = own.now.minus(shared.now);
+    let lost = level.now.minus(shared.now);
     if lost <= spare {
         return Ends {
             spare: spare.minus(lost),
             ..shared
         };
     }
-    own
+    level
 }
 
 // The ends of the first `i` rows above row `k`, and of row `i`.
