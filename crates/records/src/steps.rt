@@ -49,14 +49,15 @@ fn judge(left: u64, since: u64, deadline: u64, code: u8) -> u8
     ensures { result ≡ code_at_end left since deadline code }
 {
     if code == NO_JOB {
-        NO_JOB
-    } else if left == 0 {
-        FINISHED
-    } else if since == deadline {
-        MISSED
-    } else {
-        code
+        return NO_JOB;
     }
+    if left == 0 {
+        return FINISHED;
+    }
+    if since == deadline {
+        return MISSED;
+    }
+    code
 }
 
 impl Job {
@@ -66,12 +67,11 @@ impl Job {
         ensures { result ≡ released release self }
     {
         if release == 0 {
-            self
-        } else {
-            Job {
-                remaining: release,
-                since: 0,
-            }
+            return self;
+        }
+        Job {
+            remaining: release,
+            since: 0,
         }
     }
 
@@ -81,26 +81,26 @@ impl Job {
         ensures { result ≡ placed_row row self free }
     {
         if self.remaining == 0 {
-            Placed {
+            return Placed {
                 free,
                 after: self,
                 code: NO_JOB,
-            }
-        } else if free < row.threads {
-            Placed {
+            };
+        }
+        if free < row.threads {
+            return Placed {
                 free,
                 after: self,
                 code: WAITED,
-            }
-        } else {
-            Placed {
-                free: free - row.threads,
-                after: Job {
-                    remaining: self.remaining - 1,
-                    ..self
-                },
-                code: RAN,
-            }
+            };
+        }
+        Placed {
+            free: free - row.threads,
+            after: Job {
+                remaining: self.remaining - 1,
+                ..self
+            },
+            code: RAN,
         }
     }
 
@@ -110,14 +110,19 @@ impl Job {
         ensures { result ≡ aged_row row self code }
     {
         let since = older(self.since, row.separation);
-        let remaining = if since == row.deadline {
-            0
-        } else {
-            self.remaining
-        };
+        let code = judge(self.remaining, since, row.deadline, code);
+        if since == row.deadline {
+            return Aged {
+                after: Job {
+                    remaining: 0,
+                    since,
+                },
+                code,
+            };
+        }
         Aged {
-            after: Job { remaining, since },
-            code: judge(self.remaining, since, row.deadline, code),
+            after: Job { since, ..self },
+            code,
         }
     }
 
