@@ -2,7 +2,7 @@
 pub use Rattle.basis.proofs.Inside.FirstRefusal.{both_accepted, first_at, first_found, first_more, first_same}
 pub use Rattle.basis.proofs.Inside.Lists.{get_d_all}
 pub use Rattle.basis.proofs.Inside.Upto.{length_upto, upto_agree, upto_below, upto_none, upto_past, upto_set}
-pub use Rattle.basis.proofs.Inside.Words.{all_at, all_fails, all_one_more, all_same, all_true, at_least, at_most, both_left, both_right, both_true, lt_or_le, true_not_false, within_true}
+pub use Rattle.basis.proofs.Inside.Words.{all_at, all_one_more, all_same, all_true, at_least, at_most, both_left, both_right, both_true, lt_or_le, true_not_false, within_true}
 pub use Rattle.basis.proofs.Refusals.{needed_holds, outcome_one_to_one}
 pub use Rattle.basis.specs.Limits.{most_rows, most_separation}
 pub use Rattle.basis.specs.Refusals.{Outcome, accepted, is_accepted, needed, or_else, outcome, refused}
@@ -34,7 +34,7 @@ pub use Rattle.sheet.proofs.Legality.{legal_is}
 pub use Rattle.sheet.proofs.Ranges.{legal_sheet_long, not_so}
 pub use Rattle.sheet.specs.Legal.{Legal, LegalRow, no_row, row_at}
 unfoldable pub use Rattle.sheet.specs.Legal.{legal, legal_at, legal_row}
-pub use Rattle.sheet.specs.Lists.{number_at, sheet_long}
+pub use Rattle.sheet.specs.Lists.{number_at}
 unfoldable pub use Rattle.sheet.specs.Lists.{cleared_cell, filled, row_in, sheet_in}
 pub use Rattle.sheet.specs.declared.row.Row.{Row}
 pub use Rattle.sheet.specs.declared.row.Sheet.{Sheet}

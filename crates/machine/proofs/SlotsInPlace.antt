@@ -11,6 +11,20 @@ use Rattle.machine.proofs.Inside.Legals.{legal_state_is, legal_state_says}
 use Rattle.machine.proofs.LegalLists.{kept_spare, kept_long, kept_record}
 use Rattle.machine.proofs.Inside.RecordLists.{put_record_past, put_more, put_agree, state_put}
 
+-- a row's step is its part of the slot: what it leaves free, its record, and its code
+module _ (h : Sheet) (t : State) (rel : List ℕ) (k : ℕ) (r : Placed) (er : r ≡ stepped_row (row_at h k) (record_at t k).job (get_or rel k 0) (free (given h t rel) k)) where
+  pub stepped_free : r.free ≡ free (given h t rel) (k + 1)
+  unfolding free_at stepped_row begun_row given
+  stepped_free = rw (add-one, er)
+
+  pub stepped_next : record_of r.after ≡ next (given h t rel) k
+  unfolding stepped_row begun_row given
+  stepped_next = rw er
+
+  pub stepped_code : r.code ≡ code (given h t rel) k
+  unfolding stepped_row begun_row given
+  stepped_code = rw er
+
 -- `step_rows`: a turn
 module _ (h : Sheet) (l₀ l rel : List ℕ) (fine : legal h ≡ true) (kept : legal_state h (state_in l₀) ≡ true) (f i : ℕ) (below : i < h.count)
     (ef : f ≡ free (given h (state_in l₀) rel) i) (so_far : l ≡ put_to i (next (given h (state_in l₀) rel)) l₀)
@@ -20,16 +34,13 @@ module _ (h : Sheet) (l₀ l rel : List ℕ) (fine : legal h ≡ true) (kept : l
       rw (so_far, put_record_past (next (given h (state_in l₀) rel)) l₀ i i (le_refl i), kept_record h l₀ fine kept i below, ef) at er
 
   pub free_moves : r.free ≡ free (given h (state_in l₀) rel) (i + 1)
-  unfolding free_at stepped_row begun_row given
-  free_moves = rw (add-one, here_stepped)
+  free_moves = stepped_free h (state_in l₀) rel i r here_stepped
 
   pub list_moves : (l' : List ℕ) → l' ≡ put_record l i (record_of r.after) → l' ≡ put_to (i + 1) (next (given h (state_in l₀) rel)) l₀
-  unfolding stepped_row begun_row given
-  list_moves l' e = e ∙ put_more i (next (given h (state_in l₀) rel)) l l₀ (record_of r.after) so_far (rw here_stepped)
+  list_moves l' e = e ∙ put_more i (next (given h (state_in l₀) rel)) l l₀ (record_of r.after) so_far (stepped_next h (state_in l₀) rel i r here_stepped)
 
   pub codes_move : (cs cs₀ : List ℕ) → cs ≡ upto i (code (given h (state_in l₀) rel)) cs₀ → set cs i r.code ≡ upto (i + 1) (code (given h (state_in l₀) rel)) cs₀
-  unfolding stepped_row begun_row given
-  codes_move cs cs₀ e = upto_set i (code (given h (state_in l₀) rel)) cs cs₀ r.code e (rw here_stepped)
+  codes_move cs cs₀ e = upto_set i (code (given h (state_in l₀) rel)) cs cs₀ r.code e (stepped_code h (state_in l₀) rel i r here_stepped)
 
 -- and its end
 pub codes_done : (h : Sheet) (t : State) (rel cs cs₀ : List ℕ) → cs ≡ upto h.count (code (given h t rel)) cs₀ → cs ≡ next_codes h t rel cs₀

@@ -1,2 +1,1 @@
-pub mod StepLoops
 pub mod ValueLists

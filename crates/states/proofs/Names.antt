@@ -1,5 +1,5 @@
 -- The names from elsewhere that the proofs here share, passed on under one name.
-pub use Rattle.basis.proofs.Inside.Upto.{length_upto, upto_agree, upto_below, upto_over, upto_read, upto_set, upto_whole}
+pub use Rattle.basis.proofs.Inside.Upto.{length_upto, upto_agree, upto_below, upto_over, upto_read, upto_set}
 pub use Rattle.basis.specs.Limits.{most_rows}
 pub use Rattle.basis.specs.Refusals.{Outcome, outcome}
 unfoldable pub use Rattle.basis.specs.Upto.{upto}
@@ -15,7 +15,7 @@ unfoldable pub use Rattle.machine.specs.Slot.{free_at}
 pub use Rattle.machine.specs.States.{State, no_state, record_at, state_of}
 unfoldable pub use Rattle.records.specs.Methods.{aged_row, placed_row}
 pub use Rattle.records.specs.Records.{no_record, record_of}
-unfoldable pub use Rattle.records.specs.Steps.{released, worked}
+unfoldable pub use Rattle.records.specs.Steps.{worked}
 pub use Rattle.records.specs.declared.record.RowState.{RowState}
 pub use Rattle.records.specs.declared.steps.Aged.{Aged}
 pub use Rattle.records.specs.declared.steps.Placed.{Placed}

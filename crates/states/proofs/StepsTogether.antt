@@ -47,7 +47,7 @@ module _ (h : Sheet) (t : State) (rel cs : List ℕ) (long : h.count ≤ length 
       (λ k l. ap (λ (x : Aged). x.code) (aged_at_lem k l) ∙ row_code (free (given h t rel) k) (row_at h k) (begun (given h t rel) k))
       ∙ upto_over h.count h.count (code (given h t rel)) (placed_code h (released_state h t rel)) cs 0 (le_refl h.count) room
 
--- what the three methods give, one after another
+-- what the three give, one after another
 module _ (h : Sheet) (t : State) (rel cs : List ℕ) (u v : State) (ds : List ℕ) (long : length t.rows ≡ most_rows) (some : h.count ≤ most_rows) (room : h.count ≤ length cs)
     (eu : u ≡ released_state h t rel) (ev : v ≡ placed_state h u) (ed : ds ≡ placed_codes h u cs) where
   pub next_state_lem : (w : State) → w ≡ aged_state h v ds → w ≡ next_state h t rel

@@ -7,9 +7,7 @@ mod runs;
 mod slots;
 mod start;
 mod state;
-mod steps;
 
 pub use runs::Ran;
-pub use slots::Slotted;
-pub use start::{Started, fresh};
+pub use start::fresh;
 pub use state::State;

@@ -1,9 +1,7 @@
 // The lists of a sheet and of a state, and the state in a list.
-ghost use Rattle.std.specs.Prelude.{◌≡◌, length};
-ghost use Rattle.basis.specs.Limits.{most_rows};
+ghost use Rattle.std.specs.Prelude.{◌≡◌};
 ghost use Rattle.sheet.specs.Lists.{sheet_in};
-ghost use Rattle.machine.specs.States.{no_state};
-ghost use Rattle.machine.specs.Lists.{state_long, state_in};
+ghost use Rattle.machine.specs.Lists.{state_in};
 ghost use Rattle.states.specs.Values.{held};
 
 use crate::state::State;
@@ -16,7 +14,7 @@ use sheet::{SHEET_LONG, Sheet};
 pub(crate) fn listed(sheet: Sheet) -> [u64; SHEET_LONG]
     ensures { sheet_in result ≡ sheet }
 {
-    let mut list = [0u64; SHEET_LONG];
+    let mut list = [0; SHEET_LONG];
     sheet::put_sheet(&mut list, sheet);
     list
 }
@@ -25,50 +23,29 @@ pub(crate) fn listed(sheet: Sheet) -> [u64; SHEET_LONG]
 pub(crate) fn state_list(state: State) -> [u64; STATE_LONG]
     ensures { state_in result ≡ held state }
 {
-    let mut list = [0u64; STATE_LONG];
-    let mut i: usize = 0;
-    while i < MOST_ROWS {
-        let s = state.rows[i];
-        let at = i * RECORD_WIDE;
-        let job = s.job;
-        list[at] = job.remaining;
-        list[at + 1] = job.since;
-        i += 1;
+    let mut list = [0; STATE_LONG];
+    for i in 0..MOST_ROWS {
+        list[i * RECORD_WIDE] = state.rows[i].job.remaining;
+        list[i * RECORD_WIDE + 1] = state.rows[i].job.since;
     }
     list
 }
 
-// The state of which every record is zero.
-fn zeros() -> State
-    ensures { held result ≡ no_state }
-{
-    let none = RowState {
-        job: Job {
-            remaining: 0,
-            since: 0,
-        },
-    };
-    let rows = [none; MOST_ROWS];
-    State { rows }
-}
-
 // The state in a list with room for every record and no more.
-pub(crate) fn state_of(list: &[u64]) -> State
-    requires { length list.now ≡ state_long most_rows }
+pub(crate) fn state_of(list: &[u64; STATE_LONG]) -> State
     ensures { held result ≡ state_in list.now }
 {
-    let mut state = zeros();
-    let mut i: usize = 0;
-    while i < MOST_ROWS {
-        let at = i * RECORD_WIDE;
-        let s = RowState {
-            job: Job {
-                remaining: list[at],
-                since: list[at + 1],
-            },
+    let none = Job {
+        remaining: 0,
+        since: 0,
+    };
+    let mut rows = [RowState { job: none }; MOST_ROWS];
+    for i in 0..MOST_ROWS {
+        let job = Job {
+            remaining: list[i * RECORD_WIDE],
+            since: list[i * RECORD_WIDE + 1],
         };
-        state.rows[i] = s;
-        i += 1;
+        rows[i] = RowState { job };
     }
-    state
+    State { rows }
 }

@@ -5,16 +5,15 @@ ghost use Rattle.states.specs.Values.{held};
 
 use crate::lists::{listed, state_list};
 use crate::state::State;
-use machine::{Margin, margin_on};
+use basis::Refusal;
+use machine::margin_on;
 use sheet::Sheet;
 
 impl State {
     // The margin of a row: D - since - remaining.
-    pub fn margin(self, sheet: Sheet, row: usize) -> Margin
+    pub fn margin(self, sheet: Sheet, row: usize) -> Result<Option<i64>, Refusal>
         ensures { margin_answer result ≡ margin sheet (held self) row }
     {
-        let rows = listed(sheet);
-        let list = state_list(self);
-        margin_on(&rows, &list, row)
+        margin_on(&listed(sheet), &state_list(self), row)
     }
 }

@@ -11,37 +11,32 @@ use basis::Refusal;
 use machine::{check_run_in, run_on};
 use sheet::Sheet;
 
-// What a run answers: the slots done, the first refusal if there is one, and the state after those slots.
+// What a run answers: the slots done, the refusal that ended it if there is one, and the state after those slots.
 #[derive(Clone, Copy)]
 pub struct Ran {
     pub done: u64,
-    pub refusal: Refusal,
+    pub ended: Result<(), Refusal>,
     pub state: State,
 }
 
 impl State {
     // The checks of a run before its first slot, on the lists of the sheet and of the state: 10, 16, 11, 15.
-    pub fn check_run(self, sheet: Sheet, releases: &[u64], room: usize) -> Refusal
+    pub fn check_run(self, sheet: Sheet, releases: &[u64], room: usize) -> Result<(), Refusal>
         ensures { outcome result ≡ check_run sheet (held self) releases.now room }
     {
-        let rows = listed(sheet);
-        let list = state_list(self);
-        check_run_in(&rows, &list, releases, room)
+        check_run_in(&listed(sheet), &state_list(self), releases, room)
     }
 
     // A run: its checks, then slot by slot.
     pub fn run(self, sheet: Sheet, releases: &[u64], codes: &mut [u8]) -> Ran
         ensures { ran result codes.new ≡ run sheet (held self) releases.now codes.old }
     {
-        let rows = listed(sheet);
         let mut list = state_list(self);
-        let did = run_on(&rows, &mut list, releases, codes);
-        let refusal = did.refusal;
-        let state = state_of(&list);
+        let did = run_on(&listed(sheet), &mut list, releases, codes);
         Ran {
             done: did.done,
-            refusal,
-            state,
+            ended: did.ended,
+            state: state_of(&list),
         }
     }
 }

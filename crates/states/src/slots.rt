@@ -1,4 +1,4 @@
-// One slot, by value: its checks, and then releases, placement and ageing.
+// One slot, by value: its checks, and then its rows from the top.
 ghost use Rattle.std.specs.Prelude.{◌≡◌, ◌≤◌, length};
 ghost use Rattle.basis.specs.Limits.{most_rows};
 ghost use Rattle.basis.specs.Refusals.{outcome};
@@ -10,53 +10,39 @@ use crate::lists::{listed, state_list};
 use crate::state::State;
 use basis::Refusal;
 use machine::check_slot_in;
+use records::RowState;
 use sheet::Sheet;
-
-// What a slot answers: accepted with the next state, or refused with the state as it came.
-#[derive(Clone, Copy)]
-pub struct Slotted {
-    pub refusal: Refusal,
-    pub state: State,
-}
 
 impl State {
     // The checks of a slot, on the lists of the sheet and of the state.
-    fn check_slot(self, sheet: Sheet, releases: &[u64], room: usize) -> Refusal
+    fn check_slot(self, sheet: Sheet, releases: &[u64], room: usize) -> Result<(), Refusal>
         ensures { outcome result ≡ check_slot sheet (held self) releases.now room }
     {
-        let rows = listed(sheet);
-        let list = state_list(self);
-        check_slot_in(&rows, &list, releases, room)
+        check_slot_in(&listed(sheet), &state_list(self), releases, room)
     }
 
-    // The state after a slot whose checks have passed; its codes are written.
+    // The state after a slot whose checks have passed: rows from the top, with every processor free; its codes are written.
     fn next(self, sheet: Sheet, releases: &[u64], codes: &mut [u8]) -> State
         requires { (sheet.count ≤ most_rows) × (sheet.count ≤ length releases.now) × (sheet.count ≤ length codes.old) }
         ensures { (held result ≡ next_state sheet (held self) releases.now)
             × (codes.new ≡ next_codes sheet (held self) releases.now codes.old) }
     {
-        let begun = self.released(sheet, releases);
-        let placed = begun.placed(sheet, codes);
-        placed.aged(sheet, codes)
+        let mut rows = self.rows;
+        let mut free = sheet.processors;
+        for i in 0..sheet.count as usize {
+            let stepped = rows[i].job.stepped(sheet.rows[i], releases[i], free);
+            rows[i] = RowState { job: stepped.after };
+            codes[i] = stepped.code;
+            free = stepped.free;
+        }
+        State { rows }
     }
 
-    // One slot: the next state, and a code for each row.
-    pub fn slot(self, sheet: Sheet, releases: &[u64], codes: &mut [u8]) -> Slotted
-        ensures { slotted result codes.new ≡ slot sheet (held self) releases.now codes.old }
+    // One slot: the next state, and a code for each row; a refused slot writes no code.
+    pub fn slot(self, sheet: Sheet, releases: &[u64], codes: &mut [u8]) -> Result<State, Refusal>
+        ensures { slotted (held self) result codes.new ≡ slot sheet (held self) releases.now codes.old }
     {
-        let refusal = self.check_slot(sheet, releases, codes.len());
-        match refusal {
-            Refusal::Refused(number, place) => Slotted {
-                refusal: Refusal::Refused(number, place),
-                state: self,
-            },
-            Refusal::Accepted => {
-                let state = self.next(sheet, releases, codes);
-                Slotted {
-                    refusal: Refusal::Accepted,
-                    state,
-                }
-            }
-        }
+        self.check_slot(sheet, releases, codes.len())?;
+        Ok(self.next(sheet, releases, codes))
     }
 }

@@ -1,4 +1,4 @@
--- What the methods inside a slot answer: releases, placement and ageing, each by itself, of every row.
+-- Releases, placement and ageing, each by itself, of every row: one after another they make the slot.
 use Rattle.basis.specs.Prelude.{ℕ, List, get_or}
 use Rattle.basis.specs.Upto.{upto}
 use Rattle.sheet.specs.Legal.{row_at}

@@ -1,17 +1,16 @@
 -- `state_of` meets its promise. Assumes nothing.
-use Rattle.basis.specs.Prelude.{rules, refl}
-use Rattle.states.proofs.Names.{upto, record_in}
-use Rattle.states.proofs.Inside.ValueLists.{records_more, records_done}
+use Rattle.basis.specs.Prelude.{◌≡◌, refl, arith}
+use Rattle.states.proofs.Names.{most_rows, upto, upto_set, record_in}
+use Rattle.states.proofs.Inside.ValueLists.{records_done}
 use Rattle.states.proofs.lists.state_of.Goals as goal
 
 pub loop-i-init : goal.loop-i-init
-unfolding upto record_in
-loop-i-init c = (search rules, search rules, refl)
+unfolding upto
+loop-i-init c = refl
 
 pub loop-i-preserved : goal.loop-i-preserved
-unfolding upto record_in
-loop-i-preserved c = (search rules, search rules, search records_more)
+unfolding record_in
+loop-i-preserved c = upto_set _ _ _ _ _ c.loop-i.invariant refl
 
 pub returns : goal.returns
-unfolding upto record_in
-returns c = search records_done
+returns c = let all : c.loop-i.i ≡ most_rows = omega arith in records_done _ _ (rw all at c.loop-i.invariant) c.told-list
