@@ -13,7 +13,7 @@ pub use Rattle.bound.specs.Lists.{results_long, words}
 unfoldable pub use Rattle.bound.specs.Lists.{bounds_on, judged_bytes, result_cell, word_at}
 unfoldable pub use Rattle.bound.specs.Test.{W, X, amount_of, amounts, duration_of, passes, q, room, x}
 pub use Rattle.dashboard.specs.Inside.Ready.{LabelsLie, Roomy}
-unfoldable pub use Rattle.dashboard.specs.Labels.{line_label, numbered, own_label}
+unfoldable pub use Rattle.dashboard.specs.Labels.{numbered, own_label}
 pub use Rattle.dashboard.specs.Longest.{input_buffer, text_buffer, text_size}
 unfoldable pub use Rattle.dashboard.specs.Longest.{input_size, longest_line, longest_text}
 pub use Rattle.dashboard.specs.Meaning.{EndsIn, LastLine, NoVerdict, Reported}
@@ -21,7 +21,6 @@ pub use Rattle.dashboard.specs.Texts.{fixed_count, prefix, text_of}
 unfoldable pub use Rattle.dashboard.specs.Texts.{board, lines, reference_text, section, sections, verdict_text}
 pub use Rattle.dashboard.specs.Words.{bound_word, ending, holds_line, newline, no_verdict_word, none_word, space, unreached_word}
 unfoldable pub use Rattle.dashboard.specs.Words.{line, line_start, no_verdict, refused_by, result_words}
-pub use Rattle.dashboard.specs.declared.line.Labels.TheVariants.{Numbered, Own}
 unfoldable pub use Rattle.numbers.specs.Numbers.{groups, spelt, up_to_by, width}
 pub use Rattle.page.proofs.Digits.{decimal_grows, decimal_is_short, last_digit}
 pub use Rattle.page.proofs.Inside.Pages.{four_said, said_is_written, three_said, two_said}
@@ -31,7 +30,7 @@ pub use Rattle.page.specs.Pages.{Page}
 unfoldable pub use Rattle.page.specs.Pages.{said, written}
 pub use Rattle.reader.proofs.LegalSheets.{accepted_is_legal, accepted_read, refused_is_no_sheet}
 pub use Rattle.reader.proofs.Reach.{accepted_is_short, first_bytes_decide, refusal_is_listed}
-pub use Rattle.reader.proofs.RowLabels.{label_of_row, no_label}
+pub use Rattle.reader.proofs.RowLabels.{label_of_row}
 pub use Rattle.reader.specs.Answers.{reading, rows_read}
 unfoldable pub use Rattle.reader.specs.Answers.{label_in}
 pub use Rattle.reader.specs.Form.{sheet}

@@ -4,8 +4,6 @@ use Rattle.basis.specs.Prelude.{ℕ, List, take, drop}
 use Rattle.reader.specs.Answers.{label_in}
 use Rattle.reader.specs.declared.row.Part.{Part}
 use Rattle.page.specs.Decimals.{decimal}
-use Rattle.dashboard.specs.declared.line.Labels.{Labels}
-use Rattle.dashboard.specs.declared.line.Labels.TheVariants.{Own, Numbered}
 
 -- The bytes of a part.
 abbrev pub bytes_of : List ℕ → Part → List ℕ
@@ -18,8 +16,3 @@ own_label s i = bytes_of s (label_in s i)
 -- Some bytes, and the row number.
 unfoldable pub numbered : List ℕ → ℕ → List ℕ
 numbered s i = s ++ decimal i
-
--- The label of row i, by where the labels come from.
-unfoldable pub line_label : Labels → List ℕ → ℕ → List ℕ
-line_label Own = own_label
-line_label Numbered = numbered

@@ -2,6 +2,7 @@
 #![tactic(auto)]
 
 mod board;
+mod labels;
 mod line;
 mod report;
 mod room;

@@ -6,12 +6,11 @@ ghost use Rattle.dashboard.specs.Labels.{numbered};
 ghost use Rattle.dashboard.specs.Inside.Ready.{Roomy};
 ghost use Rattle.page.specs.Pages.{said, written};
 
-use crate::board::put_board;
-use crate::line::{Labels, put_no_verdict};
-use basis::Refusal;
+use crate::board::Board;
+use crate::labels::{NumberedLabels, OwnLabels};
+use crate::line::put_no_verdict;
 use bound::RESULTS_LONG;
 use page::put;
-use reader::LABELS_LONG;
 use sheet::SHEET_LONG;
 
 // The sheets of the reference: A to E.
@@ -22,25 +21,37 @@ const FEW_BYTES: usize = 36;
 
 const FEW_ROWS: usize = 4;
 
-// Writes the text of the verdict on some bytes, by lists that have room for their sheet.
-fn write_by(
-    bytes: &[u8],
-    text: &mut [u8],
-    list: &mut [u64],
-    parts: &mut [u64],
-    results: &mut [u64],
-) -> usize
-    requires { Roomy bytes.now list.old parts.old results.old }
+// The places of a list for such a sheet, and of one for its labels or its results.
+const FEW_LONG: usize = FEW_ROWS * 4 + 2;
+
+const FEW_PAIRS: usize = FEW_ROWS * 2;
+
+// Writes the text of the verdict on some bytes, by lists of these lengths, in which their sheet has room.
+fn write_in<const LONG: usize, const PAIRS: usize>(bytes: &[u8], text: &mut [u8]) -> usize
+    requires { Roomy bytes.now LONG PAIRS }
     ensures { (text.new, result) ≡ written (verdict_text bytes.now) text.old }
 {
-    let judgement = bound::judge_bytes(bytes, list, parts, results);
-    let refusal = judgement.refusal;
-    let holds = judgement.holds;
-    match refusal {
-        Refusal::Refused(number, place) => put_no_verdict(text, 0, number, place),
-        Refusal::Accepted => {
-            let count = sheet::count(list) as usize;
-            put_board(text, 0, Labels::Own, bytes, parts, results, count, holds)
+    let mut list = [0u64; LONG];
+    let mut parts = [0u64; PAIRS];
+    let mut results = [0u64; PAIRS];
+    match bound::judge_bytes(bytes, &mut list, &mut parts, &mut results) {
+        Ok(holds) => {
+            let rows = sheet::count(&list) as usize;
+            let labels = OwnLabels {
+                bytes,
+                parts: &parts,
+                rows,
+            };
+            let board = Board {
+                labels,
+                results: &results,
+                rows,
+            };
+            board.put(text, 0, holds)
+        }
+        Err(refusal) => {
+            let (number, place) = refusal.into();
+            put_no_verdict(text, 0, number, place)
         }
     }
 }
@@ -50,15 +61,10 @@ pub fn write_verdict(bytes: &[u8], text: &mut [u8]) -> usize
     ensures { (text.new, result) ≡ written (verdict_text bytes.now) text.old }
 {
     if bytes.len() < FEW_BYTES {
-        let mut list = [0u64; FEW_ROWS * 4 + 2];
-        let mut parts = [0u64; FEW_ROWS * 2];
-        let mut results = [0u64; FEW_ROWS * 2];
-        return write_by(bytes, text, &mut list, &mut parts, &mut results);
+        write_in::<FEW_LONG, FEW_PAIRS>(bytes, text)
+    } else {
+        write_in::<SHEET_LONG, RESULTS_LONG>(bytes, text)
     }
-    let mut list = [0u64; SHEET_LONG];
-    let mut parts = [0u64; LABELS_LONG];
-    let mut results = [0u64; RESULTS_LONG];
-    write_by(bytes, text, &mut list, &mut parts, &mut results)
 }
 
 // The lines of a fixed sheet.
@@ -69,20 +75,14 @@ fn put_fixed(text: &mut [u8], at: usize, number: usize) -> usize
     let sheet = tables::fixed_sheet(number);
     let mut list = [0u64; SHEET_LONG];
     sheet::put_sheet(&mut list, sheet);
-    let parts = [0u64; LABELS_LONG];
     let mut results = [0u64; RESULTS_LONG];
-    let judgement = bound::bounds_on(&list, &mut results);
-    let count = sheet.count as usize;
-    put_board(
-        text,
-        at,
-        Labels::Numbered,
-        b"r",
-        &parts,
-        &results,
-        count,
-        judgement.holds,
-    )
+    let holds = bound::bounds_on(&list, &mut results).unwrap_or(false);
+    let board = Board {
+        labels: NumberedLabels(b"r"),
+        results: &results,
+        rows: sheet.count as usize,
+    };
+    board.put(text, at, holds)
 }
 
 // A line with the letter of a fixed sheet, then its lines.
@@ -99,11 +99,9 @@ fn put_section(text: &mut [u8], at: usize, number: usize) -> usize
 pub fn write_reference(text: &mut [u8]) -> usize
     ensures { (text.new, result) ≡ written reference_text text.old }
 {
-    let mut next: usize = 0;
-    let mut i: usize = 0;
-    while i < FIXED_COUNT {
-        next = put_section(text, next, i);
-        i = i + 1;
+    let mut next = 0;
+    for number in 0..FIXED_COUNT {
+        next = put_section(text, next, number);
     }
     next
 }

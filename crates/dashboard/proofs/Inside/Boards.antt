@@ -1,21 +1,20 @@
 -- What each function says, from what its calls say. Assumes nothing.
-use Rattle.basis.specs.Prelude.{ℕ, zero, suc, ◌+◌, ◌-◌, ◌*◌, ◌^◌, ◌≤◌, ◌<◌, ◌≡◌, refl, ap, ap₂, ◌∙◌, Bool, List, ◌++◌, add-one, le_antisymm, add-sub_cancel_left, arith, length, ne_eqb, take, drop, w64, Fits}
-use Rattle.dashboard.proofs.Names.{number_at, Sheet, label_in, part_in, passes, Word, result_of, holds, word_at, decimal, bound_word, none_word, unreached_word, result_words, line, ending, own_label, numbered, line_label, LabelsLie, Own, Numbered, lines, board, Page, said, two_said}
+use Rattle.basis.specs.Prelude.{ℕ, zero, suc, ◌+◌, ◌-◌, ◌*◌, ◌^◌, ◌≤◌, ◌<◌, ◌≡◌, refl, ap, ap₂, Bool, List, ◌++◌, add-one, add-sub_cancel_left, arith, length, ne_eqb, take, drop, w64, Fits}
+use Rattle.dashboard.proofs.Names.{number_at, Sheet, label_in, part_in, passes, Word, result_of, holds, word_at, decimal, bound_word, none_word, unreached_word, result_words, line, ending, own_label, LabelsLie, lines, board, Page, said, two_said}
 use Rattle.reader.specs.declared.row.Part.{Part}
 use Rattle.reader.proofs.RowLabels.{label_in_bytes}
-use Rattle.dashboard.specs.declared.line.Labels.{Labels}
 
 -- ---- a line
 
 -- the label that a list shows in the bytes
-module _ (s parts : List ℕ) (i : ℕ) (e : part_in parts i ≡ label_in s i) where
+module _ (s parts : List ℕ) (n i : ℕ) (lie : LabelsLie s parts n) (l : i < n) where
   starts : number_at parts (i * 2) ≡ (label_in s i).start
   unfolding part_in
-  starts = ap (λ (p : Part). p.start) e
+  starts = ap (λ (p : Part). p.start) (lie i l)
 
   lasts : number_at parts (i * 2 + 1) ≡ (label_in s i).long
   unfolding part_in
-  lasts = ap (λ (p : Part). p.long) e
+  lasts = ap (λ (p : Part). p.long) (lie i l)
 
   pub label_inside : number_at parts (i * 2) + number_at parts (i * 2 + 1) ≤ length s
   label_inside = omega (arith, starts, lasts, label_in_bytes s i)
@@ -26,17 +25,6 @@ module _ (s parts : List ℕ) (i : ℕ) (e : part_in parts i ≡ label_in s i) w
   pub label_cut : take (number_at parts (i * 2) + number_at parts (i * 2 + 1) - number_at parts (i * 2)) (drop (number_at parts (i * 2)) s) ≡ own_label s i
   unfolding own_label
   label_cut = rw add-sub_cancel_left (ap₂ (λ (a b : ℕ). take b (drop a s)) starts lasts)
-
-module _ (p q : Page) (labels : Labels) (s : List ℕ) (i : ℕ) where
-  -- the sheet's own label
-  pub own_said : (l : List ℕ) → labels ≡ Own → l ≡ own_label s i → q ≡ said p l → q ≡ said p (line_label labels s i)
-  unfolding line_label
-  own_said l h k e = rw h (e ∙ ap (said p) k)
-
-  -- or the bytes and the row number
-  pub numbered_said : (r : Page) → labels ≡ Numbered → r ≡ said p s → q ≡ said r (decimal i) → q ≡ said p (line_label labels s i)
-  unfolding line_label numbered
-  numbered_said r h e f = rw h (two_said p r q s (decimal i) e f)
 
 module _ (p q : Page) (results : List ℕ) (i : ℕ) where
   pub unreached_said : number_at results (i * 2) ≡ 0 → q ≡ said p unreached_word → q ≡ said p (result_words (word_at results i))
@@ -51,24 +39,12 @@ module _ (p q : Page) (results : List ℕ) (i : ℕ) where
   unfolding result_words word_at
   none_said a b e = rw (ne_eqb (number_at results (i * 2)) 0 a, ne_eqb (number_at results (i * 2)) 1 b) e
 
--- the last line
-module _ (p q : Page) (yes : Bool) where
-  pub ending_said : (t : Bool) → yes ≡ t → q ≡ said p (ending t) → q ≡ said p (ending yes)
-  ending_said t h e = rw h e
-
 -- ---- the lines of a sheet
 
 module _ (p : Page) (label : ℕ → List ℕ) (result : ℕ → Word) where
   pub one_line : (q r : Page) (i : ℕ) → q ≡ said p (lines label result i) → r ≡ said q (line i (label i) (result i)) → r ≡ said p (lines label result (i + 1))
   unfolding lines
   one_line q r i e f = rw add-one (two_said p q r (lines label result i) _ e f)
-
-  pub all_lines : (q : Page) (i n : ℕ) → i ≤ n → n ≤ i → q ≡ said p (lines label result i) → q ≡ said p (lines label result n)
-  all_lines q i n h g e = e ∙ ap (λ (k : ℕ). said p (lines label result k)) (le_antisymm h g)
-
--- a row of n that there is room for
-pub label_lies_lem : (s parts : List ℕ) (i n : ℕ) → LabelsLie s parts n → i < n → part_in parts i ≡ label_in s i
-label_lies_lem s parts i n all h = all i h
 
 -- results that agree give the same lines
 lines_same : (label : ℕ → List ℕ) (f g : ℕ → Word) (n : ℕ) → ((i : ℕ) → i < n → f i ≡ g i) → lines label f n ≡ lines label g n

@@ -1,67 +1,66 @@
 -- The two ways out of a verdict, and the sections of the reference. Assumes nothing.
-use Rattle.basis.specs.Prelude.{ℕ, zero, suc, ◌+◌, ◌*◌, ◌≤◌, ◌<◌, ◌≡◌, refl, sym, ap, ap₂, ◌∙◌, Bool, true, List, ◌++◌, add-one, le_antisymm, arith, length}
-use Rattle.dashboard.proofs.Names.{most_rows, begins, all_of, Outcome, accepted, outcome, legal_row, legal_at, legal, filled, sheet_in, sheet_cell, sheet_long, Sheet, legal_is, head_by, sheet_by, reading, labels_long, part_in, refused_is_no_sheet, no_label, passes, result_of, holds, fixed_sheet, results_long, result_cell, bounds_on, words, word_at, judged_bytes, ending, no_verdict, own_label, numbered, line_label, LabelsLie, Roomy, Own, Numbered, lines, board, text_of, verdict_text, fixed_count, prefix, section, sections, reference_text, Page, written, said, two_said, said_is_written}
+use Rattle.basis.specs.Prelude.{ℕ, zero, suc, ◌+◌, ◌≤◌, ◌<◌, ◌≡◌, refl, ap, ◌∙◌, Bool, true, false, List, ◌++◌, add-one, le_antisymm, arith, length}
+use Rattle.dashboard.proofs.Names.{most_rows, all_of, Outcome, accepted, refused, outcome, legal_row, legal_at, legal, filled, sheet_in, sheet_cell, sheet_long, Sheet, legal_is, reading, labels_long, refused_is_no_sheet, passes, result_of, holds, fixed_sheet, results_long, result_cell, bounds_on, words, word_at, judged_bytes, ending, no_verdict, own_label, numbered, LabelsLie, Roomy, lines, board, text_of, verdict_text, fixed_count, prefix, section, sections, reference_text, Page, written, said, two_said, said_is_written}
+use Rattle.std.specs.Prelude.{Result, Ok, Err}
+use Rattle.std.specs.Result.{result_unwrap_or}
 use Rattle.basis.specs.declared.refusal.Refusal.{Refusal}
-use Rattle.basis.specs.declared.refusal.Refusal.TheVariants.{Accepted, Refused}
-use Rattle.basis.proofs.Inside.Lists.{get_d_all}
+use Rattle.bound.specs.Lists.{holding}
 use Rattle.sheet.proofs.RoundTrip.{whole_sheet_comes_back}
 use Rattle.sheet.proofs.Inside.FilledLists.{zeros, zeros_long}
 use Rattle.reader.proofs.Inside.ShortestSheet.{accepted_is_not_shorter}
 use Rattle.reader.proofs.Inside.ZeroLists.{rows_few}
 use Rattle.dashboard.proofs.Outcomes.{by_outcome}
-use Rattle.bound.specs.declared.results.Judgement.{Judgement}
 use Rattle.bound.proofs.FromBytes.{found, judged_outcome, judged_count, judged_few, judged_labels_long, judged_label, judged_results_long, judged_word, judged_holds}
 use Rattle.bound.proofs.Lists.{legal_is_put, word_there, word_comes_back}
 use Rattle.dashboard.proofs.Inside.Boards.{board_is}
 
--- ---- a verdict, where the bytes were judged
+-- ---- a verdict, where the bytes were judged in lists of zeros with room for their sheet
 
-module _ (s list parts results : List ℕ) (room : Roomy s list parts results) (a : Refusal) (h : Bool) (l b rs : List ℕ) (e : found (outcome a) h l b rs ≡ judged_bytes s list parts results) where
-  told_by_reader : outcome a ≡ (reading s).0
-  told_by_reader = judged_outcome s list parts results (outcome a) h l b rs e room.for_rows room.for_labels room.for_results
+-- what is then known of the first n rows: each has a label in a list, and a result in another
+pub record RowsRead (s parts results : List ℕ) (n : ℕ) : Type 0 where
+  pub few : n ≤ most_rows
+  pub labels : labels_long n ≤ length parts
+  pub lie : LabelsLie s parts n
+  pub judged : results_long n ≤ length results
 
-  text_of_lem : (o : Refusal) → a ≡ o → text_of s (outcome o, (reading s).1) ≡ verdict_text s
+module _ (s : List ℕ) (long pairs : ℕ) (room : Roomy s long pairs) (h : Bool) (l b rs : List ℕ) where
+  text_of_lem : (o : Outcome) → found o h l b rs ≡ judged_bytes s (zeros long) (zeros pairs) (zeros pairs) → text_of s (o, (reading s).1) ≡ verdict_text s
   unfolding verdict_text
-  text_of_lem o q = ap (λ (x : Outcome). text_of s (x, (reading s).1)) (ap outcome (sym q) ∙ told_by_reader)
+  text_of_lem o e =
+      ap (λ (x : Outcome). text_of s (x, (reading s).1))
+      (judged_outcome s (zeros long) (zeros pairs) (zeros pairs) o h l b rs e (omega (arith, zeros_long long, room.for_rows)) (omega (arith, zeros_long pairs, room.for_labels)) (omega arith))
 
-  pub verdict_refused : (buffer : List ℕ) (q : Page) (k p : ℕ) → a ≡ Refused k p → q ≡ said (buffer, 0) (no_verdict k p) → q ≡ written (verdict_text s) buffer
-  verdict_refused buffer q k p g f = said_is_written q _ buffer (f ∙ ap (said (buffer, 0)) (text_of_lem (Refused k p) g))
+  pub verdict_refused : (k p : ℕ) → found (refused k p) h l b rs ≡ judged_bytes s (zeros long) (zeros pairs) (zeros pairs)
+      → (buffer : List ℕ) (q : Page) → q ≡ said (buffer, 0) (no_verdict k p) → q ≡ written (verdict_text s) buffer
+  verdict_refused k p e buffer q f = said_is_written q _ buffer (f ∙ ap (said (buffer, 0)) (text_of_lem (refused k p) e))
 
-  module _ (g : a ≡ Accepted) (n : ℕ) (en : n ≡ (sheet_in l).count) where
-    accepts : outcome a ≡ accepted
-    accepts = ap outcome g
-
+  module _ (e : found accepted h l b rs ≡ judged_bytes s (zeros long) (zeros pairs) (zeros pairs)) (n : ℕ) (en : n ≡ (sheet_in l).count) where
     count_is : n ≡ (reading s).1.count
-    count_is = en ∙ judged_count s list parts results (outcome a) h l b rs e accepts
+    count_is = en ∙ judged_count s (zeros long) (zeros pairs) (zeros pairs) accepted h l b rs e refl
 
-    pub few_lines : n ≤ most_rows
-    few_lines = omega (arith, count_is, judged_few s list parts results (outcome a) h l b rs e accepts)
+    pub rows_are_read : RowsRead s b rs n
+    rows_are_read = record {
+      few = omega (arith, count_is, judged_few s (zeros long) (zeros pairs) (zeros pairs) accepted h l b rs e refl);
+      labels = omega (arith, count_is, judged_labels_long s (zeros long) (zeros pairs) (zeros pairs) accepted h l b rs e refl);
+      lie = λ i m. judged_label s (zeros long) (zeros pairs) (zeros pairs) accepted h l b rs e refl i (omega (arith, count_is));
+      judged = omega (arith, count_is, judged_results_long s (zeros long) (zeros pairs) (zeros pairs) accepted h l b rs e refl);
+    }
 
-    pub labels_there : labels_long n ≤ length b
-    labels_there = omega (arith, count_is, judged_labels_long s list parts results (outcome a) h l b rs e accepts)
-
-    pub labels_lie : LabelsLie s b n
-    labels_lie i m = judged_label s list parts results (outcome a) h l b rs e accepts i (omega (arith, count_is))
-
-    pub results_there : results_long n ≤ length rs
-    results_there = omega (arith, count_is, judged_results_long s list parts results (outcome a) h l b rs e accepts)
-
-    pub verdict_accepted : (buffer : List ℕ) (q : Page) → q ≡ said (buffer, 0) (lines (line_label Own s) (word_at rs) n ++ ending h) → q ≡ written (verdict_text s) buffer
-    unfolding line_label
+    pub verdict_accepted : (buffer : List ℕ) (q : Page) → q ≡ said (buffer, 0) (lines (own_label s) (word_at rs) n ++ ending h) → q ≡ written (verdict_text s) buffer
     verdict_accepted buffer q f =
         said_is_written q _ buffer (f ∙ ap (said (buffer, 0))
-        (board_is (reading s).1 (own_label s) (word_at rs) n h count_is (judged_word s list parts results (outcome a) h l b rs e accepts) (judged_holds s list parts results (outcome a) h l b rs e accepts)
-        ∙ text_of_lem Accepted g))
+        (board_is (reading s).1 (own_label s) (word_at rs) n h count_is (judged_word s (zeros long) (zeros pairs) (zeros pairs) accepted h l b rs e refl) (judged_holds s (zeros long) (zeros pairs) (zeros pairs) accepted h l b rs e refl)
+        ∙ text_of_lem accepted e))
 
 -- lists with room for every row have room for any sheet
-pub room_for_any : (s list parts results : List ℕ) → length list ≡ sheet_long most_rows → length parts ≡ labels_long most_rows → length results ≡ results_long most_rows → Roomy s list parts results
-room_for_any s list parts results a b d = record { for_rows = omega (arith, rows_few s); for_labels = omega (arith, rows_few s); for_results = omega arith }
+pub room_for_any : (s : List ℕ) → Roomy s (sheet_long most_rows) (labels_long most_rows)
+room_for_any s = record { for_rows = omega (arith, rows_few s); for_labels = omega (arith, rows_few s); few_long = omega arith; few_pairs = omega arith }
 
 -- and so have small ones for a sheet of few bytes
-pub room_for_few : (s list parts results : List ℕ) → length s < 36 → length list ≡ sheet_long 4 → length parts ≡ labels_long 4 → length results ≡ results_long 4 → Roomy s list parts results
-room_for_few s list parts results h a b d =
+pub room_for_few : (s : List ℕ) → length s < 36 → Roomy s (sheet_long 4) (labels_long 4)
+room_for_few s h =
     let few : (reading s).1.count ≤ 4 = by_outcome s (λ e. omega (arith, accepted_is_not_shorter s e)) (λ k p e. rw (refused_is_no_sheet s k p e) (omega arith)) in
-    record { for_rows = omega arith; for_labels = omega arith; for_results = omega arith }
+    record { for_rows = omega arith; for_labels = omega arith; few_long = omega arith; few_pairs = omega arith }
 
 -- ---- the reference
 
@@ -75,12 +74,10 @@ fixed_is_legal (suc (suc (suc zero))) l = (refl, refl)
 fixed_is_legal (suc (suc (suc (suc zero)))) l = (refl, refl)
 fixed_is_legal (suc (suc (suc (suc (suc i))))) l = absurd (omega arith)
 
--- the bytes of the prefix are no sheet, so they have no label
-pub no_labels_lie : (n : ℕ) → LabelsLie prefix (zeros (labels_long most_rows)) n
-unfolding part_in sheet_by head_by begins
-no_labels_lie n i l =
-    ap₂ (λ (x y : ℕ). record { start = x; long = y }) (get_d_all (labels_long most_rows) (i * 2) 0) (get_d_all (labels_long most_rows) (i * 2 + 1) 0)
-    ∙ sym (no_label prefix i (omega arith))
+-- whether it holds, which is told in a result
+unwrapped : (r : Result Bool Refusal) → result_unwrap_or r false ≡ holding r
+unwrapped (Ok holds) = refl
+unwrapped (Err refusal) = refl
 
 -- a fixed sheet
 module _ (i : ℕ) (i<n : i < fixed_count) (h : Sheet) (eh : h ≡ fixed_sheet i) where
@@ -90,27 +87,24 @@ module _ (i : ℕ) (i<n : i < fixed_count) (h : Sheet) (eh : h ≡ fixed_sheet i
   pub fixed_few : h.count ≤ most_rows
   fixed_few = (legal_is h legal_so).at_most_rows
 
-  pub fixed_labels : labels_long h.count ≤ labels_long most_rows
-  fixed_labels = omega (arith, fixed_few)
-
   pub fixed_results : (rs : List ℕ) → length rs ≡ results_long most_rows → results_long h.count ≤ length rs
   fixed_results rs e = omega (arith, fixed_few)
 
 -- its lines
-module _ (i : ℕ) (i<n : i < fixed_count) (h : Sheet) (eh : h ≡ fixed_sheet i) (list : List ℕ) (el : list ≡ filled (sheet_cell h) (zeros (sheet_long most_rows))) (r : Judgement) (rs : List ℕ)
-    (e : (outcome r.refusal, (r.holds, rs)) ≡ bounds_on list (zeros (results_long most_rows))) where
+module _ (i : ℕ) (i<n : i < fixed_count) (h : Sheet) (eh : h ≡ fixed_sheet i) (list : List ℕ) (el : list ≡ filled (sheet_cell h) (zeros (sheet_long most_rows))) (r : Result Bool Refusal) (rs : List ℕ)
+    (e : (outcome r, (holding r, rs)) ≡ bounds_on list (zeros (results_long most_rows))) (yes : Bool) (ey : yes ≡ result_unwrap_or r false) where
   handed_so : sheet_in list ≡ h
   handed_so = ap sheet_in el ∙ whole_sheet_comes_back h (zeros (sheet_long most_rows)) (ap (λ (x : Sheet). length x.rows) eh ∙ (fixed_is_legal i i<n).1) (omega (arith, zeros_long (sheet_long most_rows)))
 
-  judged_so : ◌≡◌ {A = Outcome × (Bool × List ℕ)} (outcome r.refusal, (r.holds, rs)) (accepted, (holds passes h, filled (result_cell (words h)) (zeros (results_long most_rows))))
+  judged_so : ◌≡◌ {A = Outcome × (Bool × List ℕ)} (outcome r, (holding r, rs)) (accepted, (holds passes h, filled (result_cell (words h)) (zeros (results_long most_rows))))
   judged_so =
       e ∙ legal_is_put list (zeros (results_long most_rows)) (ap legal handed_so ∙ legal_so i i<n h eh) (rw handed_so (omega (arith, fixed_few i i<n h eh, zeros_long (results_long most_rows))))
       ∙ ap (λ (x : Sheet). (accepted, (holds passes x, filled (result_cell (words x)) (zeros (results_long most_rows))))) handed_so
 
-  pub fixed_said : (p q : Page) → q ≡ said p (lines (line_label Numbered prefix) (word_at rs) h.count ++ ending r.holds) → q ≡ said p (board (numbered prefix) (fixed_sheet i))
-  unfolding line_label filled
+  pub fixed_said : (p q : Page) → q ≡ said p (lines (numbered prefix) (word_at rs) h.count ++ ending yes) → q ≡ said p (board (numbered prefix) (fixed_sheet i))
+  unfolding filled
   fixed_said p q f =
-      f ∙ ap (said p) (board_is h (numbered prefix) (word_at rs) h.count r.holds refl word_so (ap (λ (x : Outcome × (Bool × List ℕ)). x.1.0) judged_so))
+      f ∙ ap (said p) (board_is h (numbered prefix) (word_at rs) h.count yes refl word_so (ey ∙ unwrapped r ∙ ap (λ (x : Outcome × (Bool × List ℕ)). x.1.0) judged_so))
       ∙ ap (λ (x : Sheet). said p (board (numbered prefix) x)) eh
     where
       word_so : (k : ℕ) → k < h.count → word_at rs k ≡ result_of passes h k

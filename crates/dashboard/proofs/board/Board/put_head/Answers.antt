@@ -1,7 +1,7 @@
 -- `put_head` meets its promise. Assumes nothing.
 use Rattle.dashboard.proofs.Names.{line_start, four_said}
-use Rattle.dashboard.proofs.line.put_head.Goals as goal
+use Rattle.dashboard.proofs.board.Board.put_head.Goals as goal
 
 pub returns : goal.returns
 unfolding line_start
-returns c = search four_said
+returns g c = search four_said
