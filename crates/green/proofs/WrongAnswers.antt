@@ -1,8 +1,8 @@
 -- Wrong answers of green and wrong histories are shut out: on the bytes of sheets C and D, and on runs of sheet D. Assumes nothing.
+use Rattle.std.specs.Prelude.{Ok}
 use Rattle.basis.specs.Prelude.{ℕ, zero, suc, ◌+◌, ◌<◌, ◌≡◌, refl, List, [], ◌∷◌, arith, length, true, false}
 use Rattle.green.proofs.Names.{all_of, sum, first_of, upto, legal, legal_at, legal_row, holds, result_of, results_to, judge, bound_by, least, sheet_d, legal_job, is_zero_job, released, fits, free_below, worked, older, aged, missed, ended, code_of, check_row, fresh_state, legal_state, free_at, check_releases, check_state, check_room, check_slot, check_run, fresh, given, next_state, next_codes, slot, slot_at, onward, course, run, Done, fresh_of, run_done, history, code_in, FinishedWithin, InTime, green_of, box_done, tight, bytes_c, bytes_d, always_green, never_green, green_if_read, slots_once, slots_all, history_by, too_soon, box_swapped, one_slot_ran, StuckSlots, no_more, once_more, stuck, at_most, short_w, long_x, wide_q, two_ones, both_released}
 use Rattle.basis.specs.Readers.{begins}
-use Rattle.basis.specs.declared.refusal.Refusal.TheVariants.{Accepted}
 use Rattle.basis.specs.Faults.{NoneMeets}
 use Rattle.basis.proofs.Faults.{apart, bit}
 use Rattle.numbers.specs.Numbers.{groups, up_to_by}
@@ -68,10 +68,10 @@ after releases = record { rows = (next_state sheet_d (fresh_of sheet_d) releases
 pub stuck_slots : StuckSlots sheet_d (fresh_of sheet_d) stuck
 unfolding fresh given next_state next_codes slot slot_at onward course run check_row check_releases check_state check_room check_slot check_run released fits free_below free_at worked older aged missed ended code_of fresh_state legal_state legal_job is_zero_job states.legal_record_at legal legal_at legal_row first_of upto all_of
 stuck_slots =
-    once_more {after = after (0 ∷ 2 ∷ [])} (0 ∷ 2 ∷ []) (9 ∷ 9 ∷ []) _ Accepted refl
-    (once_more {after = after (0 ∷ 0 ∷ [])} (0 ∷ 0 ∷ []) (9 ∷ 9 ∷ []) _ Accepted refl
-    (once_more {after = after (0 ∷ 0 ∷ [])} (0 ∷ 0 ∷ []) (9 ∷ 9 ∷ []) _ Accepted refl
-    (once_more {after = after (0 ∷ 0 ∷ [])} (0 ∷ 0 ∷ []) (9 ∷ 9 ∷ []) _ Accepted refl no_more)))
+    once_more {after = after (0 ∷ 2 ∷ [])} (0 ∷ 2 ∷ []) (9 ∷ 9 ∷ []) _ (Ok tt) refl
+    (once_more {after = after (0 ∷ 0 ∷ [])} (0 ∷ 0 ∷ []) (9 ∷ 9 ∷ []) _ (Ok tt) refl
+    (once_more {after = after (0 ∷ 0 ∷ [])} (0 ∷ 0 ∷ []) (9 ∷ 9 ∷ []) _ (Ok tt) refl
+    (once_more {after = after (0 ∷ 0 ∷ [])} (0 ∷ 0 ∷ []) (9 ∷ 9 ∷ []) _ (Ok tt) refl no_more)))
 
 pub stuck_slots_are_late : InTime sheet_d sheet_d.count stuck → ⊥
 unfolding all_of sum begins groups up_to_by plain label_by entry_by entries_by body_by head_by sheet_by q X x W duration_of amount_of amounts room passes least bound_by judge results_to result_of holds
