@@ -1,27 +1,19 @@
 // Reading standard input.
-ghost use Rattle.verdict.specs.Input.{InBuffer};
+ghost use Rattle.std.specs.Prelude.{◌≤◌, length, IfOk};
 
-use std::io::Read;
+use std::io::{self, Read};
 
-// What came of it.
-#[derive(Clone, Copy)]
-pub enum Input {
-    Failed,
-    // How many bytes stand at the start of the buffer.
-    Read(usize),
-}
-
-// Reads until the buffer is full or the input ends; a read that fails is the answer, whatever came before it.
-pub(crate) fn read_input<R: Read>(reader: &mut R, buffer: &mut [u8]) -> Input
-    ensures { InBuffer result buffer.new }
+// Reads until the buffer is full or the input ends, and answers how many bytes stand at its start; a read that fails is the answer, whatever came before it.
+pub(crate) fn read_input<R: Read>(reader: &mut R, buffer: &mut [u8]) -> io::Result<usize>
+    ensures { IfOk result (λ count. count ≤ length buffer.new) }
 {
-    let mut done: usize = 0;
+    let mut done = 0;
     while done < buffer.len() {
-        match reader.read(&mut buffer[done..]) {
-            Err(_) => return Input::Failed,
-            Ok(0) => return Input::Read(done),
-            Ok(more) => done += more,
+        let more = reader.read(&mut buffer[done..])?;
+        if more == 0 {
+            break;
         }
+        done += more;
     }
-    Input::Read(done)
+    Ok(done)
 }

@@ -3,20 +3,19 @@
 
 mod input;
 
-use crate::input::{Input, read_input};
+use crate::input::read_input;
 
 // Reads, and prints; a write that fails is passed over.
 fn main(rt: HostRuntime) {
     let mut sheet = dashboard::input_buffer();
-    let input = read_input(&mut rt.stdin(), &mut sheet);
-    match input {
-        Input::Failed => {
-            let _ = rt.eprintln("cannot read standard input");
-        }
-        Input::Read(count) => {
+    match read_input(&mut rt.stdin(), &mut sheet) {
+        Ok(count) => {
             let mut text = dashboard::text_buffer();
             let long = dashboard::write_verdict(&sheet[..count], &mut text);
             let _ = rt.write_all(&text[..long]);
+        }
+        Err(_) => {
+            let _ = rt.eprintln("cannot read standard input");
         }
     }
 }
