@@ -1,2 +1,3 @@
 pub mod Slots
-pub mod Parts
+pub mod Marks
+pub mod Sheets

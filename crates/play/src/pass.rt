@@ -1,116 +1,67 @@
 // The two ways through a scenario's file: reading it, and playing it.
-ghost use Rattle.std.specs.Prelude.{◌≤◌, length};
-ghost use Rattle.basis.specs.Limits.{most_rows};
-ghost use Rattle.scenario.specs.Longest.{slot_reach};
-ghost use Rattle.play.specs.Windows.{InBuffer};
+use crate::errors::Fault;
+use crate::player::Player;
+use crate::source::Source;
+use std::io::{Read, Seek};
 
-use crate::turn::{End, Turn, ends, first_turn, next_turn};
-use crate::window::place_in;
-use basis::MOST_ROWS;
-use std::io::Read;
-
-// What going through the file comes to: why it ended, at which place, and after how many slots.
+// What going through the whole file comes to: the place after it, and how many slots it has.
 #[derive(Clone, Copy)]
-pub struct Pass {
-    pub end: End,
-    pub place: u64,
-    pub slots: u64,
-}
-
-// What a turn that ends a pass says.
-fn passed(turn: Turn, slots: u64) -> Pass {
-    let window = turn.window;
-    let end = turn.end;
-    Pass {
-        end,
-        place: place_in(window, window.start),
-        slots,
-    }
+struct Pass {
+    place: u64,
+    slots: u64,
 }
 
 // Reads the whole file.
-pub(crate) fn read_through(
-    file: &mut impl Read,
-    err: &impl Print,
-    name: &[u8],
-    sheet: &[u64],
-    buffer: &mut [u8],
-) -> Pass
-    requires { slot_reach ≤ length buffer.old }
-{
-    let mut turn = first_turn(file, err, name, sheet, buffer);
-    let mut slots: u64 = 0;
-    while slots < u64::MAX && turn.more {
-        let window = turn.window;
-        turn = next_turn(file, err, name, sheet, buffer, window);
-        slots += 1;
+fn read_through<F: Read>(source: &mut Source<F>, sheet: &[u64]) -> Result<Pass, Fault> {
+    source.read_mark()?;
+    let mut slots = 0;
+    for slot in 0..u64::MAX {
+        if source.next_slot(sheet)?.is_none() {
+            slots = slot;
+            break;
+        }
     }
-    passed(turn, slots)
-}
-
-// Plays a slot and prints its line; whether it was accepted.
-fn play_line(
-    out: &impl Print,
-    sheet: &[u64],
-    rows: usize,
-    state: &mut [u64],
-    entries: [u64; MOST_ROWS],
-    slot: u64,
-) -> bool
-    requires { rows ≤ most_rows }
-{
-    let mut text = watch::line_buffer();
-    let played = watch::play_slot(sheet, state, &entries[..rows], slot, &mut text);
-    let long = played.long;
-    let refusal = played.refusal;
-    let _ = out.write_all(&text[..long]);
-    refusal.is_accepted()
-}
-
-// Plays the slot of a turn, and reads on where it was accepted.
-fn play_turn(
-    file: &mut impl Read,
-    out: &impl Print,
-    err: &impl Print,
-    name: &[u8],
-    sheet: &[u64],
-    rows: usize,
-    state: &mut [u64],
-    buffer: &mut [u8],
-    turn: Turn,
-    slot: u64,
-) -> Turn
-    requires { (rows ≤ most_rows) × InBuffer turn.window buffer.old × (slot_reach ≤ length buffer.old) }
-    ensures { InBuffer result.window buffer.new }
-{
-    let window = turn.window;
-    let entries = turn.entries;
-    if play_line(out, sheet, rows, state, entries, slot) {
-        return next_turn(file, err, name, sheet, buffer, window);
-    }
-    ends(End::Stopped, window)
+    Ok(Pass {
+        place: source.place(),
+        slots,
+    })
 }
 
 // Plays the whole file, to the first slot that the box refuses.
-pub(crate) fn play_through(
-    file: &mut impl Read,
+fn play_through<F: Read>(
+    source: &mut Source<F>,
     out: &impl Print,
-    err: &impl Print,
-    name: &[u8],
-    sheet: &[u64],
-    rows: usize,
-    state: &mut [u64],
-    buffer: &mut [u8],
-) -> Pass
-    requires { (rows ≤ most_rows) × (slot_reach ≤ length buffer.old) }
-{
-    let mut turn = first_turn(file, err, name, sheet, buffer);
-    let mut slots: u64 = 0;
-    while slots < u64::MAX && turn.more {
-        turn = play_turn(
-            file, out, err, name, sheet, rows, state, buffer, turn, slots,
-        );
-        slots += 1;
+    player: &mut Player,
+) -> Result<Pass, Fault> {
+    source.read_mark()?;
+    let mut slots = 0;
+    for slot in 0..u64::MAX {
+        match source.next_slot(&player.sheet)? {
+            Some(entries) => player.play(out, slot, entries)?,
+            None => {
+                slots = slot;
+                break;
+            }
+        }
     }
-    passed(turn, slots)
+    Ok(Pass {
+        place: source.place(),
+        slots,
+    })
+}
+
+// Reads the whole file for a refusal, which stands alone, and plays it where there is none: how many slots were done.
+pub(crate) fn play_file<F: Read + Seek + Drop>(
+    file: F,
+    out: &impl Print,
+    mut player: Player,
+) -> Result<u64, Fault> {
+    let mut source = Source::of(file);
+    let read = read_through(&mut source, &player.sheet)?;
+    source.rewind()?;
+    match play_through(&mut source, out, &mut player) {
+        Ok(played) if played.place == read.place => Ok(played.slots),
+        Ok(_) | Err(Fault::Refused(_, _, _)) => Err(Fault::Changed),
+        Err(fault) => Err(fault),
+    }
 }

@@ -1,10 +1,10 @@
 -- A slot that was read from the bytes in a window ends among them. Assumes nothing.
-use Rattle.basis.specs.Prelude.{ℕ, zero, suc, ◌+◌, ◌≤◌, ◌≡◌, refl, sym, ap, ◌∙◌, Bool, true, false, List, arith, length, set, take, length-take-le}
+use Rattle.std.specs.Prelude.{Ok}
+use Rattle.basis.specs.Prelude.{ℕ, zero, suc, ◌+◌, ◌≤◌, ◌≡◌, refl, sym, ap, Bool, true, false, List, arith, length, set, take, length-take}
 use Rattle.basis.specs.Limits.{most_groups, most_rows}
 use Rattle.basis.specs.Readers.{Step, ok, refuse}
-use Rattle.basis.specs.Refusals.{accepted, refused, outcome}
+use Rattle.basis.specs.Refusals.{accepted, refused}
 use Rattle.basis.specs.Words.{pick}
-use Rattle.basis.specs.declared.refusal.Refusal.TheVariants.{Accepted}
 use Rattle.basis.proofs.Inside.Steps.{after_ok, ok_same}
 use Rattle.numbers.specs.Numbers.{number, up_to}
 use Rattle.numbers.proofs.Inside.Bounds.{bounded, taken}
@@ -27,26 +27,20 @@ unfolding slot
 slot_end h l s at x n e =
     after_ok (number s at) _ e λ k a e₁ e₂. releases_end h k 0 l s a x n (taken most_groups at 0 s at k a (omega arith) e₁).in_bytes e₂
 
-module _ (h : Sheet) (s : List ℕ) (at : ℕ) (r : SlotRead) (e : found_told r ≡ read_slot h s at) (f : r.refusal ≡ Accepted) where
+module _ (h : Sheet) (s : List ℕ) (at : ℕ) (r : SlotRead) (e : found_told (Ok r) ≡ read_slot h s at) where
   -- the place after it
   pub ends_inside : r.next ≤ length s
   unfolding read_slot
   ends_inside = go (legal h) e
     where
-      told : (x : Step (List ℕ)) → found_told r ≡ slot_handed x → x ≡ slot h (no_releases most_rows) s at → r.next ≤ length s
+      told : (x : Step (List ℕ)) → found_told (Ok r) ≡ slot_handed x → x ≡ slot h (no_releases most_rows) s at → r.next ≤ length s
       told (ok l n) g q = let en : r.next ≡ n = ap (λ (z : FoundSlot). z.next) g in omega (arith, slot_end h (no_releases most_rows) s at l n (sym q))
-      told (refuse j i) g q =
-          let b : accepted ≡ refused j i = sym (ap outcome f) ∙ ap (λ (z : FoundSlot). z.outcome) g in
-          let z : ◌≡◌ {A = ℕ} 0 1 = cc in
-          absurd (omega arith)
+      told (refuse j i) g q = let f : accepted ≡ refused j i = ap (λ (z : FoundSlot). z.outcome) g in cc
 
-      go : (t : Bool) → found_told r ≡ slot_handed (pick t (slot h (no_releases most_rows) s at) (refuse 10 0)) → r.next ≤ length s
+      go : (t : Bool) → found_told (Ok r) ≡ slot_handed (pick t (slot h (no_releases most_rows) s at) (refuse 10 0)) → r.next ≤ length s
       go true g = told (slot h (no_releases most_rows) s at) g refl
-      go false g =
-          let b : accepted ≡ refused 10 0 = sym (ap outcome f) ∙ ap (λ (z : FoundSlot). z.outcome) g in
-          let z : ◌≡◌ {A = ℕ} 0 1 = cc in
-          absurd (omega arith)
+      go false g = let f : accepted ≡ refused 10 0 = ap (λ (z : FoundSlot). z.outcome) g in cc
 
 -- so it ends in the window
-pub ends_in_window : (h : Sheet) (buffer : List ℕ) (at end : ℕ) (r : SlotRead) → found_told r ≡ read_slot h (take end buffer) at → r.refusal ≡ Accepted → end ≤ length buffer → r.next ≤ end
-ends_in_window h buffer at end r e f l = omega (arith, ends_inside h (take end buffer) at r e f, length-take-le end buffer l)
+pub ends_in_window : (h : Sheet) (buffer : List ℕ) (at end : ℕ) (r : SlotRead) → found_told (Ok r) ≡ read_slot h (take end buffer) at → r.next ≤ end
+ends_in_window h buffer at end r e = omega (arith, ends_inside h (take end buffer) at r e, length-take end buffer)

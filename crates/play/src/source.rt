@@ -1,0 +1,151 @@
+// A scenario's file, which is read from left to right through a buffer.
+ghost use Rattle.std.specs.Prelude.{◌≡◌, ◌≤◌, false, OnOk};
+ghost use Rattle.std.specs.Io.{WritesAtMost};
+ghost use Rattle.play.specs.Windows.{Ahead, buffer_long};
+
+use crate::errors::Fault;
+use basis::{MOST_ROWS, Refusal};
+use scenario::{MARK, SLOT_REACH};
+use std::io;
+use std::io::{Read, Seek, SeekFrom};
+use watch::File;
+
+// As many bytes as hold any slot ahead, and any path.
+pub(crate) const BUFFER_LONG: usize = 4096;
+
+// Reads until the buffer is full or the file ends, and answers how many bytes that is.
+pub(crate) fn fill(file: &mut impl Read, buffer: &mut [u8]) -> io::Result<usize>
+    ensures { WritesAtMost result buffer.new }
+{
+    let mut done = 0;
+    while done < buffer.len() {
+        let more = file.read(&mut buffer[done..])?;
+        if more == 0 {
+            return Ok(done);
+        }
+        done += more;
+    }
+    Ok(done)
+}
+
+// The file, and the part of it that stands in the buffer.
+#[derive(Drop)]
+pub(crate) struct Source<F> {
+    file: F,
+    buffer: [u8; BUFFER_LONG],
+    // The place in the file of the buffer's first byte.
+    offset: u64,
+    // The place in the buffer of the byte that is read next.
+    start: usize,
+    // The place in the buffer after the last byte.
+    end: usize,
+    // Whether the file ends there.
+    ended: bool,
+    ghost next: { start ≤ end },
+    ghost last: { end ≤ buffer_long },
+}
+
+impl<F: Read> Source<F> {
+    // A file of which nothing is read yet.
+    pub(crate) fn of(file: F) -> Source<F> {
+        Source {
+            file,
+            buffer: [0; BUFFER_LONG],
+            offset: 0,
+            start: 0,
+            end: 0,
+            ended: false,
+        }
+    }
+
+    // The place in the file of a place in the buffer; no file is so long that the sum would wrap.
+    fn place_of(&self, at: usize) -> u64 {
+        self.offset.wrapping_add(at as u64)
+    }
+
+    // The place in the file of the byte that is read next.
+    pub(crate) fn place(&self) -> u64 {
+        self.place_of(self.start)
+    }
+
+    // The refusal of what stands in the buffer.
+    fn refused(&self, refusal: Refusal) -> Fault {
+        let (number, at) = refusal.into();
+        Fault::Refused(File::Scenario, number, self.place_of(at))
+    }
+
+    // Reads on until the buffer is full or the file ends.
+    fn read_on(&mut self) -> io::Result<()>
+        ensures { OnOk result ((self.new.start ≡ self.old.start) × (self.new.ended ≡ false → buffer_long ≤ self.new.end)) }
+    {
+        let more = fill(&mut self.file, &mut self.buffer[self.end..])?;
+        self.end += more;
+        self.ended = self.end < BUFFER_LONG;
+        Ok(())
+    }
+
+    // Moves what is not read yet to the front of the buffer.
+    fn keep_rest(&mut self)
+        ensures { self.new.start ≡ 0 }
+    {
+        let (start, end) = (self.start, self.end);
+        self.offset = self.place();
+        self.buffer.copy_within(start..end, 0);
+        self.start = 0;
+        self.end = end - start;
+    }
+
+    // Sees to it that the bytes that the reading of a slot looks at are in the buffer, as far as the file has them.
+    fn ahead(&mut self) -> io::Result<()>
+        ensures { OnOk result (Ahead self.new.ended self.new.start self.new.end) }
+    {
+        if self.ended {
+            return Ok(());
+        }
+        if SLOT_REACH <= self.end - self.start {
+            return Ok(());
+        }
+        self.keep_rest();
+        self.read_on()
+    }
+
+    // Reads the mark at the front of the file.
+    pub(crate) fn read_mark(&mut self) -> Result<(), Fault> {
+        self.read_on()?;
+        if !basis::begins_with(&self.buffer[..self.end], &MARK) {
+            return Err(self.refused(Refusal::Mark));
+        }
+        self.start = MARK.len();
+        Ok(())
+    }
+
+    // The entries of the next slot; none where the file ends after a whole slot.
+    pub(crate) fn next_slot(&mut self, sheet: &[u64]) -> Result<Option<[u64; MOST_ROWS]>, Fault> {
+        self.ahead()?;
+        if self.start == self.end {
+            return Ok(None);
+        }
+        match scenario::read_slot(sheet, &self.buffer[..self.end], self.start) {
+            Ok(read) => {
+                self.start = read.next;
+                Ok(Some(read.entries))
+            }
+            Err(refusal) => Err(self.refused(refusal)),
+        }
+    }
+}
+
+impl<F: Read + Seek> Source<F> {
+    // Goes back to the front of the file.
+    pub(crate) fn rewind(&mut self) -> Result<(), Fault> {
+        match self.file.seek(SeekFrom::Start(0)) {
+            Ok(0) => {}
+            _ => return Err(Fault::Once),
+        }
+        self.offset = 0;
+        self.start = 0;
+        self.end = 0;
+        self.ended = false;
+        Ok(())
+    }
+}
