@@ -1,6 +1,12 @@
 -- What `giachimu_bounds` answers at each way out, where `bounds_on` has judged the sheet in the list. Assumes nothing.
-use Rattle.basis.specs.Prelude.{ℕ, ◌≡◌, sym, ap, ◌∙◌, Bool, false, List, length}
+use Rattle.basis.specs.Prelude.{ℕ, ◌≡◌, refl, true, sym, ap, ◌∙◌, Bool, false, List, length}
+use mir.Val.{bool_byte}
 use Rattle.exports.proofs.Names.{Outcome, accepted, refused, or_else, room_for, handed, handed_outcome, handed_found, handed_done, filled, sheet_in, bounds_of, results_long, result_cell, results_on, bounds_on, flag, results_in, bounds_in}
+
+-- yes and no as the numbers that the kit makes of them
+pub byte_flag : (b : Bool) → bool_byte b ≡ flag b
+byte_flag true = refl
+byte_flag false = refl
 
 module _ (sheet list : List ℕ) (o : Outcome) (holds : Bool) (after : List ℕ) (e : (o, (holds, after)) ≡ bounds_on sheet list) (found : ℕ) (t : ℕ × ℕ) where
   -- 10, then the room for the results

@@ -23,16 +23,12 @@ module _ (s first whole : List ℕ) (n : ℕ) (b : first ≡ text_buffer) (e : (
   n_is_long = written_part (verdict_text s) first whole n e ∙ ap length part_is_text
 
   module _ (text : List ℕ) where
-    -- where it fits, so does the part that is copied
-    pub part_fits_text : n ≤ length text → length (take n whole) ≤ length text
-    part_fits_text l = rw (sym (written_part (verdict_text s) first whole n e)) l
-
     module _ (long : ℕ) (t : ℕ × ℕ) where
       pub text_needs_room : length text < n → t ≡ (15, 0) → (t, (text, long)) ≡ verdict_in s text long
       unfolding verdict_in
       text_needs_room l f = rw (lt-leb (length (verdict_text s)) (length text) (omega (arith, n_is_long)), f)
 
-      pub text_is_copied : (after : List ℕ) → n ≤ length text → after ≡ take n whole ++ drop (length (take n whole)) text → t ≡ (0, 0) → (t, (after, n)) ≡ verdict_in s text long
+      pub text_is_copied : (after : List ℕ) → n ≤ length text → after ≡ take n whole ++ drop n text → t ≡ (0, 0) → (t, (after, n)) ≡ verdict_in s text long
       unfolding verdict_in
       text_is_copied after l g f =
           let fits : length (verdict_text s) ≤ length text = omega (arith, n_is_long) in

@@ -2,14 +2,14 @@
 use Rattle.exports.proofs.Inside.BoxAnswers.{records_fit, box_has_no_room, box_answered, box_not_legal}
 use Rattle.exports.proofs.boxes.giachimu_box.Goals as goal
 
-pub overflow_mul-n : goal.overflow_mul-n
-overflow_mul-n c = search records_fit
+pub returns-then-not-is_legal : goal.returns-then-not-is_legal
+returns-then-not-is_legal c = search box_not_legal
 
-pub returns-then-list-n : goal.returns-then-list-n
-returns-then-list-n c = search box_has_no_room
+pub overflow_mul-count : goal.overflow_mul-count
+overflow_mul-count c = search records_fit
 
-pub returns-then-fine : goal.returns-then-fine
-returns-then-fine c = search box_answered
+pub returns-then-list-count : goal.returns-then-list-count
+returns-then-list-count c = search box_has_no_room
 
 pub returns : goal.returns
-returns c = search box_not_legal
+returns c = search box_answered

@@ -4,11 +4,11 @@ use Rattle.exports.proofs.Names.{fill_done}
 use Rattle.basis.proofs.Inside.Upto.{upto_none, upto_set}
 use Rattle.exports.proofs.boxes.put_state.Goals as goal
 
-pub loop-i-init : goal.loop-i-init
-loop-i-init c = (search rules, search rules, search upto_none)
+pub loop-at-init : goal.loop-at-init
+loop-at-init c = (search rules, search upto_none)
 
-pub loop-i-preserved : goal.loop-i-preserved
-loop-i-preserved c = (search rules, search rules, search upto_set)
+pub loop-at-preserved : goal.loop-at-preserved
+loop-at-preserved c = (search rules, search upto_set)
 
 pub returns : goal.returns
-returns c = search fill_done
+returns c = search (fill_done, rules)

@@ -2,8 +2,8 @@
 use Rattle.exports.proofs.Inside.LentAnswers.{read_refused, read_accepted}
 use Rattle.exports.proofs.scenarios.giachimu_read_scenario.Goals as goal
 
-pub returns-in-Refused : goal.returns-in-Refused
-returns-in-Refused c = search read_refused
+pub returns-in-Ok : goal.returns-in-Ok
+returns-in-Ok c = read_accepted _ _ _ _ _ _ _ c.in-Ok.ensures c.tell.ensures
 
-pub returns-in-Accepted : goal.returns-in-Accepted
-returns-in-Accepted c = search read_accepted
+pub returns-in-Err : goal.returns-in-Err
+returns-in-Err c = read_refused _ _ _ _ _ _ _ _ c.in-Err.ensures c.tell-in-Err.ensures

@@ -2,8 +2,8 @@
 use Rattle.exports.proofs.Inside.LentAnswers.{sheet_refused, sheet_accepted}
 use Rattle.exports.proofs.sheets.giachimu_write.Goals as goal
 
-pub returns-in-Refused : goal.returns-in-Refused
-returns-in-Refused c = search sheet_refused
+pub returns-in-Ok : goal.returns-in-Ok
+returns-in-Ok c = sheet_accepted _ _ _ _ _ _ _ _ c.in-Ok.ensures c.tell.ensures
 
-pub returns-in-Accepted : goal.returns-in-Accepted
-returns-in-Accepted c = search sheet_accepted
+pub returns-in-Err : goal.returns-in-Err
+returns-in-Err c = sheet_refused _ _ _ _ _ _ _ _ _ c.in-Err.ensures c.tell-in-Err.ensures

@@ -1,9 +1,10 @@
 -- `giachimu_bounds` meets its promise: what `bounds_on` has judged is told. Assumes nothing.
-use Rattle.exports.proofs.Inside.Bounds.{bounds_refused, bounds_are_told}
+use Rattle.basis.specs.Prelude.{refl, ◌∙◌}
+use Rattle.exports.proofs.Inside.Bounds.{byte_flag, bounds_refused, bounds_are_told}
 use Rattle.exports.proofs.verdicts.giachimu_bounds.Goals as goal
 
-pub returns-in-Refused : goal.returns-in-Refused
-returns-in-Refused c = search bounds_refused
+pub returns-in-Ok : goal.returns-in-Ok
+returns-in-Ok c = bounds_are_told _ _ _ _ _ c.in-Ok.ensures _ _ refl _ (c.from.ensures ∙ byte_flag _) c.tell.ensures
 
-pub returns-in-Accepted : goal.returns-in-Accepted
-returns-in-Accepted c = search bounds_are_told
+pub returns-in-Err : goal.returns-in-Err
+returns-in-Err c = bounds_refused _ _ _ _ _ c.in-Err.ensures _ _ _ _ refl c.tell-in-Err.ensures
