@@ -3,19 +3,17 @@ ghost use Rattle.std.specs.Prelude.{◌≡◌};
 ghost use Rattle.machine.specs.Answers.{slot, run};
 ghost use Rattle.states.specs.Values.{held, slotted, ran};
 
+use basis::Refusal;
 use sheet::Sheet;
-use states::{Ran, Slotted, State};
+use states::{Ran, State};
 
 // One slot.
-fn slot_of(state: State, sheet: Sheet, releases: &[u64], codes: &mut [u8]) -> Slotted
-    ensures { slotted result codes.new ≡ slot sheet (held state) releases.now codes.old }
+fn slot_of(state: State, sheet: Sheet, releases: &[u64], codes: &mut [u8]) -> Result<State, Refusal>
+    ensures { slotted (held state) result codes.new ≡ slot sheet (held state) releases.now codes.old }
 {
-    let told = state.slot(sheet, releases, codes);
-    let refusal = told.refusal;
-    let after = told.state;
-    Slotted {
-        refusal,
-        state: after,
+    match state.slot(sheet, releases, codes) {
+        Ok(after) => Ok(after),
+        Err(refusal) => Err(refusal),
     }
 }
 
@@ -24,12 +22,9 @@ fn run_of(state: State, sheet: Sheet, releases: &[u64], codes: &mut [u8]) -> Ran
     ensures { ran result codes.new ≡ run sheet (held state) releases.now codes.old }
 {
     let told = state.run(sheet, releases, codes);
-    let done = told.done;
-    let refusal = told.refusal;
-    let last = told.state;
     Ran {
-        done,
-        refusal,
-        state: last,
+        done: told.done,
+        ended: told.ended,
+        state: told.state,
     }
 }
