@@ -11,7 +11,7 @@ use sheet::Row;
 // The list of a sheet that is legal, and the number of its rows. What is known of a state's list is no part of it: a slot changes that list row by row.
 #[derive(Clone, Copy)]
 pub(crate) struct LegalSheet<'a> {
-    pub(crate) list: &'a [u64],
+    list: &'a [u64],
     pub(crate) rows: usize,
     ghost fine: { legal (sheet_in list.now) ≡ true },
     ghost counted: { rows ≡ (sheet_in list.now).count },
