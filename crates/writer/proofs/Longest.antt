@@ -21,7 +21,7 @@ length_is_the_sum h s labels out e =
 pub written_is_short : (h : Held) → Good h → length (sheet_bytes h) ≤ longest_sheet
 written_is_short h g = accepted_is_short (sheet_bytes h) h (length (sheet_bytes h)) (written_is_read h g)
 
--- by the sum, too: `write_checked`
+-- by the sum, too: `fits`
 pub all_short : (h : Sheet) (s labels : List ℕ) → check_sheet h s labels ≡ accepted → sheet_length h labels ≤ longest_sheet
 all_short h s labels e = omega (arith, long_sheet h s labels e, written_is_short (held_by h s labels) (checked_is_good h s labels e))
 

@@ -37,6 +37,6 @@ unfoldable pub use Rattle.writer.specs.Answers.{check_sheet, first_rows, is_labe
 pub use Rattle.writer.specs.Form.{label_bytes}
 unfoldable pub use Rattle.writer.specs.Form.{entries_bytes, entry_bytes, head_bytes, row_bytes, sheet_bytes}
 pub use Rattle.writer.specs.Good.{Good, GoodEntry}
-pub use Rattle.writer.specs.Inside.Bounds.{most_entry, most_head}
+pub use Rattle.writer.specs.Inside.Bounds.{most_entry}
 pub use Rattle.writer.specs.Length.{long_at}
 unfoldable pub use Rattle.writer.specs.Length.{entry_long, head_long, row_long, sheet_length}

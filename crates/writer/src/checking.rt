@@ -1,8 +1,8 @@
 // Whether a sheet and its labels can be written.
-ghost use Rattle.std.specs.Prelude.{◌≡◌, ◌≤◌, ◌<◌, length};
+ghost use Rattle.std.specs.Prelude.{◌≡◌, ◌≤◌, ◌<◌, length, IfOk};
 ghost use Rattle.basis.specs.Limits.{most_rows};
 ghost use Rattle.basis.specs.Words.{all_of};
-ghost use Rattle.basis.specs.Refusals.{outcome, first_of};
+ghost use Rattle.basis.specs.Refusals.{accepted, outcome, first_of};
 ghost use Rattle.sheet.specs.Lists.{sheet_in};
 ghost use Rattle.reader.specs.Lists.{part_in};
 ghost use Rattle.writer.specs.Answers.{plain_at, label_lies, label_at, check_sheet};
@@ -59,12 +59,38 @@ fn check_labels(bytes: &[u8], labels: &[u64], n: usize) -> Result<(), Refusal>
     Ok(())
 }
 
-// 10, 6.
-pub(crate) fn check_sheet(sheet: &[u64], bytes: &[u8], labels: &[u64]) -> Result<(), Refusal>
-    ensures { outcome result ≡ check_sheet (sheet_in sheet.now) bytes.now labels.now }
-{
-    if !sheet::is_legal(sheet) {
-        return Err(Refusal::Sheet);
+// A sheet that can be written: its list, the bytes that its labels are parts of, the list of these parts, and how many rows it has.
+#[derive(Clone, Copy)]
+pub(crate) struct Source<'a> {
+    pub(crate) sheet: &'a [u64],
+    pub(crate) bytes: &'a [u8],
+    pub(crate) labels: &'a [u64],
+    pub(crate) rows: usize,
+    ghost counted: { rows ≡ (sheet_in sheet.now).count },
+    ghost few: { rows ≤ most_rows },
+    ghost fine: { check_sheet (sheet_in sheet.now) bytes.now labels.now ≡ accepted },
+}
+
+impl<'a> Source<'a> {
+    // 10, 6.
+    pub(crate) fn checked(
+        sheet: &'a [u64],
+        bytes: &'a [u8],
+        labels: &'a [u64],
+    ) -> Result<Source<'a>, Refusal>
+        ensures told { outcome result ≡ check_sheet (sheet_in sheet.now) bytes.now labels.now }
+        ensures own { IfOk result (λ s. (s.sheet.now ≡ sheet.now) × (s.bytes.now ≡ bytes.now) × (s.labels.now ≡ labels.now)) }
+    {
+        if !sheet::is_legal(sheet) {
+            return Err(Refusal::Sheet);
+        }
+        let rows = sheet::count(sheet) as usize;
+        check_labels(bytes, labels, rows)?;
+        Ok(Source {
+            sheet,
+            bytes,
+            labels,
+            rows,
+        })
     }
-    check_labels(bytes, labels, sheet::count(sheet) as usize)
 }

@@ -1,12 +1,10 @@
 // How many bytes a sheet takes.
 ghost use Rattle.std.specs.Prelude.{◌≡◌, ◌≤◌, leb};
-ghost use Rattle.basis.specs.Limits.{most_rows};
 ghost use Rattle.sheet.specs.Lists.{sheet_in};
-ghost use Rattle.reader.specs.Longest.{longest_sheet};
 ghost use Rattle.writer.specs.Length.{row_long, head_long, sheet_length};
 ghost use Rattle.writer.specs.Inside.Bounds.{most_row, most_head};
 
-use crate::checking::part_of;
+use crate::checking::{Source, part_of};
 use numbers::number_length;
 use sheet::Row;
 
@@ -30,29 +28,30 @@ fn head_length(processors: u64, count: u64) -> usize
     4 + number_length(processors) + number_length(count)
 }
 
-// Whether a sheet of n rows has room in so many bytes; where the longest has, nothing is measured.
-pub(crate) fn fits(sheet: &[u64], labels: &[u64], n: usize, room: usize) -> bool
-    requires { (n ≡ (sheet_in sheet.now).count) × (n ≤ most_rows) × (sheet_length (sheet_in sheet.now) labels.now ≤ longest_sheet) }
-    ensures { result ≡ leb (sheet_length (sheet_in sheet.now) labels.now) room }
-{
-    if LONGEST_SHEET <= room {
-        return true;
-    }
-    let head = head_length(sheet::processors(sheet), n as u64);
-    if room < head {
-        return false;
-    }
-    let mut left = room - head;
-    for i in 0..n {
-        let long = part_of(labels, i).long;
-        if left < long {
+impl<'a> Source<'a> {
+    // Whether it has room in so many bytes; where the longest has, nothing is measured.
+    pub(crate) fn fits(&self, room: usize) -> bool
+        ensures { result ≡ leb (sheet_length (sheet_in self.now.sheet.now) self.now.labels.now) room }
+    {
+        if LONGEST_SHEET <= room {
+            return true;
+        }
+        let head = head_length(sheet::processors(self.sheet), self.rows as u64);
+        if room < head {
             return false;
         }
-        let rest = number_length(long as u64) + row_length(sheet::row_at(sheet, i));
-        if left - long < rest {
-            return false;
+        let mut left = room - head;
+        for i in 0..self.rows {
+            let long = part_of(self.labels, i).long;
+            if left < long {
+                return false;
+            }
+            let rest = number_length(long as u64) + row_length(sheet::row_at(self.sheet, i));
+            if left - long < rest {
+                return false;
+            }
+            left = left - long - rest;
         }
-        left = left - long - rest;
+        true
     }
-    true
 }

@@ -145,11 +145,8 @@ module _ (h : Sheet) (s labels : List ℕ) (e : check_sheet h s labels ≡ accep
   pub checked_legal : legal h ≡ true
   checked_legal = needed_holds (legal h) 10 both_checked.0
 
-  pub checked_labels : first_of h.count (label_at s labels) ≡ accepted
+  checked_labels : first_of h.count (label_at s labels) ≡ accepted
   checked_labels = both_checked.1
-
-  pub checked_few : h.count ≤ most_rows
-  checked_few = (legal_is h checked_legal).at_most_rows
 
   pub checked_at : (k : ℕ) → k < h.count → label_at s labels k ≡ accepted
   checked_at k b = first_at h.count (label_at s labels) checked_labels k b

@@ -1,7 +1,7 @@
 -- The functions that write: each part is stored after the one before it. Assumes nothing.
 use Rattle.basis.specs.Prelude.{ℕ, ◌+◌, ◌-◌, ◌^◌, ◌≤◌, ◌<◌, ◌≡◌, refl, sym, ap, ap₂, ◌∙◌, Bool, true, false, leb, leb-true, List, ◌++◌, arith, add-zero, zero-add, length, length-append, take, drop, sets, w64, Fits}
-use Rattle.writer.proofs.Names.{written_whole, answer, nothing_by, written_by, Outcome, refused, sheet_length, write_sheet, sets_after, first_at, first_of, most_rows, longest_label, accepted, spell, width, Entry, mark_bytes, part_in, Part, row_at, Row, Sheet, part_of, entry_of, held_by, first_rows, label_at, check_sheet, sheet_bytes, label_bytes, row_bytes, entry_bytes, entries_bytes, head_bytes}
-use Rattle.writer.proofs.Inside.Checks.{label_inside, label_long, label_short, checked_few, checked_labels}
+use Rattle.writer.proofs.Names.{written_whole, answer, nothing_by, written_by, Outcome, refused, sheet_length, write_sheet, sets_after, longest_label, accepted, spell, width, Entry, mark_bytes, part_in, Part, row_at, Row, Sheet, part_of, entry_of, held_by, first_rows, label_at, check_sheet, sheet_bytes, label_bytes, row_bytes, entry_bytes, entries_bytes, head_bytes}
+use Rattle.writer.proofs.Inside.Checks.{label_inside, label_long, label_short, checked_at}
 use Rattle.writer.proofs.Inside.Lengths.{row_measured, head_measured, row_bytes_long, head_bytes_long, long_sheet}
 use Rattle.writer.proofs.Inside.Rows.{rows_count, rows_more}
 
@@ -45,7 +45,10 @@ module _ (m n a b : ℕ) (ea : a ≡ width m) (eb : b ≡ width n) where
       both_stored l₀ l₁ l₃ 0 4 mark_bytes (spell m ++ spell n) e₁ refl (both_stored l₁ l₂ l₃ 4 (4 + a) (spell m) (spell n) e₂ (number_long 4 m a ea) e₃)
 
 -- `write_entry`
-module _ (s labels : List ℕ) (k : ℕ) (e : label_at s labels k ≡ accepted) (p : Part) (ep : p ≡ part_in labels k) where
+module _ (h : Sheet) (s labels : List ℕ) (fine : check_sheet h s labels ≡ accepted) (n : ℕ) (en : n ≡ h.count) (k : ℕ) (b : k < n) (p : Part) (ep : p ≡ part_in labels k) where
+  e : label_at s labels k ≡ accepted
+  e = checked_at h s labels fine k (omega arith)
+
   pub part_lies : p.start + p.long ≤ length s
   part_lies = rw ep (label_inside s labels k e)
 
@@ -62,7 +65,7 @@ module _ (s labels : List ℕ) (k : ℕ) (e : label_at s labels k ≡ accepted) 
   pub cut_short : length cut ≤ longest_label
   cut_short = omega (arith, ap length cut_is, label_long s labels k e, label_short s labels k e)
 
-  module _ (h : Sheet) (row : Row) (er : row ≡ row_at h k) (at next : ℕ) (en : next ≡ at + length (label_bytes cut)) where
+  module _ (row : Row) (er : row ≡ row_at h k) (at next : ℕ) (ex : next ≡ at + length (label_bytes cut)) where
     entry_is : label_bytes cut ++ row_bytes row ≡ entry_bytes (entry_of h s labels k)
     unfolding entry_bytes
     entry_is = ap₂ (λ (x : List ℕ) (y : Row). label_bytes x ++ row_bytes y) cut_is er
@@ -71,7 +74,7 @@ module _ (s labels : List ℕ) (k : ℕ) (e : label_at s labels k ≡ accepted) 
     entry_next r q = omega (arith, ap length entry_is, length-append (label_bytes cut) (row_bytes row))
 
     pub entry_stored : (l₀ l₁ l₂ : List ℕ) → l₁ ≡ sets l₀ at (label_bytes cut) → l₂ ≡ sets l₁ next (row_bytes row) → l₂ ≡ sets l₀ at (entry_bytes (entry_of h s labels k))
-    entry_stored l₀ l₁ l₂ f g = both_stored l₀ l₁ l₂ at next (label_bytes cut) (row_bytes row) f en g ∙ ap (sets l₀ at) entry_is
+    entry_stored l₀ l₁ l₂ f g = both_stored l₀ l₁ l₂ at next (label_bytes cut) (row_bytes row) f ex g ∙ ap (sets l₀ at) entry_is
 
 -- `write_rows`
 module _ (f : ℕ → Entry) (at i next : ℕ) (en : next ≡ at + length (entries_bytes (first_rows i f))) where
@@ -96,17 +99,8 @@ pub rows_not_stored : (f : ℕ → Entry) (at : ℕ) (l : List ℕ) → l ≡ se
 unfolding first_rows entries_bytes
 rows_not_stored f at l = refl
 
-pub row_is_fine : (s labels : List ℕ) (n i : ℕ) → first_of n (label_at s labels) ≡ accepted → i < n → label_at s labels i ≡ accepted
-row_is_fine s labels n i e h = first_at n (label_at s labels) e i h
-
 -- `write_all`
-module _ (h : Sheet) (s labels : List ℕ) (e : check_sheet h s labels ≡ accepted) (n : ℕ) (en : n ≡ h.count) where
-  pub all_few : n ≤ most_rows
-  all_few = omega (arith, checked_few h s labels e)
-
-  pub all_fine : first_of n (label_at s labels) ≡ accepted
-  all_fine = ap (λ (k : ℕ). first_of k (label_at s labels)) en ∙ checked_labels h s labels e
-
+module _ (h : Sheet) (s labels : List ℕ) (n : ℕ) (en : n ≡ h.count) where
   module _ (m : ℕ) (em : m ≡ h.processors) (next : ℕ) (ex : next ≡ length (head_bytes m n)) where
     sheet_is : head_bytes m n ++ entries_bytes (first_rows n (entry_of h s labels)) ≡ sheet_bytes (held_by h s labels)
     unfolding sheet_bytes
@@ -120,7 +114,7 @@ module _ (h : Sheet) (s labels : List ℕ) (e : check_sheet h s labels ≡ accep
     pub sheet_stored : (l₀ l₁ l₂ : List ℕ) → l₁ ≡ sets l₀ 0 (head_bytes m n) → l₂ ≡ sets l₁ next (entries_bytes (first_rows n (entry_of h s labels))) → l₂ ≡ sets l₀ 0 (sheet_bytes (held_by h s labels))
     sheet_stored l₀ l₁ l₂ f g = both_stored l₀ l₁ l₂ 0 next (head_bytes m n) (entries_bytes (first_rows n (entry_of h s labels))) f (ex ∙ sym (zero-add (length (head_bytes m n)))) g ∙ ap (sets l₀ 0) sheet_is
 
--- `write_checked`
+-- `write`
 module _ (h : Sheet) (s labels : List ℕ) (e : check_sheet h s labels ≡ accepted) (out : List ℕ) (t : Bool) (et : t ≡ leb (sheet_length h labels) (length out)) where
   pub no_room : t ≡ false → nothing_by (refused 15 0) out ≡ write_sheet h s labels out
   unfolding write_sheet

@@ -12,8 +12,8 @@ loop-b-init c = refl
 pub returns-then-b-lt33 : goal.returns-then-b-lt33
 returns-then-b-lt33 c =
     elim c.then-b-lt33.branch [
-      then-b-lt33-via-then-b-lt33 w ↦ plain_low _ _ c.loop-b-test.true w.if-b-lt33.true
-    | then-b-lt33-via-else-b-lt33+then-b-gt126 w ↦ plain_high _ _ c.loop-b-test.true w.if-b-gt126.true
+      | then-b-lt33-via-then-b-lt33 w ↦ plain_low _ _ c.loop-b-test.true w.if-b-lt33.true
+      | then-b-lt33-via-else-b-lt33+then-b-gt126 w ↦ plain_high _ _ c.loop-b-test.true w.if-b-gt126.true
     ]
 
 pub loop-b-preserved : goal.loop-b-preserved

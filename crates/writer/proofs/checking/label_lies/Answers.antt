@@ -10,8 +10,8 @@ returns-then-part-lt1 c = ⊎_elim (lies_none _ _) (λ h. lies_long _ _ h.0 h.1)
 pub returns-then-bytes-part : goal.returns-then-bytes-part
 returns-then-bytes-part c =
     elim c.then-bytes-part.branch [
-      then-bytes-part-via-then-bytes-part w ↦ lies_short_bytes _ _ w.if-bytes-part.true
-    | then-bytes-part-via-else-bytes-part+then-bytes-part-2 w ↦ lies_past _ _ w.if-bytes-part.false w.if-bytes-part-2.true
+      | then-bytes-part-via-then-bytes-part w ↦ lies_short_bytes _ _ w.if-bytes-part.true
+      | then-bytes-part-via-else-bytes-part+then-bytes-part-2 w ↦ lies_past _ _ w.if-bytes-part.false w.if-bytes-part-2.true
     ]
 
 pub returns : goal.returns

@@ -1,7 +1,7 @@
 -- `write_entry` meets its promise. Assumes nothing.
 use Rattle.basis.specs.Prelude.{rules}
 use Rattle.writer.proofs.Inside.Stored.{part_lies, part_ends, cut_short, entry_next, entry_stored}
-use Rattle.writer.proofs.writing.write_entry.Goals as goal
+use Rattle.writer.proofs.checking.Source.write_entry.Goals as goal
 
 pub overflow_add-label : goal.overflow_add-label
 overflow_add-label c = search (rules, part_ends)
