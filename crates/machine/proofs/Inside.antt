@@ -4,7 +4,6 @@ pub mod ChecksInPlace
 pub mod Courses
 pub mod Differences
 pub mod FreshLists
-pub mod Handed
 pub mod LegalChecks
 pub mod LegalSlots
 pub mod Legals

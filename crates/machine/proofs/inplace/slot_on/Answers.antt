@@ -1,11 +1,11 @@
 -- `slot_on` meets its promise. Assumes nothing.
 use Rattle.machine.proofs.Inside.Answers.{slot_state, rows_in_list, rows_in_buffer}
 use Rattle.machine.proofs.SlotsInPlace.{slot_in_refused, slot_in_accepted}
-use Rattle.machine.proofs.Inside.Handed.{handed_on}
+use Rattle.basis.proofs.Refusals.{passed_on}
 use Rattle.machine.proofs.inplace.slot_on.Goals as goal
 
 pub returns-in_err-sheet : goal.returns-in_err-sheet
-returns-in_err-sheet c = rw (handed_on _ _ c.from_residual.ensures.1) (slot_in_refused _ _ _ _ _ _ c.in_err-sheet.ensures.told)
+returns-in_err-sheet c = rw (passed_on _ _ c.from_residual.ensures.1) (slot_in_refused _ _ _ _ _ _ c.in_err-sheet.ensures.told)
 
 pub step_rows-requires : goal.step_rows-requires
 step_rows-requires c =

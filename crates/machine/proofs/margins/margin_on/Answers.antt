@@ -1,12 +1,12 @@
 -- `margin_on` meets its promise. Assumes nothing.
 use Rattle.basis.specs.Prelude.{◌<◌, arith}
 use Rattle.machine.proofs.Inside.MarginAnswers.{margin_record_there, small_deadline, listed_since, listed_remaining, margin_unchecked, margin_missing, listed_margin}
-use Rattle.machine.proofs.Inside.Handed.{handed_on}
+use Rattle.basis.proofs.Refusals.{passed_on}
 use Rattle.machine.proofs.Names.{sheet_in}
 use Rattle.machine.proofs.margins.margin_on.Goals as goal
 
 pub returns-in_err-sheet : goal.returns-in_err-sheet
-returns-in_err-sheet c = rw (handed_on _ _ c.from_residual.ensures.1) (margin_unchecked _ _ _ _ _ c.in_err-sheet.ensures.told)
+returns-in_err-sheet c = rw (passed_on _ _ c.from_residual.ensures.1) (margin_unchecked _ _ _ _ _ c.in_err-sheet.ensures.told)
 
 pub returns-then-sheet-row : goal.returns-then-sheet-row
 returns-then-sheet-row c = let known = rw c.in_ok-sheet.ensures.own at c.in_ok-sheet.sheet.counted in margin_missing _ _ _ c.in_ok-sheet.ensures.told (omega arith)

@@ -1,18 +1,15 @@
 -- `read_releases` meets its promise. The invariant: what is still to be read, into the entries so far, is the whole. Assumes nothing.
 use Rattle.basis.specs.Prelude.{◌∙◌}
-use Rattle.std.proofs.lemmas.Result.{err_from_is_err_and}
+use Rattle.basis.proofs.Refusals.{passed_on}
 use Rattle.scenario.proofs.Inside.Slotwise.{more_left, none_left, no_row, no_amount, one_more}
 use Rattle.scenario.proofs.slot.read_releases.Goals as goal
 
 pub returns-in_err-row : goal.returns-in_err-row
-returns-in_err-row c =
-    let p = err_from_is_err_and c.from_residual.result c.from_residual.ensures.1 in
-    rw (p.1, p.2) (c.loop-release.invariant ∙ more_left _ _ _ _ _ _ _ c.loop-release-test.true ∙ no_row _ _ _ _ _ _ _ _ c.in_err-row.ensures.told)
+returns-in_err-row c = rw (passed_on _ _ c.from_residual.ensures.1) (c.loop-release.invariant ∙ more_left _ _ _ _ _ _ _ c.loop-release-test.true ∙ no_row _ _ _ _ _ _ _ _ c.in_err-row.ensures.told)
 
 pub returns-in_err-amount : goal.returns-in_err-amount
 returns-in_err-amount c =
-    let p = err_from_is_err_and c.from_residual-in_err-amount.result c.from_residual-in_err-amount.ensures.1 in
-    rw (p.1, p.2)
+    rw (passed_on _ _ c.from_residual-in_err-amount.ensures.1)
     (c.loop-release.invariant ∙ more_left _ _ _ _ _ _ _ c.loop-release-test.true ∙ no_amount _ _ _ _ _ _ _ _ c.in_ok-row.ensures.told _ c.budget.ensures _ c.in_err-amount.ensures)
 
 pub loop-release-preserved : goal.loop-release-preserved

@@ -1,13 +1,11 @@
 -- `read_row` meets its promise. Assumes nothing.
 use Rattle.basis.specs.Prelude.{arith}
-use Rattle.std.proofs.lemmas.Result.{err_from_is_err_and}
+use Rattle.basis.proofs.Refusals.{passed_on}
 use Rattle.scenario.proofs.Inside.Slotwise.{row_none, row_past, row_again, row_read}
 use Rattle.scenario.proofs.slot.read_row.Goals as goal
 
 pub returns-in_err-number-clause-told : goal.returns-in_err-number-clause-told
-returns-in_err-number-clause-told c =
-    let p = err_from_is_err_and c.from_residual.result c.from_residual.ensures.1 in
-    rw (p.1, p.2) (row_none _ _ _ _ _ _ c.in_err-number.ensures)
+returns-in_err-number-clause-told c = rw (passed_on _ _ c.from_residual.ensures.1) (row_none _ _ _ _ _ _ c.in_err-number.ensures)
 
 pub returns-then-rows-row-clause-told : goal.returns-then-rows-row-clause-told
 returns-then-rows-row-clause-told c = row_past _ _ _ _ _ _ c.in_ok-number.ensures (omega (arith, c.args.rows.now.counted))

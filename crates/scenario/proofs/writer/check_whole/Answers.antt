@@ -1,6 +1,6 @@
 -- `check_whole` meets its promise: no entry of the slots so far is over. Assumes nothing.
 use Rattle.basis.specs.Prelude.{◌∙◌, arith}
-use Rattle.std.proofs.lemmas.Result.{err_from_is_err_and}
+use Rattle.basis.proofs.Refusals.{passed_on}
 use Rattle.scenario.proofs.Names.{sheet_in}
 use Rattle.scenario.proofs.Inside.Checks.{none_passed, slot_passed, slot_over, all_passed, list_uneven, list_even, list_checked}
 use Rattle.scenario.proofs.writer.check_whole.Goals as goal
@@ -14,9 +14,8 @@ loop-slot-init c =
 
 pub returns-in_err-check_slot : goal.returns-in_err-check_slot
 returns-in_err-check_slot c =
-    let p = err_from_is_err_and c.from_residual.result c.from_residual.ensures.1 in
     let steps = c.in-Some.ensures.steps in
-    rw (p.1, p.2)
+    rw (passed_on _ _ c.from_residual.ensures.1)
     (list_checked _ _ _ c.args.rows.now.counted c.if-releases-rows-ne0.false _ (slot_over _ _ _ c.loop-slot.invariant.1 _ _ steps.1.0 (steps.1.1 ∙ c.loop-slot.invariant.0) _ _ c.in_err-check_slot.ensures))
 
 pub loop-slot-preserved : goal.loop-slot-preserved

@@ -1,10 +1,10 @@
 -- `slot` meets its promise. Assumes nothing.
 use Rattle.machine.proofs.Inside.Answers.{rows_in_state, rows_in_list, rows_in_buffer, slot_is_refused, slot_is_accepted}
-use Rattle.machine.proofs.Inside.Handed.{handed_on}
+use Rattle.basis.proofs.Refusals.{passed_on}
 use Rattle.states.proofs.state.State.slot.Goals as goal
 
 pub returns-in_err-check_slot : goal.returns-in_err-check_slot
-returns-in_err-check_slot c = rw (handed_on _ _ c.from_residual.ensures.1) (slot_is_refused _ _ _ _ _ _ c.in_err-check_slot.ensures)
+returns-in_err-check_slot c = rw (passed_on _ _ c.from_residual.ensures.1) (slot_is_refused _ _ _ _ _ _ c.in_err-check_slot.ensures)
 
 pub next-requires : goal.next-requires
 next-requires c = let passed = c.in_ok-check_slot.ensures in (search rows_in_state, search rows_in_list, search rows_in_buffer)
