@@ -1,12 +1,22 @@
 // What can go wrong with the files, and how it is said.
 use crate::lines::print_refused;
+use basis::Refusal;
+use std::env::FillError;
 use std::fmt::InlineText;
 use std::io;
+use std::str::Utf8Error;
 use watch::File;
+
+// The system's numbers for an argument that is not there, for one that is too long, and for bytes that are no text.
+const NO_ARGUMENT: i32 = 22;
+
+const TOO_LONG: i32 = 36;
+
+const NOT_TEXT: i32 = 84;
 
 // Why a run ends before its scenario does.
 #[derive(Drop)]
-pub enum Fault {
+pub(crate) enum Fault {
     // The file cannot be named, opened or read, as the system says.
     System(io::Error),
     // The bytes of the file are refused: the number of the refusal, and the place in the file.
@@ -19,13 +29,42 @@ pub enum Fault {
     Stopped,
 }
 
+// What the system says of a file.
 impl From<io::Error> for Fault {
     fn from(error: io::Error) -> Fault {
         Fault::System(error)
     }
 }
 
+// An argument that names no file.
+impl From<FillError> for Fault {
+    fn from(error: FillError) -> Fault {
+        Fault::from_code(match error {
+            FillError::NotPresent => NO_ARGUMENT,
+            FillError::TooLong => TOO_LONG,
+        })
+    }
+}
+
+// A name that is no text.
+impl From<Utf8Error> for Fault {
+    fn from(_error: Utf8Error) -> Fault {
+        Fault::from_code(NOT_TEXT)
+    }
+}
+
 impl Fault {
+    // What the system says by a number.
+    fn from_code(code: i32) -> Fault {
+        Fault::System(io::Error::from_raw_os_error(code))
+    }
+
+    // The refusal of bytes that begin at this place in a file; no file is so long that the sum would wrap.
+    pub(crate) fn refused(file: File, refusal: Refusal, offset: u64) -> Fault {
+        let (number, at) = refusal.into();
+        Fault::Refused(file, number, offset.wrapping_add(at as u64))
+    }
+
     // Says it: a refusal on standard output, any other on standard error after the file's name.
     pub(crate) fn tell(self, out: &impl Print, err: &impl Print, name: &[u8]) {
         match self {
@@ -47,7 +86,7 @@ fn words(text: &str) -> &str {
 }
 
 // Says a line on standard error: what failed, a colon and why.
-pub(crate) fn fail(err: &impl Print, what: &[u8], error: io::Error) {
+fn fail(err: &impl Print, what: &[u8], error: io::Error) {
     let text = InlineText::<128>::of(error);
     let _ = err.write_all(what);
     let _ = err.write_all(b": ");

@@ -1,4 +1,5 @@
-// The lines that stand alone on standard output.
+// The lines that stand alone on standard output. The functions differ in the call that writes: lent as a closure it would have to promise that its count fits, which is
+// longer than the two.
 use watch::File;
 
 // Prints the line of a refused file.

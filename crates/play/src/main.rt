@@ -7,7 +7,7 @@ mod pass;
 mod player;
 mod source;
 
-use crate::errors::{Fault, fail};
+use crate::errors::Fault;
 use crate::lines::print_end;
 use crate::pass::play_file;
 use crate::player::Player;
@@ -15,57 +15,24 @@ use crate::source::{BUFFER_LONG, fill};
 use std::env::{Env, FillError};
 use std::io::Read;
 use std::rt::Files;
-use std::{fs, io, str};
+use std::{fs, str};
 use watch::File;
-
-// The system's numbers for an argument that is not there, for one that is too long, and for bytes that are no text.
-const NO_ARGUMENT: i32 = 22;
-
-const TOO_LONG: i32 = 36;
-
-const NOT_TEXT: i32 = 84;
 
 // Whether the program was given an argument.
 fn has_argument(rt: &impl Env, argument: usize) -> bool {
     !matches!(rt.arg(argument, &mut []), Err(FillError::NotPresent))
 }
 
-// The system's error for an argument that names no file.
-fn no_name(error: FillError) -> io::Error {
-    let code = match error {
-        FillError::NotPresent => NO_ARGUMENT,
-        FillError::TooLong => TOO_LONG,
-    };
-    io::Error::from_raw_os_error(code)
-}
-
 // Opens a file for reading. A name that is not UTF-8 names none.
-fn open_file<R: Files>(rt: &R, name: &[u8]) -> io::Result<R::File> {
-    match str::from_utf8(name) {
-        Ok(path) => fs::open(rt, path),
-        Err(_) => Err(io::Error::from_raw_os_error(NOT_TEXT)),
-    }
+fn open_file<R: Files>(rt: &R, name: &[u8]) -> Result<R::File, Fault> {
+    Ok(fs::open(rt, str::from_utf8(name)?)?)
 }
 
 // The box of the sheet in a file.
 fn read_sheet(mut file: impl Read + Drop) -> Result<Player, Fault> {
     let mut bytes = dashboard::input_buffer();
     let end = fill(&mut file, &mut bytes)?;
-    Player::of(&bytes[..end]).map_err(|refusal| {
-        let (number, place) = refusal.into();
-        Fault::Refused(File::Sheet, number, place as u64)
-    })
-}
-
-// What a task gives that is done with the file of a name.
-fn done_with<R: Files, T, F: FnOnce(R::File) -> Result<T, Fault>>(
-    rt: &R,
-    name: &[u8],
-    task: F,
-) -> Result<T, Fault>
-    requires { F.IsAlwaysCallable task }
-{
-    task(open_file(rt, name)?)
+    Player::of(&bytes[..end]).map_err(|refusal| Fault::refused(File::Sheet, refusal, 0))
 }
 
 // What a task gives that is done with the file that an argument names; where it fails, that is said.
@@ -81,11 +48,11 @@ fn with_named<R: Env + Files + Print, T, F: FnOnce(R::File) -> Result<T, Fault>>
     let name = match rt.arg(argument, &mut buffer) {
         Ok(long) => &buffer[..long],
         Err(error) => {
-            fail(err, b"name", no_name(error));
+            Fault::from(error).tell(rt, err, b"name");
             return None;
         }
     };
-    match done_with(rt, name, task) {
+    match open_file(rt, name).and_then(task) {
         Ok(done) => Some(done),
         Err(fault) => {
             fault.tell(rt, err, name);
@@ -101,7 +68,7 @@ fn main(rt: HostRuntime) {
         let _ = err.write_all(b"usage: play SHEET SCENARIO\n");
         return;
     }
-    let Some(player) = with_named(&rt, &err, 1, |file| read_sheet(file)) else {
+    let Some(player) = with_named(&rt, &err, 1, read_sheet) else {
         return;
     };
     if let Some(slots) = with_named(&rt, &err, 2, |file| play_file(file, &rt, player)) {

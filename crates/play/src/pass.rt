@@ -2,6 +2,7 @@
 use crate::errors::Fault;
 use crate::player::Player;
 use crate::source::Source;
+use basis::MOST_ROWS;
 use std::io::{Read, Seek};
 
 // What going through the whole file comes to: the place after it, and how many slots it has.
@@ -11,38 +12,22 @@ struct Pass {
     slots: u64,
 }
 
-// Reads the whole file.
-fn read_through<F: Read>(source: &mut Source<F>, sheet: &[u64]) -> Result<Pass, Fault> {
-    source.read_mark()?;
-    let mut slots = 0;
-    for slot in 0..u64::MAX {
-        if source.next_slot(sheet)?.is_none() {
-            slots = slot;
-            break;
-        }
-    }
-    Ok(Pass {
-        place: source.place(),
-        slots,
-    })
-}
-
-// Plays the whole file, to the first slot that the box refuses.
-fn play_through<F: Read>(
+// Goes through the whole file, and hands each slot's number and entries to a task.
+fn through<F: Read, T: FnMut(u64, [u64; MOST_ROWS]) -> Result<(), Fault>>(
     source: &mut Source<F>,
-    out: &impl Print,
-    player: &mut Player,
-) -> Result<Pass, Fault> {
+    sheet: &[u64],
+    mut task: T,
+) -> Result<Pass, Fault>
+    requires { T.IsAlwaysCallable task }
+{
     source.read_mark()?;
     let mut slots = 0;
     for slot in 0..u64::MAX {
-        match source.next_slot(&player.sheet)? {
-            Some(entries) => player.play(out, slot, entries)?,
-            None => {
-                slots = slot;
-                break;
-            }
-        }
+        let Some(entries) = source.next_slot(sheet)? else {
+            break;
+        };
+        task(slot, entries)?;
+        slots = slot + 1;
     }
     Ok(Pass {
         place: source.place(),
@@ -54,12 +39,14 @@ fn play_through<F: Read>(
 pub(crate) fn play_file<F: Read + Seek + Drop>(
     file: F,
     out: &impl Print,
-    mut player: Player,
+    player: Player,
 ) -> Result<u64, Fault> {
     let mut source = Source::of(file);
-    let read = read_through(&mut source, &player.sheet)?;
-    source.rewind()?;
-    match play_through(&mut source, out, &mut player) {
+    let read = through(&mut source, &player.sheet, |_slot, _entries| Ok(()))?;
+    source = source.rewound()?;
+    let mut state = player.fresh;
+    let task = |slot, entries| player.play(out, &mut state, slot, entries);
+    match through(&mut source, &player.sheet, task) {
         Ok(played) if played.place == read.place => Ok(played.slots),
         Ok(_) | Err(Fault::Refused(_, _, _)) => Err(Fault::Changed),
         Err(fault) => Err(fault),

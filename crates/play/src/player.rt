@@ -8,37 +8,38 @@ use machine::STATE_LONG;
 use reader::LABELS_LONG;
 use sheet::SHEET_LONG;
 
-// A sheet, the number of its rows, and the state that its box is in.
+// A sheet, the number of its rows, and the state of its box when it is switched on.
 #[derive(Clone, Copy)]
 pub(crate) struct Player {
     pub(crate) sheet: [u64; SHEET_LONG],
+    pub(crate) fresh: [u64; STATE_LONG],
     rows: usize,
-    state: [u64; STATE_LONG],
     ghost few: { rows ≤ most_rows },
 }
 
 impl Player {
-    // The box of the sheet in some bytes, fresh.
+    // The box of the sheet in some bytes.
     pub(crate) fn of(bytes: &[u8]) -> Result<Player, Refusal> {
         let mut sheet = [0; SHEET_LONG];
         let mut labels = [0; LABELS_LONG];
         reader::read_into(bytes, &mut sheet, &mut labels)?;
+        let mut fresh = [0; STATE_LONG];
+        machine::fresh_on(&sheet, &mut fresh)?;
         let rows = sheet::count(&sheet) as usize;
-        let mut state = [0; STATE_LONG];
-        machine::fresh_on(&sheet, &mut state)?;
-        Ok(Player { sheet, rows, state })
+        Ok(Player { sheet, fresh, rows })
     }
 
-    // Plays a slot and prints its line.
+    // Plays a slot from a state and prints its line.
     pub(crate) fn play(
-        &mut self,
+        &self,
         out: &impl Print,
+        state: &mut [u64],
         slot: u64,
         entries: [u64; MOST_ROWS],
     ) -> Result<(), Fault> {
         let mut text = watch::line_buffer();
         let releases = &entries[..self.rows];
-        let played = watch::play_slot(&self.sheet, &mut self.state, releases, slot, &mut text);
+        let played = watch::play_slot(&self.sheet, state, releases, slot, &mut text);
         let _ = out.write_all(&text[..played.long]);
         played.ended.map_err(|_refusal| Fault::Stopped)
     }

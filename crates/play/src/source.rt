@@ -1,7 +1,8 @@
 // A scenario's file, which is read from left to right through a buffer.
 ghost use Rattle.std.specs.Prelude.{◌≡◌, ◌≤◌, false, OnOk};
 ghost use Rattle.std.specs.Io.{WritesAtMost};
-ghost use Rattle.play.specs.Windows.{Ahead, buffer_long};
+ghost use Rattle.play.specs.Windows.{Ahead};
+ghost use Rattle.play.specs.declared.source.TheConstants.{BUFFER_LONG};
 
 use crate::errors::Fault;
 use basis::{MOST_ROWS, Refusal};
@@ -42,7 +43,7 @@ pub(crate) struct Source<F> {
     // Whether the file ends there.
     ended: bool,
     ghost next: { start ≤ end },
-    ghost last: { end ≤ buffer_long },
+    ghost last: { end ≤ BUFFER_LONG },
 }
 
 impl<F: Read> Source<F> {
@@ -58,25 +59,14 @@ impl<F: Read> Source<F> {
         }
     }
 
-    // The place in the file of a place in the buffer; no file is so long that the sum would wrap.
-    fn place_of(&self, at: usize) -> u64 {
-        self.offset.wrapping_add(at as u64)
-    }
-
-    // The place in the file of the byte that is read next.
+    // The place in the file of the byte that is read next; no file is so long that the sum would wrap.
     pub(crate) fn place(&self) -> u64 {
-        self.place_of(self.start)
-    }
-
-    // The refusal of what stands in the buffer.
-    fn refused(&self, refusal: Refusal) -> Fault {
-        let (number, at) = refusal.into();
-        Fault::Refused(File::Scenario, number, self.place_of(at))
+        self.offset.wrapping_add(self.start as u64)
     }
 
     // Reads on until the buffer is full or the file ends.
     fn read_on(&mut self) -> io::Result<()>
-        ensures { OnOk result ((self.new.start ≡ self.old.start) × (self.new.ended ≡ false → buffer_long ≤ self.new.end)) }
+        ensures { OnOk result ((self.new.start ≡ self.old.start) × (self.new.ended ≡ false → BUFFER_LONG ≤ self.new.end)) }
     {
         let more = fill(&mut self.file, &mut self.buffer[self.end..])?;
         self.end += more;
@@ -99,10 +89,7 @@ impl<F: Read> Source<F> {
     fn ahead(&mut self) -> io::Result<()>
         ensures { OnOk result (Ahead self.new.ended self.new.start self.new.end) }
     {
-        if self.ended {
-            return Ok(());
-        }
-        if SLOT_REACH <= self.end - self.start {
+        if self.ended || SLOT_REACH <= self.end - self.start {
             return Ok(());
         }
         self.keep_rest();
@@ -110,10 +97,11 @@ impl<F: Read> Source<F> {
     }
 
     // Reads the mark at the front of the file.
+    #[tactic(auto, using(basis::proofs::Marks::begins_short))]
     pub(crate) fn read_mark(&mut self) -> Result<(), Fault> {
         self.read_on()?;
         if !basis::begins_with(&self.buffer[..self.end], &MARK) {
-            return Err(self.refused(Refusal::Mark));
+            return Err(Fault::refused(File::Scenario, Refusal::Mark, self.offset));
         }
         self.start = MARK.len();
         Ok(())
@@ -130,22 +118,18 @@ impl<F: Read> Source<F> {
                 self.start = read.next;
                 Ok(Some(read.entries))
             }
-            Err(refusal) => Err(self.refused(refusal)),
+            Err(refusal) => Err(Fault::refused(File::Scenario, refusal, self.offset)),
         }
     }
 }
 
-impl<F: Read + Seek> Source<F> {
-    // Goes back to the front of the file.
-    pub(crate) fn rewind(&mut self) -> Result<(), Fault> {
-        match self.file.seek(SeekFrom::Start(0)) {
-            Ok(0) => {}
-            _ => return Err(Fault::Once),
+impl<F: Read + Seek + Drop> Source<F> {
+    // The file from its front again.
+    pub(crate) fn rewound(self) -> Result<Source<F>, Fault> {
+        let mut file = self.file;
+        match file.seek(SeekFrom::Start(0)) {
+            Ok(0) => Ok(Source::of(file)),
+            _ => Err(Fault::Once),
         }
-        self.offset = 0;
-        self.start = 0;
-        self.end = 0;
-        self.ended = false;
-        Ok(())
     }
 }
