@@ -14,7 +14,7 @@ use watch::File;
 // As many bytes as hold any slot ahead, and any path.
 pub(crate) const BUFFER_LONG: usize = 4096;
 
-// Reads until the buffer is full or the file ends, and answers how many bytes that is.
+// Reads until the buffer is full or the file ends, and answers how many bytes that is. `verdict` reads its input so too: the programs share no crate that reads.
 pub(crate) fn fill(file: &mut impl Read, buffer: &mut [u8]) -> io::Result<usize>
     ensures { WritesAtMost result buffer.new }
 {
