@@ -1,6 +1,7 @@
 -- A text as long as the longest: that of thirty-two rows with the longest labels, each of which is bounded by the largest separation. Assumes nothing.
-use Rattle.basis.specs.Prelude.{ℕ, zero, suc, ◌+◌, ◌*◌, ◌-◌, ◌≤◌, ◌<◌, min, ◌≡◌, refl, ap, ap₂, ◌∙◌, true, List, ◌++◌, arith, mul-le-mul, length, get_or, replicate, length-append, length-replicate, lt-ltb}
+use Rattle.basis.specs.Prelude.{ℕ, zero, suc, ◌+◌, ◌*◌, ◌-◌, ◌≤◌, ◌<◌, min, ◌≡◌, refl, ap, ap₂, ◌∙◌, true, List, arith, mul-le-mul, length, replicate, length-append, length-replicate, lt-ltb}
 use Rattle.dashboard.proofs.Names.{most_processors, most_rows, longest_label, most_separation, sum, all_of, sum_le, sum_most, no_row, row_at, Sheet, q, X, x, W, duration_of, amount_of, amounts, passes, bound, bounds, result_of, holds, Reached, smallest_is_bound, passing_is_less, passes_local, row, sheet_of, result_words, line_start, line, lines, board, longest_line, longest_text}
+use Rattle.std.proofs.lemmas.List.{get_or_append_left, get_or-replicate}
 use Rattle.sheet.specs.Values.{no_rows}
 use Rattle.sheet.specs.declared.row.Row.{Row}
 use Rattle.bound.specs.Quantities.{slots}
@@ -18,13 +19,8 @@ long_label i = replicate longest_label 0x61
 
 -- ---- each of them is bounded by its budget
 
-repeated : {A : Type 0} (n i : ℕ) (a d : A) (rest : List A) → i < n → get_or (replicate n a ++ rest) i d ≡ a
-repeated zero i a d rest l = absurd (omega arith)
-repeated (suc n) zero a d rest l = refl
-repeated (suc n) (suc i) a d rest l = repeated n i a d rest (omega arith)
-
 row_is : (i : ℕ) → i < most_rows → row_at full_sheet i ≡ always
-row_is i l = repeated most_rows i always no_row (no_rows (most_rows - most_rows)) l
+row_is i l = get_or_append_left (replicate most_rows always) (no_rows (most_rows - most_rows)) no_row i (omega (arith, length-replicate most_rows always)) ∙ get_or-replicate most_rows i always no_row l
 
 module _ (k : ℕ) (l : k < most_rows) where
   -- each of the others fills one processor of the slot that row k waits

@@ -1,5 +1,5 @@
 -- NO VERDICT: the number after it is 1 to 9, and no row is printed of a sheet that the reader refuses. Assumes nothing.
-use Rattle.basis.specs.Prelude.{ℕ, zero, suc, ◌≤◌, ◌<◌, ◌≡◌, refl, sym, ap, ◌∙◌, List, ◌∷◌, ◌++◌, arith, length, get_or, drop}
+use Rattle.basis.specs.Prelude.{ℕ, zero, suc, ◌≤◌, ◌<◌, ◌≡◌, refl, sym, ap, ◌∙◌, List, ◌∷◌, ◌++◌, arith, length, drop}
 use Rattle.dashboard.proofs.Names.{accepted, row_at, reading, Sheet, accepted_is_legal, legal_is, refusal_is_listed, passes, Word, result_of, holds, Answer, bounds_of, digits, decimal, space, newline, line_start, line, ending, no_verdict_word, refused_by, no_verdict, own_label, lines, board, verdict_text, Reported, NoVerdict}
 use Rattle.bound.proofs.Answers.{legal_answer}
 use Rattle.dashboard.proofs.Outcomes.{accepted_prints_its_rows, refused_prints_one_line, by_outcome}
@@ -33,8 +33,7 @@ number_is_1_to_9 s rest t =
     by_outcome s (λ e.
     let (_, b) = board_begins (own_label s) (reading s).1 (legal_is (reading s).1 (accepted_is_legal s e).0).some_rows in
     let q = sym (accepted_prints_its_rows s e ∙ b) ∙ t in
-    let z : ◌≡◌ {A = ℕ} 0x30 0x4E = cc in
-    absurd (omega arith))
+    cc)
     (λ k p e.
     let l = refusal_is_listed s k p e in
     let after = after_word k p rest (sym t ∙ refused_prints_one_line s k p e) in
@@ -52,7 +51,7 @@ read_is_reported s e i l =
 
 no_row_zero : (k p : ℕ) (rest : List ℕ) → 0x30 ∷ rest ≡ no_verdict k p → ⊥
 unfolding no_verdict refused_by
-no_row_zero k p rest e = let z : ◌≡◌ {A = ℕ} 0x30 0x4E = ap (λ (t : List ℕ). get_or t 0 0) e in omega arith
+no_row_zero k p rest e = cc
 
 -- where row 0 is printed every row is reported: a sheet with a zero in threads, separation, deadline or budget prints no row
 pub printed_rows_are_reported : (s rest : List ℕ) → verdict_text s ≡ 0x30 ∷ rest → (i : ℕ) → i < (reading s).1.count → Reported (row_at (reading s).1 i)

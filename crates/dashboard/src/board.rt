@@ -33,7 +33,7 @@ impl<'a, L: Labels> Board<'a, L> {
         put(text, c, b' ')
     }
 
-    // The word of a row's result, and the bound or a dash.
+    // The word of a row's result, and the bound or a dash; the list is the C interface's, whose words are numbers: 0 unreached, 1 bound, 2 none.
     fn put_result(&self, text: &mut [u8], at: usize, row: usize) -> usize
         requires { row < self.now.rows }
         ensures { (text.new, result) ≡ said (text.old, at) (result_words (word_at self.now.results.now row)) }
