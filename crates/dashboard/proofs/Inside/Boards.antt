@@ -8,13 +8,16 @@ use Rattle.reader.proofs.RowLabels.{label_in_bytes}
 
 -- the label that a list shows in the bytes
 module _ (s parts : List ℕ) (n i : ℕ) (lie : LabelsLie s parts n) (l : i < n) where
+  pub label_lies_lem : part_in parts i ≡ label_in s i
+  label_lies_lem = lie i l
+
   starts : number_at parts (i * 2) ≡ (label_in s i).start
   unfolding part_in
-  starts = ap (λ (p : Part). p.start) (lie i l)
+  starts = ap (λ (p : Part). p.start) label_lies_lem
 
   lasts : number_at parts (i * 2 + 1) ≡ (label_in s i).long
   unfolding part_in
-  lasts = ap (λ (p : Part). p.long) (lie i l)
+  lasts = ap (λ (p : Part). p.long) label_lies_lem
 
   pub label_inside : number_at parts (i * 2) + number_at parts (i * 2 + 1) ≤ length s
   label_inside = omega (arith, starts, lasts, label_in_bytes s i)
