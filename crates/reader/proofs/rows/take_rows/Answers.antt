@@ -27,10 +27,11 @@ pub loop-i-preserved : goal.loop-i-preserved
 unfolding entries_by map_step parts_in upto
 loop-i-preserved c =
     let q = c.in_ok-entry.ensures.0 in
-    let so_far = c.loop-i.invariant.0 in
-    (one_passed _ c.args.count _ _ _ _ so_far _ _ q,
-    row_put _ c.args.count _ _ _ _ so_far _ _ q _ _ c.loop-i.invariant.1 _ c.put_row.ensures,
-    part_put _ c.args.count _ _ _ _ so_far _ _ q _ c.in_ok-entry.ensures.1 _ _ c.loop-i.invariant.2 _ c.put_part.ensures)
+    let so_far = c.loop-i.invariant.0 in (
+      one_passed _ c.args.count _ _ _ _ so_far _ _ q,
+      row_put _ c.args.count _ _ _ _ so_far _ _ q _ _ c.loop-i.invariant.1 _ c.put_row.ensures,
+      part_put _ c.args.count _ _ _ _ so_far _ _ q _ c.in_ok-entry.ensures.1 _ _ c.loop-i.invariant.2 _ c.put_part.ensures,
+    )
 
 pub shape_of-list : goal.shape_of-list
 unfolding entries_by map_step parts_in upto
