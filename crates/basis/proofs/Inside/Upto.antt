@@ -1,5 +1,5 @@
 -- Laws of `upto`: what a loop that stores once a turn has made, read at a place, and its length. Assumes nothing.
-use Rattle.basis.specs.Prelude.{◌∷◌, ◌++◌, take, drop, take-suc, drop-cons, append_snoc, set_at, length-take-le, ℕ, zero, suc, ◌+◌, ◌≤◌, ◌<◌, ◌≡◌, refl, sym, ap, ◌∙◌, List, ⊎_elim, length, get_or, set, length-set, get_or-set_same, get_or-set_other, ext_get_or, add-one, arith, le_refl, eq-or-lt_of_le}
+use Rattle.basis.specs.Prelude.{◌++◌, take, drop, take-suc, drop-cons, append_snoc, set_at, length-take-le, ℕ, zero, suc, ◌+◌, ◌≤◌, ◌<◌, ◌≡◌, refl, sym, ap, ◌∙◌, List, ⊎_elim, length, get_or, set, length-set, get_or-set_same, get_or-set_other, ext_get_or, add-one, arith, le_refl, eq-or-lt_of_le}
 use Rattle.basis.specs.Upto.{upto}
 use Rattle.basis.proofs.Inside.Words.{lt_or_le}
 

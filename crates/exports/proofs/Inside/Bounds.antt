@@ -1,5 +1,5 @@
 -- What `giachimu_bounds` answers at each way out, where `bounds_on` has judged the sheet in the list. Assumes nothing.
-use Rattle.basis.specs.Prelude.{ℕ, ◌≡◌, refl, true, sym, ap, ◌∙◌, Bool, false, List, length}
+use Rattle.basis.specs.Prelude.{ℕ, ◌≡◌, refl, true, sym, ◌∙◌, Bool, false, List, length}
 use mir.Val.{bool_byte}
 use Rattle.exports.proofs.Names.{Outcome, accepted, refused, or_else, room_for, handed, handed_outcome, handed_found, handed_done, filled, sheet_in, bounds_of, results_long, result_cell, results_on, bounds_on, flag, results_in, bounds_in}
 

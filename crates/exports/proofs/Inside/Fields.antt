@@ -1,5 +1,5 @@
 -- What `giachimu_read`, `giachimu_labels` and `giachimu_label` answer at each way out, where the reader has answered r and written into lists. Assumes nothing.
-use Rattle.basis.specs.Prelude.{ℕ, ◌+◌, ◌*◌, ◌≤◌, ◌<◌, ◌≡◌, sym, ap, ◌∙◌, List, arith, length, lt-ltb, le-ltb, le-leb, w64, Fits}
+use Rattle.basis.specs.Prelude.{ℕ, ◌+◌, ◌*◌, ◌≤◌, ◌<◌, ◌≡◌, sym, ◌∙◌, List, arith, length, lt-ltb, le-ltb, le-leb, w64, Fits}
 use Rattle.exports.proofs.Names.{most_rows, Outcome, accepted, refused, or_else, room_for, handed_outcome, or_nothing, number_at, filled, sheet_in, sheet_cell, sheet_long, cleared_cell, cell_past, zeros, zeros_long, reading, label_in, accepted_is_legal, lists, rows_few, fields_in, read_in, label_answer, labels_by, labels_on}
 use Rattle.sheet.proofs.Inside.ClearedLists.{cleared_is_filled}
 use Rattle.reader.specs.Lists.{label_cell, labels_long, part_in, into_lists, read_into}

@@ -1,5 +1,5 @@
 -- What `giachimu_verdict` answers at each way out: the text is whole in a buffer that has room for any, be it lent or the call's own, and is copied from its own where it fits. Assumes nothing.
-use Rattle.basis.specs.Prelude.{ℕ, ◌≤◌, ◌<◌, min, ◌≡◌, sym, ap, ◌∙◌, List, ◌++◌, arith, length, take, drop, take_all, le-leb, lt-leb}
+use Rattle.basis.specs.Prelude.{ℕ, ◌≤◌, ◌<◌, min, ◌≡◌, ap, ◌∙◌, List, ◌++◌, arith, length, take, drop, take_all, le-leb, lt-leb}
 use Rattle.dashboard.specs.Longest.{text_size, text_buffer}
 use Rattle.exports.proofs.Names.{written, verdict_text, written_part, verdict_is_printed, verdict_in}
 use Rattle.dashboard.proofs.TextLengths.{verdict_is_short, longest_fits}

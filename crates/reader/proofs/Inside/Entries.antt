@@ -1,5 +1,5 @@
 -- A row: each way out of the functions that read its numbers, and its label before them. Assumes nothing.
-use Rattle.basis.specs.Prelude.{ℕ, ◌≡◌, refl, sym, subst, ◌∙◌, List, length}
+use Rattle.basis.specs.Prelude.{ℕ, ◌≡◌, refl, sym, List, length}
 use Rattle.reader.proofs.Names.{most_separation, Step, ok, refuse, after, map_step, map_step_ok, map_step_no, up_to, entry_row, label, entry_by, entry, numbers}
 
 -- the four numbers

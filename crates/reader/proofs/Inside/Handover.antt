@@ -1,9 +1,6 @@
 -- Reading into lent lists: each way out of the functions that read and hand over. Assumes nothing.
-use Rattle.std.specs.Prelude.{Result, Ok, Err}
-use Rattle.basis.specs.Prelude.{ℕ, ◌≤◌, ◌<◌, ◌≡◌, sym, ap, subst, ◌∙◌, List, arith, length, take, drop, ◌++◌, lt-leb, lt-ltb, le-ltb, le-leb}
+use Rattle.basis.specs.Prelude.{ℕ, ◌≤◌, ◌<◌, ◌≡◌, sym, ap, ◌∙◌, List, arith, length, take, drop, ◌++◌, lt-leb, lt-ltb, le-ltb, le-leb}
 use Rattle.reader.proofs.Names.{most_rows, upto, ok, refuse, map_step, Outcome, accepted, refused, pairs_agree, map_step_ok, map_step_no, upto_agree, upto_below, bounded, row_at, number_at, list_cell, sheet_long, rows_agree, Entry, Held, entries, body_by, head, sheet_by, sheet, label_head, sheet_held, label_in, labels_long, label_cell, into_lists, read_into, nothing, row_after, label_from, label_after, rows_in, parts_in, handed_over, Part}
-use Rattle.basis.specs.declared.refusal.Refusal.{Refusal}
-use Rattle.reader.specs.declared.head.Head as code
 use Rattle.basis.proofs.Inside.Upto.{upto_front}
 use Rattle.reader.proofs.LegalSheets.{row_held}
 use Rattle.reader.proofs.Inside.LabelPlaces.{entries_length, row_was_read}

@@ -1,5 +1,5 @@
 -- What stands before the rows: each way out of the function that reads it, and what is known where it is accepted. Assumes nothing.
-use Rattle.basis.specs.Prelude.{ℕ, ◌≡◌, sym, ap, ap₂, ◌∙◌, List, Bool, true, false}
+use Rattle.basis.specs.Prelude.{ℕ, ◌≡◌, sym, ap, ap₂, ◌∙◌, List, true, false}
 use Rattle.reader.proofs.Names.{most_processors, most_rows, ok, refuse, begins, marked, after_ok, ok_same, marked_ok, up_to, Head, mark_bytes, head_by, head}
 
 -- the ways out of `read_head`

@@ -1,6 +1,6 @@
 -- `giachimu_verdict` meets its promise: the text is whole in a buffer with room for any, and is copied from its own where it fits. Assumes nothing.
 use Rattle.basis.specs.Prelude.{ℕ, List, ap, ◌++◌, drop}
-use Rattle.dashboard.proofs.Buffers.{written_in_room, written_part}
+use Rattle.dashboard.proofs.Buffers.{written_in_room}
 use Rattle.exports.proofs.Inside.Texts.{text_is_written, text_needs_room, text_is_copied}
 use Rattle.exports.proofs.verdicts.giachimu_verdict.Goals as goal
 
