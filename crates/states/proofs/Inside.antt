@@ -1,1 +1,2 @@
+pub mod StepLoops
 pub mod ValueLists

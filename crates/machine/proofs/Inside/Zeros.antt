@@ -1,5 +1,7 @@
 -- Whether every number of a list is zero from a place on. Assumes nothing.
 use Rattle.basis.specs.Prelude.{ℕ, ◌+◌, ◌-◌, ◌≤◌, ◌<◌, ◌≡◌, refl, sym, ap, ◌∙◌, Bool, true, false, List, ⊎_elim, length, get_or, drop, length-drop, get_or-drop, get_or-eq_default, arith, lt-ltb, le-ltb, eqb-true}
+use Rattle.basis.specs.Words.{all_of}
+use Rattle.basis.proofs.Inside.Words.{all_one_more}
 use Rattle.machine.proofs.Names.{lt_or_le, all_at, all_true, true_not_false, not_so, number_at, zero_at, zero_from}
 
 -- a list whose numbers are all zero from a place on, and what it shows of each
@@ -23,3 +25,11 @@ module _ (from : ℕ) (l x : List ℕ) (is : x ≡ drop from l) where
   zero_rest true so back =
       sym (all_zero from l (λ i b a. let e : from + (i - from) ≡ i = omega arith in sym (ap (number_at l) e) ∙ sym (rest_at (i - from)) ∙ so refl (i - from) (omega (arith, rest_long))))
   zero_rest false so back = sym (not_so (zero_from from l) (λ e. true_not_false (sym (back (λ k b. rest_at k ∙ each_zero from l e (from + k) (omega arith))))))
+
+-- a list whose last number is zero, as are the others from a place on
+pub zero_last_lem : (from : ℕ) (l : List ℕ) (i : ℕ) → from ≤ i → true ≡ all_of i (zero_at from l) → length l ≤ i + 1 → i < length l → number_at l i ≡ 0 → true ≡ zero_from from l
+unfolding zero_from zero_at
+zero_last_lem from l i past so_far a b z =
+    let e : i + 1 ≡ length l = omega arith in
+    let one : true ≡ all_of (i + 1) (zero_at from l) = rw (all_one_more, sym so_far, le-ltb i from past, z) in
+    rw e at one

@@ -46,10 +46,10 @@ module _ (h : Sheet) (s : List ℕ) (left least : ℕ) (entries : List ℕ) (nex
     counted : (x : Result (ℕ × ℕ) Refusal) → UpTo (λ (y : Refusal) (z : Refusal). z ≡ y) v (Budget a) (Budget a) s a x → up_to (budget_at h r) 12 12 s a ≡ step x
     counted x f = ap (λ (k : ℕ). up_to k 12 12 s a) (sym ev) ∙ sym (up_to_step v 12 12 s a (Budget a) (Budget a) x refl refl f)
 
-    pub no_amount : (x : Refusal) → UpTo (λ (y : Refusal) (z : Refusal). z ≡ y) v (Budget a) (Budget a) s a (Err x)
+    pub no_amount_lem : (x : Refusal) → UpTo (λ (y : Refusal) (z : Refusal). z ≡ y) v (Budget a) (Budget a) s a (Err x)
         → releases h (suc left) least entries s next ≡ refuse (told x).0 (told x).1
     unfolding releases
-    no_amount x f = simp (sym e, counted (Err x) f)
+    no_amount_lem x f = simp (sym e, counted (Err x) f)
 
     pub one_more : (c b : ℕ) → UpTo (λ (y : Refusal) (z : Refusal). z ≡ y) v (Budget a) (Budget a) s a (Ok (c, b))
         → releases h (suc left) least entries s next ≡ releases h left (r + 1) (set entries r c) s b
