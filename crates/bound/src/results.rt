@@ -10,7 +10,7 @@ use crate::judge::judge_rows;
 use basis::{MOST_ROWS, Refusal};
 use sheet::{SHEET_LONG, Sheet};
 
-// The result of a row.
+// The result of a row. It has three cases, and so is no `Option`.
 #[derive(Clone, Copy, Debug, PartialEq, Eq)]
 pub enum RowResult {
     Unreached,

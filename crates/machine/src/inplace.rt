@@ -169,7 +169,7 @@ fn checked_run<'a, 'b>(
     Ok(sheet)
 }
 
-// The checks of a slot.
+// The checks of a slot. It and the next are two promises, and no more than a call each.
 pub fn check_slot_in(
     sheet: &[u64],
     list: &[u64],

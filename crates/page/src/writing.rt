@@ -15,7 +15,7 @@ pub fn put(text: &mut [u8], at: usize, byte: u8) -> usize
     }
 }
 
-// Some bytes, as far as there is room, which is tested once.
+// Some bytes, as far as there is room, which is tested once. They are copied by a loop of its own, for speed: words are short, and a call that copies takes twice as long.
 pub fn put_bytes(text: &mut [u8], at: usize, bytes: &[u8]) -> usize
     ensures { (text.new, result) ≡ said (text.old, at) bytes.now }
 {

@@ -9,7 +9,7 @@ use basis::{LONGEST_LABEL, MOST_SEPARATION, Refusal};
 use numbers::read_up_to;
 use sheet::Row;
 
-// A part of a sheet's bytes: where it starts, and how long it is.
+// A part of a sheet's bytes: where it starts, and how long it is, as the promises speak of it and a list of labels has it; so it is no range.
 #[derive(Clone, Copy)]
 pub struct Part {
     pub start: usize,

@@ -1,6 +1,7 @@
 // A row of a sheet, and a sheet by value.
 use basis::MOST_ROWS;
 
+// A row.
 #[derive(Clone, Copy)]
 pub struct Row {
     pub threads: u64,
@@ -17,6 +18,7 @@ pub const NO_ROW: Row = Row {
     budget: 0,
 };
 
+// A sheet by value: how many rows it has stands beside an array with a place for each, since nothing here is on a heap.
 #[derive(Clone, Copy)]
 pub struct Sheet {
     pub processors: u64,

@@ -14,7 +14,7 @@ use records::RowState;
 use sheet::Sheet;
 
 impl State {
-    // The checks of a slot, on the lists of the sheet and of the state.
+    // The checks of a slot, on the lists of the sheet and of the state. It stands beside `check_run`, which is another promise: neither is more than its one call.
     fn check_slot(self, sheet: Sheet, releases: &[u64], room: usize) -> Result<(), Refusal>
         ensures { outcome result ≡ check_slot sheet (held self) releases.now room }
     {

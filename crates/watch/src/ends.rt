@@ -6,7 +6,7 @@ ghost use Rattle.watch.specs.Lines.{end_line, refused_file, file_name};
 use crate::codes::put_refused_by;
 use page::{put, put_bytes, put_number};
 
-// The files that a run is of.
+// The files that a run is of: which one is a parameter of a promise, so the two are told apart by an enum.
 #[derive(Clone, Copy)]
 pub enum File {
     Sheet,
