@@ -1,44 +1,40 @@
 // A sheet written into a list, and a list made zero from a place on.
-ghost use Rattle.std.specs.Prelude.{◌≡◌};
-ghost use Rattle.sheet.specs.Lists.{filled, row_cell, sheet_cell, cleared_cell};
+ghost use Rattle.std.specs.Prelude.{◌≡◌, replicate};
+ghost use Rattle.basis.specs.Limits.{most_rows};
+ghost use Rattle.basis.specs.Upto.{upto};
+ghost use Rattle.sheet.specs.Lists.{filled, sheet_cell, sheet_long, cleared_cell};
 
-use crate::row::{Row, Sheet};
+use crate::row::Sheet;
 use basis::MOST_ROWS;
 
 // The places of a list that has room for every row.
 pub const SHEET_LONG: usize = MOST_ROWS * 4 + 2;
 
-// The numbers of a row, from 0 to 3.
-fn row_cell(row: Row, j: usize) -> u64
-    ensures { result ≡ row_cell row j }
+// The numbers of a sheet in their places, every row as it stands.
+fn cells_of(sheet: &Sheet) -> [u64; SHEET_LONG]
+    ensures { result ≡ upto (sheet_long most_rows) (sheet_cell sheet.now) (replicate (sheet_long most_rows) 0) }
 {
-    match j {
-        0 => row.threads,
-        1 => row.separation,
-        2 => row.deadline,
-        _ => row.budget,
+    let mut cells = [0; SHEET_LONG];
+    cells[0] = sheet.processors;
+    cells[1] = sheet.count;
+    for k in 0..MOST_ROWS {
+        let row = sheet.rows[k];
+        cells[k * 4 + 2] = row.threads;
+        cells[k * 4 + 3] = row.separation;
+        cells[k * 4 + 4] = row.deadline;
+        cells[k * 4 + 5] = row.budget;
     }
-}
-
-// The number at a place of a sheet's list: past the rows it is zero.
-fn sheet_cell(sheet: &Sheet, at: usize) -> u64
-    ensures { result ≡ sheet_cell sheet.now at }
-{
-    match at {
-        0 => sheet.processors,
-        1 => sheet.count,
-        2..SHEET_LONG => row_cell(sheet.rows[(at - 2) / 4], (at - 2) % 4),
-        _ => 0,
-    }
+    cells
 }
 
 // Writes a sheet into a list, every row that there is room for as it stands; places past those are made zero.
 pub fn put_sheet(list: &mut [u64], sheet: Sheet)
     ensures { list.new ≡ filled (sheet_cell sheet) list.old }
 {
-    for (i, place) in list.iter_mut().enumerate() {
-        *place = sheet_cell(&sheet, i);
-    }
+    let cells = cells_of(&sheet);
+    let n = list.len().min(SHEET_LONG);
+    list[..n].copy_from_slice(&cells[..n]);
+    clear_from(list, n);
 }
 
 // Makes every place of a list zero from a place on.

@@ -39,10 +39,6 @@ no_row_past h long k b = get_or-eq_default h.rows no_row {n = k} (rw long b)
 pub unmapped : {A B : Type 0} (f : A → B) (l : List A) (n : ℕ) → length (map f l) ≡ n → length l ≡ n
 unmapped f l n e = sym (length-map l f) ∙ e
 
--- `sheet_cell`: a place that has a row, and one past the rows
-pub at_row : (h : Sheet) (i : ℕ) → 2 ≤ i → (v : ℕ) → v ≡ row_cell (row_at h ((i - 2) / 4)) ((i - 2) % 4) → v ≡ sheet_cell h i
-unfolding list_cell
-at_row h i b v e = rw (ne_eqb i 0 (λ z. omega arith), ne_eqb i 1 (λ z. omega arith)) e
-
+-- a place past the rows
 pub past_rows : (h : Sheet) (i : ℕ) → length h.rows ≡ most_rows → sheet_long most_rows ≤ i → 0 ≡ sheet_cell h i
 past_rows h i long b = sym (cell_past h most_rows (no_row_past h long) i b)

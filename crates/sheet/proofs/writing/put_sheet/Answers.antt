@@ -1,14 +1,8 @@
--- `put_sheet` meets its promise: the places so far are filled. Assumes nothing.
-use Rattle.basis.specs.Prelude.{rules}
-use Rattle.sheet.proofs.Names.{upto_none, upto_set}
-use Rattle.sheet.proofs.Inside.FilledLists.{fill_done}
+-- `put_sheet` meets its promise: what there is room for is copied, and the rest is made zero. Assumes nothing.
+use Rattle.basis.specs.Prelude.{◌∙◌, rules}
+use Rattle.sheet.proofs.Inside.Cells.{unmapped}
+use Rattle.sheet.proofs.Inside.ClearedLists.{sheet_copied}
 use Rattle.sheet.proofs.writing.put_sheet.Goals as goal
 
-pub loop-i-init : goal.loop-i-init
-loop-i-init c = search upto_none
-
-pub loop-i-preserved : goal.loop-i-preserved
-loop-i-preserved c = search upto_set
-
 pub returns : goal.returns
-returns c = search (fill_done, rules)
+returns c = c.clear_from.ensures ∙ rw c.copy_from_slice.ensures.after (sheet_copied _ _ _ _ c.cells_of-cells.ensures c.min-n.ensures (search (rules, unmapped)))
