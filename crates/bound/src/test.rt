@@ -35,7 +35,8 @@ pub(crate) fn window_of(turn: &Turn, length: Duration) -> Duration
     before.plus(Quantity(1))
 }
 
-// x, of a row above with this bound.
+// x, of a row above with this bound. The row, its bound, a length, X and q are handed on one by one, here and in the files on paces, shares, sums and stretches: with a struct
+// for the row and its bound and one for the rest, which was proved, sheets of eight rows and loaded ones take a twentieth longer.
 pub(crate) fn span_of(row: Row, bound: Duration, length: Duration) -> Duration
     requires { Above row bound length }
     ensures { result ≡ x row bound length }
