@@ -1,8 +1,8 @@
 // The rows of a sheet in the ranges.
-ghost use Rattle.std.specs.Prelude.{◌≡◌, ◌≤◌, true, false, MatchResult};
+ghost use Rattle.std.specs.Prelude.{◌≡◌, ◌≤◌, ◌<◌, true, false, length, MatchResult};
 ghost use Rattle.basis.specs.Limits.{most_rows};
 ghost use Rattle.sheet.specs.Legal.{legal};
-ghost use Rattle.sheet.specs.Lists.{sheet_in};
+ghost use Rattle.sheet.specs.Lists.{sheet_in, sheet_long};
 ghost use Rattle.scenario.specs.Form.{budget_at};
 
 use basis::Refusal;
@@ -15,6 +15,7 @@ pub(crate) struct Rows<'a> {
     ghost counted: { count ≡ (sheet_in sheet.now).count },
     ghost some: { 1 ≤ count },
     ghost few: { count ≤ most_rows },
+    ghost whole: { sheet_long count ≤ length sheet.now },
 }
 
 impl<'a> Rows<'a> {
@@ -33,10 +34,11 @@ impl<'a> Rows<'a> {
         Ok(Rows { sheet, count })
     }
 
-    // The budget of a row.
+    // The budget of a row. It is no call of `sheet::row_at`, which looks at the end of the list: an entry of a slot would do it each time.
     pub(crate) fn budget(&self, row: usize) -> u64
+        requires { row < self.now.count }
         ensures { result ≡ budget_at (sheet_in self.now.sheet.now) row }
     {
-        sheet::row_at(self.sheet, row).budget
+        self.sheet[row * 4 + 5]
     }
 }
