@@ -1,6 +1,6 @@
 -- The names from elsewhere that the proofs here share, passed on under one name.
 pub use Rattle.aboard.specs.Lent.{slotted_in}
-pub use Rattle.basis.specs.Refusals.{Outcome, accepted, refused}
+pub use Rattle.basis.specs.Refusals.{Outcome, accepted, refused, handed}
 unfoldable pub use Rattle.basis.specs.Refusals.{first_of}
 pub use Rattle.basis.specs.declared.refusal.Refusal.{Refusal}
 pub use Rattle.machine.proofs.Inside.Answers.{refused_as_found, run_buffer, run_list}

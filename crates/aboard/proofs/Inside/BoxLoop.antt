@@ -1,9 +1,9 @@
 -- The box's own loop: what it begins with, a slot on parts of the list and the buffer, and the end of its course. Assumes nothing.
-use Rattle.basis.specs.Prelude.{ℕ, ◌+◌, ◌*◌, ◌-◌, ◌/◌, ◌≤◌, ◌<◌, ◌≡◌, refl, sym, ap, ap₂, ◌∙◌, Bool, true, false, List, ◌++◌, append-nil, length, take, drop, length-drop, drop_of_length-le, take_all, arith}
+use Rattle.basis.specs.Prelude.{ℕ, ◌+◌, ◌*◌, ◌-◌, ◌/◌, ◌≤◌, ◌<◌, ◌^◌, ◌≡◌, refl, sym, ap, ap₂, ◌∙◌, Bool, true, false, List, ◌++◌, append-nil, length, take, drop, length-drop, drop_of_length-le, take_all, arith}
 use Rattle.basis.specs.Refusals.{needed}
 use Rattle.basis.specs.Words.{pick}
 use Rattle.sheet.specs.Legal.{legal}
-use Rattle.aboard.proofs.Names.{Outcome, accepted, refused, Sheet, check_run, check_state, FreshAnswer, SlotAnswer, slot_answer, run_answer, fresh_answer, fresh, slot, entries_of, slot_at, course, run, run_list, run_buffer}
+use Rattle.aboard.proofs.Names.{Outcome, accepted, refused, handed, Sheet, check_run, check_state, FreshAnswer, SlotAnswer, slot_answer, run_answer, fresh_answer, fresh, slot, entries_of, slot_at, course, run, run_list, run_buffer}
 use borrow.Rule.Slice.PartMut.{put_mid}
 use Rattle.machine.specs.States.{State, fresh_state, no_state}
 use Rattle.machine.proofs.SlotsDone.{run_not_begun}
@@ -28,13 +28,23 @@ module _ (h : Sheet) (t : State) (begun : fresh_answer accepted t ≡ fresh h) (
   unfolding run
   box_course e = ap (λ (o : Outcome). course h rel (run_answer 0 o t cs) (length rel / h.count)) e ∙ ap (λ (x : FreshAnswer State). run h x.state rel cs) begun
 
--- slot j of the run has its place in the list and in the buffer
-module _ (h : Sheet) (t : State) (rel : List ℕ) (room : ℕ) (e : accepted ≡ check_run h t rel room) (j : ℕ) (l : j < length rel / h.count) where
-  pub in_list : j * h.count + h.count ≤ length rel
-  in_list = room_for h.count j (length rel / h.count) (length rel) l (run_list h t rel room e h.count)
+-- slot j of so many has its place in the list and in the buffer, and what the code computes of it fits a word
+pub record Place (n j : ℕ) (rel cs now : List ℕ) : Type 0 where
+  pub in_list : j * n + n ≤ length rel
+  pub in_buffer : j * n ≤ length cs
+  pub in_codes : j * n ≤ length now
+  pub small_place : j * n < 2 ^ 64
+  pub small_count : n < 2 ^ 64
+  pub small_rest : length cs - j * n < 2 ^ 64
 
-  pub in_buffer : j * h.count + h.count ≤ room
-  in_buffer = room_for h.count j (length rel / h.count) room l (run_buffer h t rel room e h.count)
+-- a run that its checks refuse has no slot to do; of one that they pass each slot has its place
+pub place_begun : (h : Sheet) (t : State) (rel cs now : List ℕ) (o : Outcome) → o ≡ check_run h t rel (length cs) → (j : ℕ) → j < (handed o (length rel / h.count) 0).1
+    → length now ≡ length cs → length rel < 2 ^ 64 → length cs < 2 ^ 64 → Place h.count j rel cs now
+place_begun h t rel cs now accepted e j l c f g =
+    let p = room_for h.count j (length rel / h.count) (length rel) l (run_list h t rel (length cs) e h.count) in
+    let q = room_for h.count j (length rel / h.count) (length cs) l (run_buffer h t rel (length cs) e h.count) in
+    record { in_list = p; in_buffer = omega arith; in_codes = omega arith; small_place = omega arith; small_count = omega arith; small_rest = omega arith }
+place_begun h t rel cs now (refused a b) e j l c f g = absurd (omega (arith, l))
 
 -- a slot of the loop, on its own entries and on the buffer from its place on, is slot j of the list
 pub slot_at_is : (h : Sheet) (t : State) (rel cs : List ℕ) (j : ℕ) (o : Outcome) (u : State) (zs : List ℕ)

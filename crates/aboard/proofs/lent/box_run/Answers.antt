@@ -1,9 +1,9 @@
 -- `box_run` meets its promise: its loop does the slots of the run's course, each on its own entries and on the buffer from its place on. Assumes nothing.
-use Rattle.basis.specs.Prelude.{◌∙◌, refl, arith}
+use Rattle.basis.specs.Prelude.{◌∙◌, refl, arith, rules}
 use Rattle.machine.proofs.Inside.Answers.{run_rows}
 use Rattle.machine.proofs.Inside.Courses.{goes_on, stops, ends}
 use Rattle.aboard.proofs.Names.{course}
-use Rattle.aboard.proofs.Inside.BoxLoop.{box_shut, box_refused, box_course, in_buffer, slot_at_is}
+use Rattle.aboard.proofs.Inside.BoxLoop.{box_shut, box_refused, box_course, place_begun, slot_at_is}
 use Rattle.aboard.proofs.lent.box_run.Goals as goal
 
 pub returns-in-Err : goal.returns-in-Err
@@ -20,7 +20,8 @@ unfolding course
 loop-done-init c = refl
 
 pub slice_bounds-slot_in-count-in-loop-done : goal.slice_bounds-slot_in-count-in-loop-done
-slice_bounds-slot_in-count-in-loop-done c = omega (arith, in_buffer _ _ _ _ c.in_default.ensures _ c.loop-done-test.true)
+slice_bounds-slot_in-count-in-loop-done c =
+    (place_begun _ _ _ _ _ _ c.in_default.ensures _ c.loop-done-test.true (omega (arith, c.loop-done.auto.codes)) (search rules) (search rules)).in_codes
 
 pub slice_bounds-slot_in-start-in-loop-done : goal.slice_bounds-slot_in-start-in-loop-done
 slice_bounds-slot_in-start-in-loop-done c = slice_bounds-slot_in-count-in-loop-done c
