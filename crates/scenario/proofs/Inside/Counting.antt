@@ -1,5 +1,5 @@
 -- The loop that counts the slots of a scenario. Assumes nothing.
-use Rattle.basis.specs.Prelude.{ℕ, zero, suc, ◌+◌, ◌-◌, ◌≤◌, ◌<◌, ◌≡◌, refl, ap, ◌∙◌, List, arith, length}
+use Rattle.basis.specs.Prelude.{ℕ, zero, suc, ◌+◌, ◌-◌, ◌≤◌, ◌<◌, ◌≡◌, refl, sym, ap, ◌∙◌, List, arith, length}
 use Rattle.std.specs.Prelude.{Ok}
 use Rattle.scenario.proofs.Names.{Counted, Step, after, ok, refuse, map_step, map_step_no, map_step_ok, Held, no_releases, slot_before, slot, slots, Sheet}
 use Rattle.scenario.proofs.Inside.OneSlot.{slot_goes, slot_no, slot_yes, slots_one, slots_no, slots_end}
@@ -33,12 +33,14 @@ pub none_counted : (h : Sheet) (s : List ℕ) → Counting h s 4 0
 none_counted h s = record { fuel = length s; enough = omega arith; few = omega arith; so_far = added_none (map_step slots_of (slots h (length s) s 4)) }
 
 module _ (h : Sheet) (s : List ℕ) (next count : ℕ) (w : Counting h s next count) where
-  pub all_counted_lem : length s ≤ next → Counted (slots h (length s) s 4) (Ok count)
+  pub all_counted_lem : length s ≤ next → ok count next ≡ map_step slots_of (slots h (length s) s 4)
   unfolding map_step
   all_counted_lem b =
       let z : count + 0 ≡ count = omega arith in
-      let (y, q, k) = map_step_ok slots_of (slots h (length s) s 4) (w.so_far ∙ ap (λ (x : Step Held). added count (map_step slots_of x)) (slots_end h w.fuel s next b) ∙ ap (λ (k : ℕ). ok k next) z) in
-      (y, next, q, k)
+      sym (w.so_far ∙ ap (λ (x : Step Held). added count (map_step slots_of x)) (slots_end h w.fuel s next b) ∙ ap (λ (k : ℕ). ok k next) z)
+
+  pub counted : length s ≤ next → Counted (slots h (length s) s 4) (Ok count)
+  counted b = let (y, q, k) = map_step_ok slots_of (slots h (length s) s 4) (sym (all_counted_lem b)) in (y, next, q, k)
 
   module _ (b : next < length s) (l : List ℕ) where
     pub count_no : (k p : ℕ) → slot h l s next ≡ refuse k p → slots h (length s) s 4 ≡ refuse k p

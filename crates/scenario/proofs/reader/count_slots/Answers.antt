@@ -1,6 +1,6 @@
 -- `count_slots` meets its promise. The invariant: what is still to be counted, and the count, is the whole. Assumes nothing.
 use Rattle.basis.proofs.Refusals.{passed_on}
-use Rattle.scenario.proofs.Inside.Counting.{none_counted, all_counted_lem, count_no, count_less, count_more}
+use Rattle.scenario.proofs.Inside.Counting.{none_counted, counted, count_no, count_less, count_more}
 use Rattle.scenario.proofs.reader.count_slots.Goals as goal
 
 pub loop-next-init : goal.loop-next-init
@@ -16,4 +16,4 @@ pub loop-next-preserved : goal.loop-next-preserved
 loop-next-preserved c = count_more _ _ _ _ c.loop-next.invariant c.loop-next-test.true _ _ _ c.in_ok-next.ensures
 
 pub returns : goal.returns
-returns c = all_counted_lem _ _ _ _ c.loop-next.invariant c.loop-next-test.false
+returns c = counted _ _ _ _ c.loop-next.invariant c.loop-next-test.false

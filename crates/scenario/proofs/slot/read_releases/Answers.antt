@@ -1,5 +1,5 @@
 -- `read_releases` meets its promise. The invariant: what is still to be read, into the entries so far, is the whole. Assumes nothing.
-use Rattle.basis.specs.Prelude.{◌∙◌}
+use Rattle.basis.specs.Prelude.{◌∙◌, arith}
 use Rattle.basis.proofs.Refusals.{passed_on}
 use Rattle.scenario.proofs.Inside.Slotwise.{more_left, none_left, no_row, no_amount_lem, one_more}
 use Rattle.scenario.proofs.slot.read_releases.Goals as goal
@@ -10,7 +10,7 @@ returns-in_err-row c = rw (passed_on _ _ c.from_residual.ensures.1) (c.loop-rele
 pub returns-in_err-amount : goal.returns-in_err-amount
 returns-in_err-amount c =
     rw (passed_on _ _ c.from_residual-in_err-amount.ensures.1)
-    (c.loop-release.invariant ∙ more_left _ _ _ _ _ _ _ c.loop-release-test.true ∙ no_amount_lem _ _ _ _ _ _ _ _ c.in_ok-row.ensures.told _ c.budget.ensures _ c.in_err-amount.ensures)
+    (no_amount_lem _ _ _ _ _ _ _ _ _ c.loop-release.invariant (omega (arith, c.loop-release-test.true)) _ _ c.in_ok-row.ensures.told _ c.budget.ensures _ c.in_err-amount.ensures)
 
 pub loop-release-preserved : goal.loop-release-preserved
 loop-release-preserved c =
