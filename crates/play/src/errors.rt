@@ -19,8 +19,8 @@ const NOT_TEXT: i32 = 84;
 pub(crate) enum Fault {
     // The file cannot be named, opened or read, as the system says.
     System(io::Error),
-    // The bytes of the file are refused: the number of the refusal, and the place in the file.
-    Refused(File, u64, u64),
+    // The bytes of the file that begin at this place in it are refused.
+    Refused(File, Refusal, u64),
     // The file cannot go back to its front.
     Once,
     // The file is another the second time.
@@ -59,17 +59,14 @@ impl Fault {
         Fault::System(io::Error::from_raw_os_error(code))
     }
 
-    // The refusal of bytes that begin at this place in a file; no file is so long that the sum would wrap.
-    pub(crate) fn refused(file: File, refusal: Refusal, offset: u64) -> Fault {
-        let (number, at) = refusal.into();
-        Fault::Refused(file, number, offset.wrapping_add(at as u64))
-    }
-
-    // Says it: a refusal on standard output, any other on standard error after the file's name.
+    // Says it: a refusal on standard output, any other on standard error after the file's name. No file is so long that the place would wrap.
     pub(crate) fn tell(self, out: &impl Print, err: &impl Print, name: &[u8]) {
         match self {
             Fault::System(error) => fail(err, name, error),
-            Fault::Refused(file, number, place) => print_refused(out, file, number, place),
+            Fault::Refused(file, refusal, offset) => {
+                let (number, at) = refusal.into();
+                print_refused(out, file, number, offset.wrapping_add(at as u64));
+            }
             Fault::Once => say(err, name, b": the scenario cannot be read twice\n"),
             Fault::Changed => say(err, name, b": the scenario changed while it was read\n"),
             Fault::Stopped => {}

@@ -101,7 +101,7 @@ impl<F: Read> Source<F> {
     pub(crate) fn read_mark(&mut self) -> Result<(), Fault> {
         self.read_on()?;
         if !basis::begins_with(&self.buffer[..self.end], &MARK) {
-            return Err(Fault::refused(File::Scenario, Refusal::Mark, self.offset));
+            return Err(Fault::Refused(File::Scenario, Refusal::Mark, self.offset));
         }
         self.start = MARK.len();
         Ok(())
@@ -118,7 +118,7 @@ impl<F: Read> Source<F> {
                 self.start = read.next;
                 Ok(Some(read.entries))
             }
-            Err(refusal) => Err(Fault::refused(File::Scenario, refusal, self.offset)),
+            Err(refusal) => Err(Fault::Refused(File::Scenario, refusal, self.offset)),
         }
     }
 }
