@@ -39,11 +39,15 @@ fn check_whole(rows: &Rows, releases: &[u64]) -> Result<(), Refusal>
     Ok(())
 }
 
-// How many entries of a slot are a release.
+// How many entries of a slot are a release. A loop is faster here than `filter` and `count`, which jump at each entry.
 fn count_releases(slot: &[u64]) -> u64
     ensures { result ≡ releases_in slot.now }
 {
-    slot.iter().filter(|value| **value != 0).count() as u64
+    let mut count = 0;
+    for value in slot {
+        count += u64::from(*value != 0);
+    }
+    count
 }
 
 // How many bytes an entry takes.

@@ -1,5 +1,7 @@
 -- How many bytes the entries of a slot take, one after another. Assumes nothing.
+use mir.Val.{bool_byte}
 use Rattle.std.proofs.lemmas.List.Recursion.{is_count_by}
+use Rattle.std.proofs.lemmas.List.Sums.{count_by_more_no, count_by_more_yes}
 use Rattle.std.specs.Prelude.{count_by}
 use Rattle.basis.specs.Prelude.{ℕ, suc, ◌+◌, ◌≤◌, ◌<◌, ◌≡◌, refl, sym, ap, ap₂, ◌∙◌, Bool, true, List, false, [], ◌∷◌, ◌++◌, append-nil, append_assoc, arith, add-one, length, get_or, add-zero, take, length-append, length-take-le, take-suc, eqb, cond, not, eq-eqb, ne_eqb}
 use Rattle.scenario.proofs.Names.{most_groups, pick, spell, width, entry_bytes, releases_bytes, releases_in, slot_bytes}
@@ -39,13 +41,24 @@ bytes_more l i b =
     ∙ ap (λ (x : List ℕ). releases_bytes 0 (take i l) ++ x) (releases_one i (get_or l i 0))
 
 -- `count_releases`
-pub released_count : (l : List ℕ) → count_by (λ v. not (eqb v 0)) l ≡ releases_in l
+abbrev pub released_of : List ℕ → ℕ
+released_of l = count_by (λ v. not (eqb v 0)) l
+
+pub released_count : (l : List ℕ) → released_of l ≡ releases_in l
 unfolding releases_in
 released_count l = sym (is_count_by releases_in (λ v. not (eqb v 0)) refl (λ v l. go (eqb v 0) (releases_in l)) l)
   where
     go : (t : Bool) (n : ℕ) → pick t n (suc n) ≡ cond (not t) (1 + n) n
     go true n = refl
     go false n = omega arith
+
+pub released_one : (l : List ℕ) (i count r : ℕ) → i < length l → (count ≤ i) × (count ≡ released_of (take i l)) → r ≡ bool_byte (not (eqb (get_or l i 0) 0))
+    → (count + r ≤ i + 1) × (count + r ≡ released_of (take (i + 1) l))
+released_one l i count r b (few, e) f = go (not (eqb (get_or l i 0) 0)) refl f
+  where
+    go : (t : Bool) → not (eqb (get_or l i 0) 0) ≡ t → r ≡ bool_byte t → (count + r ≤ i + 1) × (count + r ≡ released_of (take (i + 1) l))
+    go true g q = (omega arith, omega (arith, e, q, count_by_more_yes (λ (v : ℕ). not (eqb v 0)) l i 0 b g))
+    go false g q = (omega arith, omega (arith, e, q, count_by_more_no (λ (v : ℕ). not (eqb v 0)) l i 0 b g))
 
 -- `releases_length`
 pub long_one : (l : List ℕ) (i long r : ℕ) → i < length l → long ≡ length (releases_bytes 0 (take i l)) → r ≡ length (entry_bytes i (get_or l i 0)) → long + r ≡ length (releases_bytes 0 (take (i + 1) l))
