@@ -2,7 +2,7 @@
 ghost use Rattle.std.specs.Prelude.{◌≡◌};
 ghost use Rattle.basis.specs.Readers.{begins};
 
-// Whether the bytes begin with a mark.
+// Whether the bytes begin with a mark: the kit's comparison, under a promise of its own.
 pub fn begins_with<'a, 'b>(bytes: &'a [u8], mark: &'b [u8]) -> bool
     ensures { result ≡ begins mark.now bytes.now }
 {

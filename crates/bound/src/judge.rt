@@ -13,7 +13,7 @@ use crate::results::RowResult;
 use crate::search::bound_of;
 use crate::turn::Turn;
 
-// Whether a result is a bound.
+// Whether a result is a bound: a match, under the promise that the rows' loop goes by.
 fn is_bound(res: RowResult) -> bool
     ensures { result ≡ is_bound (word res) }
 {

@@ -19,7 +19,7 @@ pub enum RowResult {
     NoBound,
 }
 
-// Whether a sheet holds, and a result for each row that it may have.
+// Whether a sheet holds, and a result for each row that it may have: the results mean something where it does not hold too, so it is no `Option`.
 #[derive(Clone, Copy)]
 pub struct Results {
     pub holds: bool,

@@ -182,7 +182,7 @@ pub fn check_slot_in(
     Ok(())
 }
 
-// The checks of a run before its first slot.
+// The checks of a run before its first slot. It stands beside `check_slot_in`, which is another promise: neither is more than its one call.
 pub fn check_run_in(
     sheet: &[u64],
     list: &[u64],

@@ -15,7 +15,7 @@ pub const RECORD_WIDE: usize = 2;
 // The places of a list that has room for every record.
 pub const STATE_LONG: usize = MOST_ROWS * RECORD_WIDE;
 
-// What a run in place answers: the slots done, and the refusal that ended it if there is one.
+// What a run in place answers: the slots done, and the refusal that ended it if there is one. It is no `Result`, since the slots done mean something beside a refusal too.
 #[derive(Clone, Copy)]
 pub struct Done {
     pub done: u64,

@@ -16,7 +16,7 @@ use sheet::SHEET_LONG;
 // The places of a list that has room for where every label lies.
 pub const LABELS_LONG: usize = MOST_ROWS * 2;
 
-// Hands over what was read, where both lists have room for it.
+// Hands over what was read, where both lists have room for it. How many rows were read stands beside the lists, which have a place for every row: the promise speaks of the rows.
 fn hand_over(
     own: &[u64],
     parts: &[u64],

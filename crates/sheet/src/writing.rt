@@ -37,7 +37,7 @@ pub fn put_sheet(list: &mut [u64], sheet: Sheet)
     clear_from(list, n);
 }
 
-// Makes every place of a list zero from a place on.
+// Makes every place of a list zero from a place on: the kit's `fill`, under a promise that holds of a place past the end too.
 pub fn clear_from(list: &mut [u64], from: usize)
     ensures { list.new ≡ filled (cleared_cell from list.old) list.old }
 {

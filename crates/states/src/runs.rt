@@ -11,7 +11,7 @@ use basis::Refusal;
 use machine::{check_run_in, run_on};
 use sheet::Sheet;
 
-// What a run answers: the slots done, the refusal that ended it if there is one, and the state after those slots.
+// What a run answers: the slots done, the refusal that ended it if there is one, and the state after those slots. It is no `Result`, since all three mean something beside a refusal too.
 #[derive(Clone, Copy)]
 pub struct Ran {
     pub done: u64,

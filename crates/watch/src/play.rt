@@ -7,7 +7,7 @@ ghost use Rattle.watch.specs.Texts.{play_answer, played_slot};
 use crate::codes::{put_refused_slot, put_slot};
 use basis::{MOST_ROWS, Refusal};
 
-// What playing a slot answers: why the slot is refused, if it is, and how many bytes its line has.
+// What playing a slot answers: why the slot is refused, if it is, and how many bytes its line has, which a refused slot has too; so it is no `Result`.
 #[derive(Clone, Copy)]
 pub struct Played {
     pub ended: Result<(), Refusal>,
