@@ -16,6 +16,7 @@ pub fn put(text: &mut [u8], at: usize, byte: u8) -> usize
 }
 
 // Some bytes, as far as there is room, which is tested once. They are copied by a loop of its own, for speed: words are short, and a call that copies takes twice as long.
+#[tactic(auto, using(crate::proofs::Inside::Pages::none_said, crate::proofs::Inside::Pages::byte_said, crate::proofs::Inside::Pages::some_said), unfolding(crate::specs::Pages::said))]
 pub fn put_bytes(text: &mut [u8], at: usize, bytes: &[u8]) -> usize
     ensures { (text.new, result) ≡ said (text.old, at) bytes.now }
 {

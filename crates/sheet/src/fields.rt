@@ -9,6 +9,7 @@ use crate::row::{NO_ROW, Row};
 use basis::MOST_ROWS;
 
 // The processors of the sheet that a list hands over.
+#[tactic(auto, unfolding(crate::specs::Lists::sheet_in))]
 pub fn processors(list: &[u64]) -> u64
     ensures { result ≡ (sheet_in list.now).processors }
 {
@@ -16,6 +17,7 @@ pub fn processors(list: &[u64]) -> u64
 }
 
 // How many rows it has.
+#[tactic(auto, unfolding(crate::specs::Lists::sheet_in))]
 pub fn count(list: &[u64]) -> u64
     ensures { result ≡ (sheet_in list.now).count }
 {

@@ -1,8 +1,6 @@
 // One slot, by value: its checks, and then its rows from the top.
 ghost use Rattle.std.specs.Prelude.{◌≡◌, ◌≤◌, length};
 ghost use Rattle.basis.specs.Limits.{most_rows};
-ghost use Rattle.basis.specs.Refusals.{outcome};
-ghost use Rattle.machine.specs.Checks.{check_slot};
 ghost use Rattle.machine.specs.Answers.{next_state, next_codes, slot};
 ghost use Rattle.states.specs.Values.{held, slotted};
 
@@ -14,13 +12,6 @@ use records::RowState;
 use sheet::Sheet;
 
 impl State {
-    // The checks of a slot, on the lists of the sheet and of the state. It stands beside `check_run`, which is another promise: neither is more than its one call.
-    fn check_slot(self, sheet: Sheet, releases: &[u64], room: usize) -> Result<(), Refusal>
-        ensures { outcome result ≡ check_slot sheet (held self) releases.now room }
-    {
-        check_slot_in(&listed(sheet), &state_list(self), releases, room)
-    }
-
     // The state after a slot whose checks have passed: rows from the top, with every processor free; its codes are written.
     fn next(self, sheet: Sheet, releases: &[u64], codes: &mut [u8]) -> State
         requires { (sheet.count ≤ most_rows) × (sheet.count ≤ length releases.now) × (sheet.count ≤ length codes.old) }
@@ -38,11 +29,11 @@ impl State {
         State { rows }
     }
 
-    // One slot: the next state, and a code for each row; a refused slot writes no code.
+    // One slot: its checks, on the lists of the sheet and of the state, and then the next state and a code for each row; a refused slot writes no code.
     pub fn slot(self, sheet: Sheet, releases: &[u64], codes: &mut [u8]) -> Result<State, Refusal>
         ensures { slotted (held self) result codes.new ≡ slot sheet (held self) releases.now codes.old }
     {
-        self.check_slot(sheet, releases, codes.len())?;
+        check_slot_in(&listed(sheet), &state_list(self), releases, codes.len())?;
         Ok(self.next(sheet, releases, codes))
     }
 }

@@ -1,8 +1,0 @@
--- `processors` are those of the sheet. Assumes nothing.
-use Rattle.basis.specs.Prelude.{rules}
-use Rattle.sheet.proofs.Names.{sheet_in}
-use Rattle.sheet.proofs.fields.processors.Goals as goal
-
-pub returns : goal.returns
-unfolding sheet_in
-returns c = search rules
