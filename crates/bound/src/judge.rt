@@ -20,7 +20,7 @@ fn is_bound(res: RowResult) -> bool
     matches!(res, RowResult::Bound(_))
 }
 
-// Puts result `k` into a list of results, which has room for it: its word, 0 unreached, 1 bound, 2 none, and its bound, zero where there is none.
+// Puts result `k` into a list of results, which has room for it: its word, 0 unreached, 1 bound, 2 none, and its bound, zero where there is none. The word is a number, since lists are lent by C.
 fn put_result(results: &mut [u64], k: usize, res: RowResult)
     requires { (k < most_rows) × (results_long (k + 1) ≤ length results.old) }
     ensures { results.new ≡ put_result results.old k (word res) }

@@ -152,7 +152,7 @@ impl Amount {
 }
 
 impl FineAmount {
-    // Whether, rounded up, it is no less than a whole amount.
+    // Whether, rounded up, it is no less than a whole amount; no comparison that is derived rounds.
     pub(crate) fn reaches(self, whole: Amount) -> bool
         requires { (Fits w64 (self.0 + 256)) × (Fits w64 (256 * whole.0)) }
         ensures { result ≡ reaches self whole }

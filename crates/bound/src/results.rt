@@ -45,7 +45,7 @@ pub fn bounds_on(sheet: &[u64], results: &mut [u64]) -> Result<bool, Refusal>
     Ok(holds)
 }
 
-// Result `k` of a list of results, which has room for it.
+// Result `k` of a list of results, which has room for it: its word is a number there, since lists are lent by C.
 fn result_at(results: &[u64], k: usize) -> RowResult
     requires { (k < most_rows) × (results_long (k + 1) ≤ length results.now) }
     ensures { word result ≡ word_at results.now k }

@@ -6,7 +6,7 @@ ghost use Rattle.sheet.specs.Lists.{sheet_in, sheet_long};
 
 use sheet::Row;
 
-// Row `k`, read without a look at the list's end.
+// Row `k`, read without a look at the list's end. It stands beside that of `sheet`: shared, it would be public, and so would have to look.
 pub(crate) fn row_inside(sheet: &[u64], k: usize) -> Row
     requires { (k < most_rows) × (sheet_long (k + 1) ≤ length sheet.now) }
     ensures { result ≡ row_at (sheet_in sheet.now) k }

@@ -147,6 +147,7 @@ pub(crate) fn bound_of(turn: &Turn) -> RowResult
         guess: Quantity(0),
         calm: CALM,
     };
+    // It goes from length to length, and counts nothing.
     while at.length.0 <= row.deadline {
         let Some((next, spare)) = try_length(turn, at.length) else {
             return RowResult::Bound(at.length.0);

@@ -38,7 +38,7 @@ fn add_next(turn: &Turn, length: Duration, X: Duration, q: u64, added: Added) ->
 }
 
 // The test of a length of row `k`: rows above are added until their sum reaches q × X. It passes where the sum does not. The rows that are added count themselves: a `for`
-// would count them a second time.
+// would count them a second time; it was tried, here and in `add_rest`, and was slower.
 pub(crate) fn sum_above(turn: &Turn, length: Duration) -> Added
     requires { Length (sheet_in turn.now.sheet.now) turn.now.k length }
     ensures { (Adds (sheet_in turn.now.sheet.now) (held_in turn.now.results.now) turn.now.k length result) × (test.passes (sheet_in turn.now.sheet.now) (held_in turn.now.results.now) turn.now.k length ≡ less result.sum (test.room (sheet_in turn.now.sheet.now) turn.now.k length)) }

@@ -1,8 +1,10 @@
 // The last line of a verdict, and the one of a refused sheet.
 ghost use Rattle.std.specs.Prelude.{◌≡◌};
+ghost use Rattle.basis.specs.Refusals.{told};
 ghost use Rattle.dashboard.specs.Words.{ending, refused_by, no_verdict};
 ghost use Rattle.page.specs.Pages.{said};
 
+use basis::Refusal;
 use page::{put, put_bytes, put_number};
 
 // The last line: HOLDS or FAILS.
@@ -22,9 +24,10 @@ fn put_refused_by(text: &mut [u8], at: usize, number: u64) -> usize
 }
 
 // The one line of a refused sheet.
-pub(crate) fn put_no_verdict(text: &mut [u8], at: usize, number: u64, place: usize) -> usize
-    ensures { (text.new, result) ≡ said (text.old, at) (no_verdict number place) }
+pub(crate) fn put_no_verdict(text: &mut [u8], at: usize, refusal: Refusal) -> usize
+    ensures { (text.new, result) ≡ said (text.old, at) (no_verdict (told refusal).0 (told refusal).1) }
 {
+    let (number, place) = refusal.into();
     let a = put_refused_by(text, at, number);
     let b = put(text, a, b' ');
     let c = put_number(text, b, place as u64);

@@ -49,10 +49,7 @@ fn write_in<const LONG: usize, const PAIRS: usize>(bytes: &[u8], text: &mut [u8]
             };
             board.put(text, 0, holds)
         }
-        Err(refusal) => {
-            let (number, place) = refusal.into();
-            put_no_verdict(text, 0, number, place)
-        }
+        Err(refusal) => put_no_verdict(text, 0, refusal),
     }
 }
 

@@ -8,7 +8,7 @@ ghost use Rattle.sheet.specs.Lists.{sheet_in, sheet_long};
 use basis::Refusal;
 use sheet::Row;
 
-// The list of a sheet that is legal, and the number of its rows. What is known of a state's list is no part of it: a slot changes that list row by row.
+// The list of a sheet that is legal, and the number of its rows. What is known of a state's list is no part of it: a slot changes that list row by row. It stands beside `Rows` of `scenario`: shared, it would be public, and reading a row would look at the list's end.
 #[derive(Clone, Copy)]
 pub(crate) struct LegalSheet<'a> {
     list: &'a [u64],

@@ -30,7 +30,7 @@ pub fn put_bytes(text: &mut [u8], at: usize, bytes: &[u8]) -> usize
     at + n
 }
 
-// A number in decimal, digit by digit.
+// A number in decimal, digit by digit: its text in a lent buffer is a public promise, and there is no heap.
 fn put_digits(text: &mut [u8], at: usize, n: u64) -> usize
     ensures { (text.new, result) ≡ said (text.old, at) (decimal n) }
 {

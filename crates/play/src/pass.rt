@@ -21,6 +21,7 @@ fn through<F: Read, T: FnMut(u64, [u64; MOST_ROWS]) -> Result<(), Fault>>(
     requires { T.IsAlwaysCallable task }
 {
     source.read_mark()?;
+    // Slots are counted by a `for` that is left, so that the count cannot wrap.
     let mut slots = 0;
     for slot in 0..u64::MAX {
         let Some(entries) = source.next_slot(sheet)? else {

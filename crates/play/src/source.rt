@@ -15,6 +15,7 @@ use watch::File;
 pub(crate) const BUFFER_LONG: usize = 4096;
 
 // Reads until the buffer is full or the file ends, and answers how many bytes that is. `verdict` reads its input so too: the programs share no crate that reads.
+// No `for`, since a read says how many bytes came.
 pub(crate) fn fill(file: &mut impl Read, buffer: &mut [u8]) -> io::Result<usize>
     ensures { WritesAtMost result buffer.new }
 {
@@ -74,7 +75,7 @@ impl<F: Read> Source<F> {
         Ok(())
     }
 
-    // Moves what is not read yet to the front of the buffer.
+    // Moves what is not read yet to the front of the buffer: the kit's `copy_within`, and the places that go with it.
     fn keep_rest(&mut self)
         ensures { self.new.start ≡ 0 }
     {

@@ -9,7 +9,7 @@ use numbers::read_up_to;
 // The sheet's mark.
 pub const MARK: [u8; 4] = *b"GSH\x01";
 
-// What stands there: the processors, and the number of rows.
+// What stands there: the processors, and the number of rows, which is no length of a buffer.
 #[derive(Clone, Copy)]
 pub struct Head {
     pub processors: u64,

@@ -31,7 +31,7 @@ fn put_part(labels: &mut [u64], k: usize, part: Part)
     labels[k * 2 + 1] = part.long as u64;
 }
 
-// So many rows from a place on, into a list with the numbers that stand before them, and into another where their labels lie; the answer is the place after them.
+// So many rows, a number of the file, from a place on, into a list with the numbers that stand before them, and into another where their labels lie; the answer is the place after them.
 pub(crate) fn take_rows(
     bytes: &[u8],
     at: usize,

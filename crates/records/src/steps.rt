@@ -32,7 +32,7 @@ pub struct Aged {
     pub code: u8,
 }
 
-// One slot more since the release, up to the separation.
+// One slot more since the release, up to the separation; no `min`, since the sum could wrap.
 #[tactic(auto, unfolding(crate::specs::Steps::older))]
 fn older(since: u64, separation: u64) -> u64
     ensures { result ≡ older separation since }

@@ -7,7 +7,7 @@ ghost use Rattle.scenario.specs.Form.{budget_at};
 
 use basis::Refusal;
 
-// A sheet in the ranges, and how many rows it has.
+// A sheet in the ranges, and how many rows it has. It stands beside `LegalSheet` of `machine`: shared, it would be public, and reading a row would look at the list's end.
 #[derive(Clone, Copy)]
 pub(crate) struct Rows<'a> {
     sheet: &'a [u64],

@@ -35,7 +35,7 @@ fn read_row(rows: &Rows, bytes: &[u8], at: usize, least: usize) -> Result<(usize
     Ok((row, next))
 }
 
-// So many releases of a slot into lent entries, and the place after them.
+// So many releases of a slot, a number of the file, into lent entries, and the place after them.
 fn read_releases(
     rows: &Rows,
     bytes: &[u8],

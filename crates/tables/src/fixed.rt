@@ -114,7 +114,7 @@ fn sheet_of(processors: u64, rows: &[Row]) -> Sheet
     }
 }
 
-// The fixed sheet of a number: 0 is A, and so on to 5, which is F; any other is no sheet.
+// The fixed sheet of a number: 0 is A, and so on to 5, which is F; any other is no sheet. The number is no enum, since the promise takes any.
 pub fn fixed_sheet(number: usize) -> Sheet
     ensures { result ≡ fixed_sheet number }
 {

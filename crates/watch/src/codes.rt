@@ -1,10 +1,12 @@
 // The line of a slot: its number and the codes of its rows, or the refusal.
 ghost use Rattle.std.specs.Prelude.{◌≡◌, ◌++◌};
+ghost use Rattle.basis.specs.Refusals.{told};
 ghost use Rattle.page.specs.Pages.{said};
 ghost use Rattle.page.specs.Decimals.{decimal};
 ghost use Rattle.page.specs.Words.{space};
 ghost use Rattle.watch.specs.Lines.{codes_text, slot_line, slot_number, refused_by, refused_slot};
 
+use basis::Refusal;
 use page::{put, put_bytes, put_number};
 
 // A space and a code.
@@ -59,12 +61,12 @@ pub(crate) fn put_refused_slot(
     text: &mut [u8],
     at: usize,
     slot: u64,
-    number: u64,
-    row: u64,
+    refusal: Refusal,
 ) -> usize
-    ensures { (text.new, result) ≡ said (text.old, at) (refused_slot slot number row) }
+    ensures { (text.new, result) ≡ said (text.old, at) (refused_slot slot (told refusal).0 (told refusal).1) }
 {
+    let (number, row) = refusal.into();
     let a = put_slot_number(text, at, slot);
-    let b = put_refused_by(text, a, number, row);
+    let b = put_refused_by(text, a, number, row as u64);
     put(text, b, b'\n')
 }

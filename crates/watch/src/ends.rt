@@ -32,7 +32,7 @@ fn put_file(text: &mut [u8], at: usize, file: File) -> usize
     }
 }
 
-// Writes the refusal of a file at the start of a buffer, as much as has room, and answers how many bytes that is.
+// Writes the refusal of a file at the start of a buffer, as much as has room, and answers how many bytes that is. Number and place are plain, since the promise takes any.
 pub fn write_refused(file: File, number: u64, place: u64, text: &mut [u8]) -> usize
     ensures { (text.new, result) ≡ written (refused_file file number place) text.old }
 {

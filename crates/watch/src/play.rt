@@ -33,12 +33,9 @@ pub fn play_slot(
                 long: put_slot(text, 0, slot, &codes[..count]),
             }
         }
-        Err(refusal) => {
-            let (number, row) = refusal.into();
-            Played {
-                ended: Err(refusal),
-                long: put_refused_slot(text, 0, slot, number, row as u64),
-            }
-        }
+        Err(refusal) => Played {
+            ended: Err(refusal),
+            long: put_refused_slot(text, 0, slot, refusal),
+        },
     }
 }

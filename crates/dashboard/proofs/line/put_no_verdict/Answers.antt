@@ -4,4 +4,4 @@ use Rattle.dashboard.proofs.line.put_no_verdict.Goals as goal
 
 pub returns : goal.returns
 unfolding no_verdict
-returns c = search four_said
+returns c = rw (← c.into-number.ensures) (search four_said)

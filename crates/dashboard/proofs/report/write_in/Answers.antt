@@ -17,4 +17,4 @@ pub returns-in-Ok : goal.returns-in-Ok
 returns-in-Ok g c = verdict_accepted _ _ _ c.requires _ _ _ _ c.in-Ok.ensures _ c.count-rows.ensures _ _ c.put.ensures
 
 pub returns-in-Err : goal.returns-in-Err
-returns-in-Err g c = verdict_refused _ _ _ c.requires _ _ _ _ _ _ c.in-Err.ensures _ _ (rw (← c.into-number.ensures) c.put_no_verdict.ensures)
+returns-in-Err g c = verdict_refused _ _ _ c.requires _ _ _ _ _ _ c.in-Err.ensures _ _ c.put_no_verdict.ensures

@@ -4,4 +4,4 @@ use Rattle.watch.proofs.codes.put_refused_slot.Goals as goal
 
 pub returns : goal.returns
 unfolding refused_slot
-returns c = search three_said
+returns c = rw (← c.into-number.ensures) (search three_said)

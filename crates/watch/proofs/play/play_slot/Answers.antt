@@ -13,4 +13,4 @@ pub returns-in-Ok : goal.returns-in-Ok
 returns-in-Ok c = play_accepted _ _ _ c.args.text.now c.args.slot _ _ c.in-Ok.ensures _ (search rules) _ c.put_slot.ensures
 
 pub returns-in-Err : goal.returns-in-Err
-returns-in-Err c = play_refused _ _ _ _ _ _ _ _ _ c.in-Err.ensures _ (rw (← c.into-number.ensures) c.put_refused_slot.ensures)
+returns-in-Err c = play_refused _ _ _ _ _ _ _ _ _ c.in-Err.ensures _ c.put_refused_slot.ensures
