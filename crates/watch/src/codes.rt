@@ -57,12 +57,7 @@ pub(crate) fn put_refused_by(text: &mut [u8], at: usize, number: u64, place: u64
 }
 
 // The line of a slot that is refused.
-pub(crate) fn put_refused_slot(
-    text: &mut [u8],
-    at: usize,
-    slot: u64,
-    refusal: Refusal,
-) -> usize
+pub(crate) fn put_refused_slot(text: &mut [u8], at: usize, slot: u64, refusal: Refusal) -> usize
     ensures { (text.new, result) ≡ said (text.old, at) (refused_slot slot (told refusal).0 (told refusal).1) }
 {
     let (number, row) = refusal.into();
