@@ -55,6 +55,7 @@ pub extern "C" fn giachimu_margin(
 ) -> u64
     ensures { ((result, place.new), (job.new, margin.new)) ≡ margin_in sheet.now list.now row (job.old, margin.old) }
 {
+    // A match, since no margin is an answer too.
     match machine::margin_on(sheet, list, row) {
         Ok(None) => {
             *job = 0;

@@ -2,7 +2,7 @@
 ghost use Rattle.std.specs.Prelude.{◌≡◌};
 ghost use Rattle.exports.specs.Further.{number_on, up_to_on};
 
-use crate::telling::tell;
+use crate::telling::{put_both, tell};
 use basis::Refusal;
 
 // The number at a place of some bytes: its value, and the place after it.
@@ -16,14 +16,10 @@ pub extern "C" fn giachimu_number(
 ) -> u64
     ensures { ((result, place.new), (value.new, after.new)) ≡ number_on bytes.now at (value.old, after.old) }
 {
-    match numbers::read_number(bytes, at) {
-        Ok((v, next)) => {
-            *value = v;
-            *after = next;
-            tell(Ok(()), place)
-        }
-        Err(refusal) => tell(Err(refusal), place),
-    }
+    tell(
+        put_both(numbers::read_number(bytes, at), value, after),
+        place,
+    )
 }
 
 // The same for a number from 1 to `most`.
@@ -38,12 +34,6 @@ pub extern "C" fn giachimu_number_up_to(
 ) -> u64
     ensures { ((result, place.new), (value.new, after.new)) ≡ up_to_on bytes.now at most (value.old, after.old) }
 {
-    match numbers::read_up_to(bytes, at, most, Refusal::Zero(at), Refusal::Over(at)) {
-        Ok((v, next)) => {
-            *value = v;
-            *after = next;
-            tell(Ok(()), place)
-        }
-        Err(refusal) => tell(Err(refusal), place),
-    }
+    let read = numbers::read_up_to(bytes, at, most, Refusal::Zero(at), Refusal::Over(at));
+    tell(put_both(read, value, after), place)
 }

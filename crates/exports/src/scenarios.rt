@@ -2,7 +2,7 @@
 ghost use Rattle.std.specs.Prelude.{◌≡◌};
 ghost use Rattle.exports.specs.Scenarios.{scenario_read, scenario_written};
 
-use crate::telling::tell;
+use crate::telling::{put_found, tell};
 
 // Reads a scenario's bytes into a release list, n entries a slot, and tells how many slots there are.
 #[unsafe(no_mangle)]
@@ -15,13 +15,10 @@ pub extern "C" fn giachimu_read_scenario(
 ) -> u64
     ensures { ((result, place.new), (slots.new, releases.new)) ≡ scenario_read sheet.now bytes.now (slots.old, releases.old) }
 {
-    match scenario::read_scenario(sheet, bytes, releases) {
-        Ok(count) => {
-            *slots = count;
-            tell(Ok(()), place)
-        }
-        Err(refusal) => tell(Err(refusal), place),
-    }
+    tell(
+        put_found(scenario::read_scenario(sheet, bytes, releases), slots),
+        place,
+    )
 }
 
 // Writes a release list as a scenario's bytes, and tells how many bytes that is.
@@ -35,11 +32,8 @@ pub extern "C" fn giachimu_write_scenario(
 ) -> u64
     ensures { ((result, place.new), (long.new, bytes.new)) ≡ scenario_written sheet.now releases.now (long.old, bytes.old) }
 {
-    match scenario::write_scenario(sheet, releases, bytes) {
-        Ok(count) => {
-            *long = count;
-            tell(Ok(()), place)
-        }
-        Err(refusal) => tell(Err(refusal), place),
-    }
+    tell(
+        put_found(scenario::write_scenario(sheet, releases, bytes), long),
+        place,
+    )
 }

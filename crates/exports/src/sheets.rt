@@ -3,7 +3,7 @@ ghost use Rattle.std.specs.Prelude.{◌≡◌};
 ghost use Rattle.exports.specs.Answers.{read_in, label_answer};
 ghost use Rattle.exports.specs.Sheets.{labels_on, sheet_written};
 
-use crate::telling::tell;
+use crate::telling::{put_found, tell};
 use basis::Refusal;
 use reader::LABELS_LONG;
 use sheet::SHEET_LONG;
@@ -14,6 +14,7 @@ pub extern "C" fn giachimu_read(bytes: &[u8], list: &mut [u64], place: &mut usiz
     ensures { ((result, place.new), list.new) ≡ read_in bytes.now list.old }
 {
     let mut labels = [0u64; LABELS_LONG];
+    // A match here and below, since what is done with an accepted answer is more than to put it where it is wanted.
     match reader::read_into(bytes, list, &mut labels) {
         Ok(()) => {
             let n = sheet::count(list) as usize;
@@ -79,11 +80,8 @@ pub extern "C" fn giachimu_write(
 ) -> u64
     ensures { ((result, place.new), (long.new, out.new)) ≡ sheet_written sheet.now bytes.now labels.now (long.old, out.old) }
 {
-    match writer::write_sheet(sheet, bytes, labels, out) {
-        Ok(count) => {
-            *long = count;
-            tell(Ok(()), place)
-        }
-        Err(refusal) => tell(Err(refusal), place),
-    }
+    tell(
+        put_found(writer::write_sheet(sheet, bytes, labels, out), long),
+        place,
+    )
 }

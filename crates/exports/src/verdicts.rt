@@ -51,6 +51,7 @@ pub extern "C" fn giachimu_bounds(
 ) -> u64
     ensures { ((result, place.new), (holds.new, list.new)) ≡ bounds_in sheet.now (holds.old, list.old) }
 {
+    // A match, since what is put where it is wanted is another type.
     match bound::bounds_on(sheet, list) {
         Ok(all) => {
             *holds = u64::from(all);

@@ -1,45 +1,17 @@
 -- What the calls that read a scenario and those that write answer, from the answers of what they call. Assumes nothing.
 use Rattle.basis.specs.Prelude.{ℕ, ◌≤◌, ◌≡◌, refl, sym, Bool, true, false, List, arith, length, leb, sets}
-use Rattle.exports.proofs.Names.{pick, Outcome, accepted, refused, told, sheet_in, read_scenario, write_scenario, lent_told, scenario_read, scenario_written, sheet_written, write_sheet}
-use Rattle.basis.specs.Lent.{Answer, answer, nothing_by, put_all, written_by}
+use Rattle.exports.proofs.Names.{pick, Outcome, accepted, refused, told, lent_told}
+use Rattle.std.specs.Prelude.{Result, Ok, Err, MatchResult}
+use Rattle.basis.specs.Lent.{Answer, answer, nothing_by, put_all, written_by, written_told}
+use Rattle.basis.specs.Refusals.{outcome, refused_by}
+use Rattle.basis.specs.declared.refusal.Refusal.{Refusal}
 
--- whatever reads into a lent list or writes into a lent buffer, refused or accepted
-module _ (after : List ℕ) (x : Answer) (found : ℕ) (t : ℕ × ℕ) where
-  told_refused : (k p : ℕ) → nothing_by (refused k p) after ≡ x → t ≡ (k, p) → (t, (found, after)) ≡ lent_told x found
-  told_refused k p e f = rw (f, sym e)
-
-  told_accepted : (n : ℕ) → answer accepted n after ≡ x → t ≡ (0, 0) → (t, (n, after)) ≡ lent_told x found
-  told_accepted n e f = rw (f, sym e)
-
--- `giachimu_read_scenario`
-module _ (sheet s list after : List ℕ) (found : ℕ) (t : ℕ × ℕ) where
-  pub read_refused : (k p : ℕ) → nothing_by (refused k p) after ≡ read_scenario (sheet_in sheet) s list → t ≡ (k, p) → (t, (found, after)) ≡ scenario_read sheet s (found, list)
-  unfolding scenario_read
-  read_refused = told_refused after _ found t
-
-  pub read_accepted : (n : ℕ) → answer accepted n after ≡ read_scenario (sheet_in sheet) s list → t ≡ (0, 0) → (t, (n, after)) ≡ scenario_read sheet s (found, list)
-  unfolding scenario_read
-  read_accepted = told_accepted after _ found t
-
--- `giachimu_write_scenario`
-module _ (sheet list out after : List ℕ) (found : ℕ) (t : ℕ × ℕ) where
-  pub write_refused : (k p : ℕ) → nothing_by (refused k p) after ≡ write_scenario (sheet_in sheet) list out → t ≡ (k, p) → (t, (found, after)) ≡ scenario_written sheet list (found, out)
-  unfolding scenario_written
-  write_refused = told_refused after _ found t
-
-  pub write_accepted : (n : ℕ) → answer accepted n after ≡ write_scenario (sheet_in sheet) list out → t ≡ (0, 0) → (t, (n, after)) ≡ scenario_written sheet list (found, out)
-  unfolding scenario_written
-  write_accepted = told_accepted after _ found t
-
--- `giachimu_write`
-module _ (sheet s labels out after : List ℕ) (found : ℕ) (t : ℕ × ℕ) where
-  pub sheet_refused : (k p : ℕ) → nothing_by (refused k p) after ≡ write_sheet (sheet_in sheet) s labels out → t ≡ (k, p) → (t, (found, after)) ≡ sheet_written sheet s labels (found, out)
-  unfolding sheet_written
-  sheet_refused = told_refused after _ found t
-
-  pub sheet_accepted : (n : ℕ) → answer accepted n after ≡ write_sheet (sheet_in sheet) s labels out → t ≡ (0, 0) → (t, (n, after)) ≡ sheet_written sheet s labels (found, out)
-  unfolding sheet_written
-  sheet_accepted = told_accepted after _ found t
+-- what is found by a call that reads into a lent list or writes into a lent buffer is told, or its refusal is
+pub found_is_told : (a : Result ℕ Refusal) (after : List ℕ) (x : Answer) → written_told a after ≡ x → (r : Result (Unit {0}) Refusal) (found now : ℕ)
+    → MatchResult a (λ v. (outcome r ≡ accepted) × (now ≡ v)) (λ e. (outcome r ≡ refused_by e) × (now ≡ found)) → (t : ℕ × ℕ) → t ≡ told (outcome r)
+    → (t, (now, after)) ≡ lent_told x found
+found_is_told (Ok v) after x e r found now (er, en) t f = rw (f, er, en, sym e)
+found_is_told (Err q) after x e r found now (er, en) t f = rw (f, er, en, sym e)
 
 -- what is put where there is room is told, or nothing is changed
 pub put_kept : (k : ℕ) (xs l : List ℕ) (found : ℕ) → ((lent_told (put_all k xs l) found).0.0 ≡ 0 → ⊥) → (lent_told (put_all k xs l) found).1 ≡ (found, l)

@@ -1,26 +1,18 @@
 -- What the calls about a number and a worked sheet answer at each way out. Assumes nothing.
 use Rattle.basis.specs.Prelude.{ℕ, zero, suc, ◌+◌, ◌*◌, ◌≤◌, ◌<◌, ◌≡◌, sym, List, arith, length, lt-leb, le-leb, w64, Fits}
-use Rattle.exports.proofs.Names.{ok, refuse, number, up_to, Sheet, filled, sheet_cell, sheet_long, fixed_sheet, fields_in, step_told, number_on, up_to_on, fixed_in}
+use Rattle.std.specs.Prelude.{Result, Ok, Err, MatchResult}
+use Rattle.basis.specs.Readers.{step}
+use Rattle.basis.specs.Refusals.{accepted, outcome, refused_by}
+use Rattle.basis.specs.declared.refusal.Refusal.{Refusal}
+use Rattle.exports.proofs.Names.{told, Step, Sheet, filled, sheet_cell, sheet_long, fixed_sheet, fields_in, step_told, fixed_in}
 
--- `giachimu_number`
-module _ (s : List ℕ) (at : ℕ) (found t : ℕ × ℕ) where
-  pub number_refused : (k p : ℕ) → refuse k p ≡ number s at → t ≡ (k, p) → (t, found) ≡ number_on s at found
-  unfolding number_on step_told
-  number_refused k p e f = rw (f, sym e)
-
-  pub number_is : (v n : ℕ) → ok v n ≡ number s at → t ≡ (0, 0) → (t, (v, n)) ≡ number_on s at found
-  unfolding number_on step_told
-  number_is v n e f = rw (f, sym e)
-
--- `giachimu_number_up_to`
-module _ (s : List ℕ) (at most : ℕ) (found t : ℕ × ℕ) where
-  pub up_to_refused : (k p : ℕ) → refuse k p ≡ up_to most 7 8 s at → t ≡ (k, p) → (t, found) ≡ up_to_on s at most found
-  unfolding up_to_on step_told
-  up_to_refused k p e f = rw (f, sym e)
-
-  pub up_to_is : (v n : ℕ) → ok v n ≡ up_to most 7 8 s at → t ≡ (0, 0) → (t, (v, n)) ≡ up_to_on s at most found
-  unfolding up_to_on step_told
-  up_to_is v n e f = rw (f, sym e)
+-- a value that is read, and the place after it, are told, or the refusal is
+pub read_is_told : (a : Result (ℕ × ℕ) Refusal) (x : Step ℕ) → step a ≡ x → (r : Result (Unit {0}) Refusal) (v₀ n₀ v n : ℕ)
+    → MatchResult a (λ both. (outcome r ≡ accepted) × (v ≡ both.0) × (n ≡ both.1)) (λ e. (outcome r ≡ refused_by e) × (v ≡ v₀) × (n ≡ n₀)) → (t : ℕ × ℕ) → t ≡ told (outcome r)
+    → (t, (v, n)) ≡ step_told x (v₀, n₀)
+unfolding step_told
+read_is_told (Ok (w, m)) x e r v₀ n₀ v n (er, ev, en) t f = rw (f, er, ev, en, sym e)
+read_is_told (Err q) x e r v₀ n₀ v n (er, ev, en) t f = rw (f, er, ev, en, sym e)
 
 -- a worked sheet has three rows at most
 few_rows : (k : ℕ) → (fixed_sheet k).count ≤ 3

@@ -1,9 +1,8 @@
 -- `giachimu_read_scenario` meets its promise. Assumes nothing.
-use Rattle.exports.proofs.Inside.LentAnswers.{read_refused, read_accepted}
+use Rattle.exports.proofs.Names.{scenario_read}
+use Rattle.exports.proofs.Inside.LentAnswers.{found_is_told}
 use Rattle.exports.proofs.scenarios.giachimu_read_scenario.Goals as goal
 
-pub returns-in-Ok : goal.returns-in-Ok
-returns-in-Ok c = read_accepted _ _ _ _ _ _ _ c.in-Ok.ensures c.tell.ensures
-
-pub returns-in-Err : goal.returns-in-Err
-returns-in-Err c = read_refused _ _ _ _ _ _ _ _ c.in-Err.ensures c.tell-in-Err.ensures
+pub returns : goal.returns
+unfolding scenario_read
+returns c = found_is_told _ _ _ c.read_scenario.ensures _ _ _ c.put_found.ensures _ c.tell.ensures

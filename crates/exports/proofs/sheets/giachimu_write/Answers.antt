@@ -1,9 +1,8 @@
 -- `giachimu_write` meets its promise. Assumes nothing.
-use Rattle.exports.proofs.Inside.LentAnswers.{sheet_refused, sheet_accepted}
+use Rattle.exports.proofs.Names.{sheet_written}
+use Rattle.exports.proofs.Inside.LentAnswers.{found_is_told}
 use Rattle.exports.proofs.sheets.giachimu_write.Goals as goal
 
-pub returns-in-Ok : goal.returns-in-Ok
-returns-in-Ok c = sheet_accepted _ _ _ _ _ _ _ _ c.in-Ok.ensures c.tell.ensures
-
-pub returns-in-Err : goal.returns-in-Err
-returns-in-Err c = sheet_refused _ _ _ _ _ _ _ _ _ c.in-Err.ensures c.tell-in-Err.ensures
+pub returns : goal.returns
+unfolding sheet_written
+returns c = found_is_told _ _ _ c.write_sheet.ensures _ _ _ c.put_found.ensures _ c.tell.ensures
