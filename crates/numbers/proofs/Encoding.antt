@@ -1,7 +1,9 @@
 -- The laws of a number: one encoding, its range, equal answers; and the worked numbers. Assumes nothing.
 use Rattle.std.specs.Prelude.{Result, Ok, Err}
-use Rattle.basis.specs.Prelude.{ℕ, ◌^◌, ◌<◌, ◌≡◌, refl, sym, ap, ap₂, ◌∙◌, List, length, take-length}
-use Rattle.numbers.proofs.Names.{most_groups, Bytes, ok, refuse, step, number, up_to, up_to_by, step_by, ranged, UpTo}
+use Rattle.basis.specs.Prelude.{ℕ, ◌^◌, ◌<◌, ◌≡◌, refl, sym, ap, ap₂, ◌∙◌, Bool, true, false, List, length, take-length, eqb, leb}
+use Rattle.basis.specs.Readers.{Step, give, refuse_at}
+use Rattle.basis.specs.Words.{pick}
+use Rattle.numbers.proofs.Names.{most_groups, Bytes, ok, refuse, step, number, up_to, up_to_by, step_by, ranged, InRange, UpTo}
 use Rattle.basis.proofs.Same.{same_by}
 use Rattle.basis.specs.Refusals.{told}
 use Rattle.basis.specs.declared.refusal.Refusal.{Refusal}
@@ -32,16 +34,30 @@ ranged_is most under beyond s at = refl
 
 -- what is promised of errors of some type, for one way of telling them
 module _ {E : Type 0} (makes : Refusal → E → Type 0) (tells : E → ℕ × ℕ) (agrees : (x : Refusal) (e : E) → makes x e → tells e ≡ told x) where
+  -- however an error is told that tells refusals as the table does
+  pub told_by : (most : ℕ) (low high : E) (s : List ℕ) (at : ℕ) (r : Result (ℕ × ℕ) E) → UpTo makes most low high s at r → step_by tells r ≡ ranged most (tells low) (tells high) s at
+  told_by most low high s at r u = go (number s at) refl u
+    where
+      picked : (v n : ℕ) (t t' : Bool) → step_by tells (pick t (Err low) (pick t' (Ok (v, n)) (Err high)))
+          ≡ pick t (refuse_at (tells low).0 (tells low).1) (pick t' (give v) (refuse_at (tells high).0 (tells high).1)) s n
+      picked v n true t' = refl
+      picked v n false true = refl
+      picked v n false false = refl
+
+      go : (x : Step ℕ) → number s at ≡ x → InRange makes most low high x r → step_by tells r ≡ ranged most (tells low) (tells high) s at
+      go (ok v n) e f = rw (e, f) (picked v n (eqb v 0) (leb v most))
+      go (refuse k p) e (x, er, t, m, f) = rw (e, f) (ap (λ (y : ℕ × ℕ). refuse y.0 y.1) (agrees x er m ∙ t))
+
   -- the range by the numbers that two errors are told by
   pub up_to_told : (most under beyond : ℕ) (s : List ℕ) (at : ℕ) (low high : E) (r : Result (ℕ × ℕ) E) → tells low ≡ (under, at) → tells high ≡ (beyond, at)
       → UpTo makes most low high s at r → step_by tells r ≡ up_to most under beyond s at
   up_to_told most under beyond s at low high r l h u =
-      u tells agrees ∙ ap₂ (λ (x : ℕ × ℕ) (y : ℕ × ℕ). ranged most x y s at) l h ∙ ranged_is most under beyond s at
+      told_by most low high s at r u ∙ ap₂ (λ (x : ℕ × ℕ) (y : ℕ × ℕ). ranged most x y s at) l h ∙ ranged_is most under beyond s at
 
   -- where an error is what it is told as, two answers are equal
   pub up_to_same : (one : (a b : E) → tells a ≡ tells b → a ≡ b) (most : ℕ) (low high : E) (s : List ℕ) (at : ℕ) (a b : Result (ℕ × ℕ) E)
       → UpTo makes most low high s at a → UpTo makes most low high s at b → a ≡ b
-  up_to_same one most low high s at a b u v = go a b (u tells agrees ∙ sym (v tells agrees))
+  up_to_same one most low high s at a b u v = go a b (told_by most low high s at a u ∙ sym (told_by most low high s at b v))
     where
       go : (a b : Result (ℕ × ℕ) E) → step_by tells a ≡ step_by tells b → a ≡ b
       go (Ok (v, m)) (Ok (w, n)) e = let x : v ≡ w = cc in let y : m ≡ n = cc in λ i. Ok (x i, y i)

@@ -48,10 +48,15 @@ ranged most under over = do
   v ← number
   pick (eqb v 0) (refuse_at under.0 under.1) (pick (leb v most) (give v) (refuse_at over.0 over.1))
 
--- What reading it answers, with errors of any type into which refusals are made: however an error is told that tells them as the table does.
+-- What is answered of a number that is read, with errors of any type into which refusals are made: its value in the range, an error where it is zero, and another where it is over;
+-- where it is refused, an error that is made of the refusal by its number and place.
+abbrev pub InRange : {E : Type 0} → (Refusal → E → Type 0) → ℕ → E → E → Step ℕ → Result (ℕ × ℕ) E → Type 0
+InRange makes most under over (ok v next) r = r ≡ pick (eqb v 0) (Err under) (pick (leb v most) (Ok (v, next)) (Err over))
+InRange {E} makes most under over (refuse k p) r = (x : Refusal) × (e : E) × (told x ≡ (k, p)) × makes x e × (r ≡ Err e)
+
+-- What reading it answers.
 abbrev pub UpTo : {E : Type 0} → (Refusal → E → Type 0) → ℕ → E → E → List ℕ → ℕ → Result (ℕ × ℕ) E → Type 0
-UpTo {E} makes most under over s at r =
-    (tells : E → ℕ × ℕ) → ((x : Refusal) (e : E) → makes x e → tells e ≡ told x) → step_by tells r ≡ ranged most (tells under) (tells over) s at
+UpTo makes most under over s at r = InRange makes most under over (number s at) r
 
 -- The encoding of a value, in at most g groups.
 unfoldable pub spelt : ℕ → ℕ → List ℕ
