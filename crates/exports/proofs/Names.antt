@@ -33,7 +33,6 @@ unfoldable pub use Rattle.machine.specs.Lists.{fresh_on, put_record, put_state, 
 unfoldable pub use Rattle.machine.specs.Slot.{free_at}
 pub use Rattle.machine.specs.States.{State, record_at}
 unfoldable pub use Rattle.machine.specs.States.{fresh_state, legal_state}
-pub use Rattle.numbers.proofs.Encoding.{up_to_no, up_to_ok}
 pub use Rattle.numbers.specs.Numbers.{number, up_to}
 unfoldable pub use Rattle.numbers.specs.Numbers.{groups, up_to_by}
 pub use Rattle.page.specs.Pages.{Page}

@@ -3,7 +3,6 @@ ghost use Rattle.std.specs.Prelude.{◌≡◌};
 ghost use Rattle.exports.specs.Further.{number_on, up_to_on};
 
 use crate::telling::{put_both, tell};
-use basis::Refusal;
 
 // The number at a place of some bytes: its value, and the place after it.
 #[unsafe(no_mangle)]
@@ -34,6 +33,16 @@ pub extern "C" fn giachimu_number_up_to(
 ) -> u64
     ensures { ((result, place.new), (value.new, after.new)) ≡ up_to_on bytes.now at most (value.old, after.old) }
 {
-    let read = numbers::read_up_to(bytes, at, most, Refusal::Zero(at), Refusal::Over(at));
-    tell(put_both(read, value, after), place)
+    match numbers::read_up_to(bytes, at, most, 7, 8) {
+        Ok((v, next)) => {
+            *value = v;
+            *after = next;
+            *place = 0;
+            0
+        }
+        Err((number, fault)) => {
+            *place = fault;
+            number
+        }
+    }
 }

@@ -3,7 +3,7 @@ use Rattle.std.specs.Prelude.{Result, Ok, Err}
 use Rattle.basis.specs.Prelude.{ℕ, ◌^◌, ◌<◌, ◌≡◌, refl, sym, ap, ap₂, ◌∙◌, Bool, true, false, List, length, take-length, eqb, leb}
 use Rattle.basis.specs.Readers.{Step, give, refuse_at}
 use Rattle.basis.specs.Words.{pick}
-use Rattle.numbers.proofs.Names.{most_groups, Bytes, ok, refuse, step, number, up_to, up_to_by, step_by, ranged, InRange, UpTo}
+use Rattle.numbers.proofs.Names.{most_groups, Bytes, ok, refuse, step, number, up_to, up_to_by, step_by, step_as_told, ranged, InRange, UpTo}
 use Rattle.basis.proofs.Same.{same_by}
 use Rattle.basis.specs.Refusals.{told}
 use Rattle.basis.specs.declared.refusal.Refusal.{Refusal}
@@ -23,7 +23,7 @@ number_is_below s at v n bs e = (number_spelled s at v n bs e).not_over
 pub read_number_same : (s : List ℕ) (at : ℕ) (a b : Result (ℕ × ℕ) Refusal) → step a ≡ number s at → step b ≡ number s at → a ≡ b
 read_number_same s at = same_by step step_one_to_one (number s at)
 
--- `read_up_to`
+-- the same of a number in its range, refused by refusals
 pub read_up_to_same : (most under beyond : ℕ) (s : List ℕ) (at : ℕ) (a b : Result (ℕ × ℕ) Refusal) → step a ≡ up_to most under beyond s at → step b ≡ up_to most under beyond s at → a ≡ b
 read_up_to_same most under beyond s at = same_by step step_one_to_one (up_to most under beyond s at)
 
@@ -31,6 +31,27 @@ read_up_to_same most under beyond s at = same_by step step_one_to_one (up_to mos
 pub ranged_is : (most under beyond : ℕ) (s : List ℕ) (at : ℕ) → ranged most (under, at) (beyond, at) s at ≡ up_to most under beyond s at
 unfolding up_to_by
 ranged_is most under beyond s at = refl
+
+-- an answer is its step, where an error is what it is told as
+pub step_by_one_to_one : {E : Type 0} (tells : E → ℕ × ℕ) → ((a b : E) → tells a ≡ tells b → a ≡ b) → (a b : Result (ℕ × ℕ) E) → step_by tells a ≡ step_by tells b → a ≡ b
+step_by_one_to_one tells one (Ok (v, m)) (Ok (w, n)) e = let x : v ≡ w = cc in let y : m ≡ n = cc in λ i. Ok (x i, y i)
+step_by_one_to_one tells one (Ok a) (Err r) e = cc
+step_by_one_to_one tells one (Err r) (Ok a) e = cc
+step_by_one_to_one tells one (Err r) (Err s) e = let k : (tells r).0 ≡ (tells s).0 = cc in let p : (tells r).1 ≡ (tells s).1 = cc in ap Err (one r s (λ i. (k i, p i)))
+
+-- so where it is its number and place
+pub step_as_told_one_to_one : (a b : Result (ℕ × ℕ) (ℕ × ℕ)) → step_as_told a ≡ step_as_told b → a ≡ b
+step_as_told_one_to_one = step_by_one_to_one (λ (e : ℕ × ℕ). e) (λ a b e. e)
+
+-- `read_up_to`, whose errors are numbers and places
+pub read_as_told_same : (most under beyond : ℕ) (s : List ℕ) (at : ℕ) (a b : Result (ℕ × ℕ) (ℕ × ℕ)) → step_as_told a ≡ up_to most under beyond s at
+    → step_as_told b ≡ up_to most under beyond s at → a ≡ b
+read_as_told_same most under beyond s at = same_by step_as_told step_as_told_one_to_one (up_to most under beyond s at)
+
+-- `read_in_range`
+pub read_in_range_same : (most : ℕ) (low high : Refusal) (s : List ℕ) (at : ℕ) (a b : Result (ℕ × ℕ) Refusal) → step a ≡ ranged most (told low) (told high) s at
+    → step b ≡ ranged most (told low) (told high) s at → a ≡ b
+read_in_range_same most low high s at = same_by step step_one_to_one (ranged most (told low) (told high) s at)
 
 -- what is promised of errors of some type, for one way of telling them
 module _ {E : Type 0} (makes : Refusal → E → Type 0) (tells : E → ℕ × ℕ) (agrees : (x : Refusal) (e : E) → makes x e → tells e ≡ told x) where
@@ -57,28 +78,19 @@ module _ {E : Type 0} (makes : Refusal → E → Type 0) (tells : E → ℕ × �
   -- where an error is what it is told as, two answers are equal
   pub up_to_same : (one : (a b : E) → tells a ≡ tells b → a ≡ b) (most : ℕ) (low high : E) (s : List ℕ) (at : ℕ) (a b : Result (ℕ × ℕ) E)
       → UpTo makes most low high s at a → UpTo makes most low high s at b → a ≡ b
-  up_to_same one most low high s at a b u v = go a b (told_by most low high s at a u ∙ sym (told_by most low high s at b v))
-    where
-      go : (a b : Result (ℕ × ℕ) E) → step_by tells a ≡ step_by tells b → a ≡ b
-      go (Ok (v, m)) (Ok (w, n)) e = let x : v ≡ w = cc in let y : m ≡ n = cc in λ i. Ok (x i, y i)
-      go (Ok a) (Err r) e = cc
-      go (Err r) (Ok a) e = cc
-      go (Err r) (Err s) e = let k : (tells r).0 ≡ (tells s).0 = cc in let p : (tells r).1 ≡ (tells s).1 = cc in ap Err (one r s (λ i. (k i, p i)))
+  up_to_same one most low high s at a b u v = step_by_one_to_one tells one a b (told_by most low high s at a u ∙ sym (told_by most low high s at b v))
 
--- the refusals themselves
-pub up_to_step : (most under beyond : ℕ) (s : List ℕ) (at : ℕ) (low high : Refusal) (r : Result (ℕ × ℕ) Refusal) → told low ≡ (under, at) → told high ≡ (beyond, at)
-    → UpTo (λ (x : Refusal) (e : Refusal). e ≡ x) most low high s at r → step r ≡ up_to most under beyond s at
-up_to_step most under beyond s at low high r l h u = same_step r ∙ up_to_told (λ (x : Refusal) (e : Refusal). e ≡ x) told (λ x e q. ap told q) most under beyond s at low high r l h u
+-- of the refusals themselves: the range by how they are told
+pub ranged_step : (most : ℕ) (low high : Refusal) (s : List ℕ) (at : ℕ) (r : Result (ℕ × ℕ) Refusal) → UpTo (λ (x : Refusal) (e : Refusal). e ≡ x) most low high s at r
+    → step r ≡ ranged most (told low) (told high) s at
+ranged_step most low high s at r u = same_step r ∙ told_by (λ (x : Refusal) (e : Refusal). e ≡ x) told (λ x e q. ap told q) most low high s at r u
   where
     same_step : (r : Result (ℕ × ℕ) Refusal) → step r ≡ step_by told r
     same_step (Ok a) = refl
     same_step (Err r) = refl
 
--- so of a number that is accepted, and of one that is refused
-module _ (most under beyond : ℕ) (s : List ℕ) (at : ℕ) (low high : Refusal) where
-  pub up_to_ok : (v n : ℕ) → told low ≡ (under, at) → told high ≡ (beyond, at) → UpTo (λ (x : Refusal) (e : Refusal). e ≡ x) most low high s at (Ok (v, n)) → ok v n ≡ up_to most under beyond s at
-  up_to_ok v n = up_to_step most under beyond s at low high (Ok (v, n))
-
-  pub up_to_no : (r : Refusal) → told low ≡ (under, at) → told high ≡ (beyond, at) → UpTo (λ (x : Refusal) (e : Refusal). e ≡ x) most low high s at (Err r)
-      → refuse (told r).0 (told r).1 ≡ up_to most under beyond s at
-  up_to_no r = up_to_step most under beyond s at low high (Err r)
+-- and by the numbers that they are told by
+pub up_to_step : (most under beyond : ℕ) (s : List ℕ) (at : ℕ) (low high : Refusal) (r : Result (ℕ × ℕ) Refusal) → told low ≡ (under, at) → told high ≡ (beyond, at)
+    → UpTo (λ (x : Refusal) (e : Refusal). e ≡ x) most low high s at r → step r ≡ up_to most under beyond s at
+up_to_step most under beyond s at low high r l h u =
+    ranged_step most low high s at r u ∙ ap₂ (λ (x : ℕ × ℕ) (y : ℕ × ℕ). ranged most x y s at) l h ∙ ranged_is most under beyond s at

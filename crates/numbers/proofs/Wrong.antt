@@ -1,9 +1,10 @@
--- No answer by a wrong rule of a number meets the promise of `read_number`, `read_up_to`, `number_length` or `write_number`. Assumes nothing.
+-- No answer by a wrong rule of a number meets the promise of `read_number`, `read_up_to`, `read_in_range`, `number_length` or `write_number`. Assumes nothing.
 use Rattle.std.specs.Prelude.{Result}
+use Rattle.basis.specs.Refusals.{told}
 use Rattle.basis.specs.declared.refusal.Refusal.{Refusal}
 use Rattle.basis.specs.declared.refusal.Refusal.TheVariants.{Zero, Over}
 use Rattle.basis.specs.Prelude.{◌≡◌, ℕ, refl, List, get_or, sets}
-use Rattle.numbers.proofs.Names.{Step, ok, refuse, step, groups, number, up_to_by, up_to, spelt, spell, width, UpTo}
+use Rattle.numbers.proofs.Names.{Step, ok, refuse, step, step_as_told, groups, number, up_to_by, up_to, ranged, spelt, spell, width, UpTo}
 use Rattle.numbers.proofs.Encoding.{up_to_step}
 use Rattle.basis.specs.Faults.{NoAnswer, NoneMeets}
 use Rattle.basis.proofs.Faults.{told_apart, values_apart}
@@ -62,12 +63,41 @@ pub zero_is_over_is_shut_out : NoAnswer step (zero_is_over 5 7 8 blank 0) (up_to
 unfolding groups up_to_by zero_is_over refusal
 zero_is_over_is_shut_out = told_apart step _ _ refusal refl
 
--- so of the errors themselves: 0 as a budget, and 5 where 5 is the most
+-- so of errors that are numbers and places
+pub blank_as_told_is_shut_out : NoAnswer step_as_told (blank_is_zero 5 7 8 blank 0) (up_to 5 7 8 blank 0)
+unfolding groups up_to_by blank_is_zero refusal
+blank_as_told_is_shut_out = told_apart step_as_told _ _ refusal refl
+
+pub most_as_told_is_shut_out : NoAnswer step_as_told (most_is_over 5 7 8 five 0) (up_to 5 7 8 five 0)
+unfolding groups up_to_by most_is_over refusal
+most_as_told_is_shut_out = told_apart step_as_told _ _ refusal refl
+
+pub zero_as_told_is_shut_out : NoAnswer step_as_told (zero_is_over 5 7 8 blank 0) (up_to 5 7 8 blank 0)
+unfolding groups up_to_by zero_is_over refusal
+zero_as_told_is_shut_out = told_apart step_as_told _ _ refusal refl
+
+-- of refusals in their range
+pub blank_in_range_is_shut_out : NoAnswer step (blank_is_zero 5 7 8 blank 0) (ranged 5 (told (Zero 0)) (told (Over 0)) blank 0)
+unfolding up_to_by
+blank_in_range_is_shut_out = blank_is_zero_is_shut_out
+
+pub most_in_range_is_shut_out : NoAnswer step (most_is_over 5 7 8 five 0) (ranged 5 (told (Zero 0)) (told (Over 0)) five 0)
+unfolding up_to_by
+most_in_range_is_shut_out = most_is_over_is_shut_out
+
+pub zero_in_range_is_shut_out : NoAnswer step (zero_is_over 5 7 8 blank 0) (ranged 5 (told (Zero 0)) (told (Over 0)) blank 0)
+unfolding up_to_by
+zero_in_range_is_shut_out = zero_is_over_is_shut_out
+
+-- and of the errors themselves: 0 as a budget, 5 where 5 is the most, and 0 again
 pub blank_is_told_is_shut_out : (r : Result (ℕ × ℕ) Refusal) → step r ≡ blank_is_zero 5 7 8 blank 0 → UpTo (λ (x : Refusal) (e : Refusal). e ≡ x) 5 (Zero 0) (Over 0) blank 0 r → ⊥
 blank_is_told_is_shut_out r e u = blank_is_zero_is_shut_out r e (up_to_step 5 7 8 blank 0 (Zero 0) (Over 0) r refl refl u)
 
 pub most_is_told_is_shut_out : (r : Result (ℕ × ℕ) Refusal) → step r ≡ most_is_over 5 7 8 five 0 → UpTo (λ (x : Refusal) (e : Refusal). e ≡ x) 5 (Zero 0) (Over 0) five 0 r → ⊥
 most_is_told_is_shut_out r e u = most_is_over_is_shut_out r e (up_to_step 5 7 8 five 0 (Zero 0) (Over 0) r refl refl u)
+
+pub zero_is_told_is_shut_out : (r : Result (ℕ × ℕ) Refusal) → step r ≡ zero_is_over 5 7 8 blank 0 → UpTo (λ (x : Refusal) (e : Refusal). e ≡ x) 5 (Zero 0) (Over 0) blank 0 r → ⊥
+zero_is_told_is_shut_out r e u = zero_is_over_is_shut_out r e (up_to_step 5 7 8 blank 0 (Zero 0) (Over 0) r refl refl u)
 
 -- always one byte: 128 would take 1
 pub always_one_is_shut_out : NoneMeets (always_one 128) (width 128)

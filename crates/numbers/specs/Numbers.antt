@@ -42,6 +42,10 @@ abbrev pub step_by : {E : Type 0} → (E → ℕ × ℕ) → Result (ℕ × ℕ)
 step_by told (Ok (value, next)) = ok value next
 step_by told (Err e) = refuse (told e).0 (told e).1
 
+-- The same where an error is its number and place.
+abbrev pub step_as_told : Result (ℕ × ℕ) (ℕ × ℕ) → Step ℕ
+step_as_told = step_by (λ (e : ℕ × ℕ). e)
+
 -- A number from 1 to most; refused by one number and place where it is zero, and by others where it is over.
 abbrev pub ranged : ℕ → ℕ × ℕ → ℕ × ℕ → Reader ℕ
 ranged most under over = do

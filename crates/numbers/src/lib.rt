@@ -4,5 +4,5 @@
 mod number;
 mod writing;
 
-pub use number::{read_number, read_up_to};
+pub use number::{read_in_range, read_number, read_up_to};
 pub use writing::{number_length, write_number};

@@ -1,7 +1,8 @@
 // Reading a number at a place.
 ghost use Rattle.std.specs.Prelude.{◌≡◌};
 ghost use Rattle.basis.specs.Readers.{step};
-ghost use Rattle.numbers.specs.Numbers.{number, UpTo};
+ghost use Rattle.basis.specs.Refusals.{told};
+ghost use Rattle.numbers.specs.Numbers.{number, up_to, ranged, step_as_told, UpTo};
 
 use basis::{MOST_GROUPS, Refusal};
 
@@ -33,7 +34,7 @@ pub fn read_number(bytes: &[u8], at: usize) -> Result<(u64, usize), Refusal>
 }
 
 // A number from 1 to `most`, and the place after it; zero is refused by the error `under`, and more than `most` by `over`.
-pub fn read_up_to<E: Copy + From<Refusal>>(
+fn in_range<E: Copy + From<Refusal>>(
     bytes: &[u8],
     at: usize,
     most: u64,
@@ -50,4 +51,30 @@ pub fn read_up_to<E: Copy + From<Refusal>>(
         return Err(over);
     }
     Ok((value, next))
+}
+
+// The same with errors that are numbers and places: zero is refused by the number `under`, and more than `most` by `over`, both at the number's first byte.
+pub fn read_up_to(
+    bytes: &[u8],
+    at: usize,
+    most: u64,
+    under: u64,
+    over: u64,
+) -> Result<(u64, usize), (u64, usize)>
+    ensures { step_as_told result ≡ up_to most under over bytes.now at }
+{
+    in_range(bytes, at, most, (under, at), (over, at))
+}
+
+// The same with refusals for errors: zero is refused by `under`, and more than `most` by `over`.
+pub fn read_in_range(
+    bytes: &[u8],
+    at: usize,
+    most: u64,
+    under: Refusal,
+    over: Refusal,
+) -> Result<(u64, usize), Refusal>
+    ensures { step result ≡ ranged most (told under) (told over) bytes.now at }
+{
+    in_range(bytes, at, most, under, over)
 }

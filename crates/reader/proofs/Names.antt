@@ -10,7 +10,7 @@ unfoldable pub use Rattle.basis.specs.Readers.{begins, map_step}
 pub use Rattle.basis.specs.Refusals.{Outcome, accepted, handed, or_else, outcome, refused, refused_by, room_for, told}
 unfoldable pub use Rattle.basis.specs.Upto.{pair_cell, upto}
 pub use Rattle.numbers.proofs.Inside.Bounds.{bounded}
-pub use Rattle.numbers.proofs.Encoding.{up_to_no, up_to_ok, up_to_step}
+pub use Rattle.numbers.proofs.Encoding.{ranged_is}
 pub use Rattle.numbers.specs.Numbers.{up_to}
 unfoldable pub use Rattle.numbers.specs.Numbers.{groups, spelt, up_to_by, width}
 pub use Rattle.reader.specs.Answers.{no_parts, nowhere, outcome_and_sheet, part, part_after, reading, reading_of, rows_read, sheet_held, shown}

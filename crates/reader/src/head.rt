@@ -4,7 +4,7 @@ ghost use Rattle.reader.specs.Form.{head};
 ghost use Rattle.reader.specs.Inside.Steps.{head_step};
 
 use basis::{MOST_PROCESSORS, MOST_ROWS, Refusal};
-use numbers::read_up_to;
+use numbers::read_in_range;
 
 // The sheet's mark.
 pub const MARK: [u8; 4] = *b"GSH\x01";
@@ -24,8 +24,8 @@ pub(crate) fn read_head(bytes: &[u8]) -> Result<(Head, usize), Refusal>
         return Err(Refusal::Mark);
     }
     let no_box = Refusal::Processors(4);
-    let (processors, at) = read_up_to(bytes, 4, MOST_PROCESSORS, no_box, no_box)?;
+    let (processors, at) = read_in_range(bytes, 4, MOST_PROCESSORS, no_box, no_box)?;
     let no_rows = Refusal::Rows(at);
-    let (count, next) = read_up_to(bytes, at, MOST_ROWS as u64, no_rows, no_rows)?;
+    let (count, next) = read_in_range(bytes, at, MOST_ROWS as u64, no_rows, no_rows)?;
     Ok((Head { processors, count }, next))
 }

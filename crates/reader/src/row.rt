@@ -6,7 +6,7 @@ ghost use Rattle.reader.specs.Form.{entry_row, plain, label, entry};
 ghost use Rattle.reader.specs.Inside.Steps.{label_step, entry_step, nothing, numbers, LabelAt, EntryAt};
 
 use basis::{LONGEST_LABEL, MOST_SEPARATION, Refusal};
-use numbers::read_up_to;
+use numbers::read_in_range;
 use sheet::Row;
 
 // A part of a sheet's bytes: where it starts, and how long it is, as the promises speak of it and a list of labels has it; so it is no range.
@@ -42,7 +42,7 @@ pub(crate) fn read_label(bytes: &[u8], at: usize) -> Result<(Part, usize), Refus
     ensures { (label_step result ≡ map_step length (label bytes.now at)) × (LabelAt bytes.now at result) }
 {
     let not_so_long = Refusal::Label(at);
-    let (count, start) = read_up_to(bytes, at, LONGEST_LABEL, not_so_long, not_so_long)?;
+    let (count, start) = read_in_range(bytes, at, LONGEST_LABEL, not_so_long, not_so_long)?;
     let long = count as usize;
     let end = start + long;
     if bytes.len() < end {
@@ -56,7 +56,7 @@ pub(crate) fn read_label(bytes: &[u8], at: usize) -> Result<(Part, usize), Refus
 fn read_one(bytes: &[u8], at: usize, most: u64) -> Result<(u64, usize), Refusal>
     ensures { step result ≡ up_to most 7 8 bytes.now at }
 {
-    read_up_to(bytes, at, most, Refusal::Zero(at), Refusal::Over(at))
+    read_in_range(bytes, at, most, Refusal::Zero(at), Refusal::Over(at))
 }
 
 // The four numbers of a row at a place, on so many processors, and the place after them.

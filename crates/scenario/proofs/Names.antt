@@ -8,7 +8,7 @@ pub use Rattle.basis.proofs.Inside.Words.{lt_or_le}
 pub use Rattle.basis.proofs.Lent.{put_refused, put_where_room, written_same, written_whole, wrote}
 pub use Rattle.basis.specs.Lent.{Answer, answer, nothing_by, written_by, written_told}
 pub use Rattle.basis.specs.Limits.{most_groups, most_rows, most_separation}
-pub use Rattle.basis.specs.Readers.{Bytes, Reader, Step, after, give, marked, ok, refuse, refuse_at, step}
+pub use Rattle.basis.specs.Readers.{Bytes, Reader, Step, after, give, marked, ok, refuse, refuse_at}
 unfoldable pub use Rattle.basis.specs.Readers.{begins, map_step}
 pub use Rattle.basis.specs.Refusals.{Outcome, accepted, refused}
 unfoldable pub use Rattle.basis.specs.Refusals.{first_of}

@@ -8,6 +8,7 @@ ghost use Rattle.scenario.specs.Inside.Parts.{Landed};
 
 use crate::rows::Rows;
 use basis::{MOST_GROUPS, MOST_ROWS, Refusal};
+use numbers::read_in_range;
 
 // The reading of a slot looks at no more bytes.
 pub const SLOT_REACH: usize = (MOST_ROWS + 1) * 2 * (MOST_GROUPS as usize);
@@ -51,7 +52,7 @@ fn read_releases(
     for _release in 0..count {
         let (row, amount_at) = read_row(rows, bytes, next, least)?;
         let wrong = Refusal::Budget(amount_at);
-        let (amount, end) = numbers::read_up_to(bytes, amount_at, rows.budget(row), wrong, wrong)?;
+        let (amount, end) = read_in_range(bytes, amount_at, rows.budget(row), wrong, wrong)?;
         entries[row] = amount;
         next = end;
         least = row + 1;

@@ -1,12 +1,11 @@
 -- The ways out of the reader of a slot: a row, the releases one after another, and the slot. Assumes nothing.
-use Rattle.basis.specs.Prelude.{ℕ, suc, ◌+◌, ◌-◌, ◌≤◌, ◌<◌, ◌≡◌, refl, sym, ap, ◌∙◌, Bool, true, false, List, arith, set, lt-ltb, le-ltb}
-use Rattle.std.specs.Prelude.{Result, Ok, Err}
+use Rattle.basis.specs.Prelude.{ℕ, suc, ◌+◌, ◌-◌, ◌≤◌, ◌<◌, ◌≡◌, sym, ap, ◌∙◌, Bool, true, false, List, arith, set, lt-ltb, le-ltb}
+use Rattle.std.specs.Prelude.{Err}
 use Rattle.basis.specs.Refusals.{told}
-use Rattle.basis.specs.declared.refusal.Refusal.TheVariants.{Budget}
 use Rattle.basis.specs.declared.refusal.Refusal.TheVariants as refusals
-use Rattle.numbers.specs.Numbers.{UpTo}
-use Rattle.numbers.proofs.Encoding.{up_to_step}
-use Rattle.scenario.proofs.Names.{Landed, Refusal, Step, most_rows, legal, sheet_in, step, pick, ok, refuse, number, up_to, budget_at, no_releases, releases, row, slot, slot_handed, found_told, read_slot, Sheet}
+use Rattle.numbers.specs.Numbers.{ranged}
+use Rattle.numbers.proofs.Encoding.{ranged_is}
+use Rattle.scenario.proofs.Names.{Landed, Refusal, Step, most_rows, legal, sheet_in, pick, ok, refuse, number, up_to, budget_at, no_releases, releases, row, slot, slot_handed, found_told, read_slot, Sheet}
 use Rattle.scenario.proofs.Inside.OneSlot.{read_slot_is}
 
 -- the ways out of `read_row`
@@ -43,26 +42,24 @@ module _ (h : Sheet) (s : List ℕ) (left least : ℕ) (entries : List ℕ) (nex
   no_row k p e = simp (sym e)
 
   module _ (r a : ℕ) (e : ok r a ≡ row h.count least s next) (v : ℕ) (ev : v ≡ budget_at h r) where
-    counted : (x : Result (ℕ × ℕ) Refusal) → UpTo (λ (y : Refusal) (z : Refusal). z ≡ y) v (Budget a) (Budget a) s a x → up_to (budget_at h r) 12 12 s a ≡ step x
-    counted x f = ap (λ (k : ℕ). up_to k 12 12 s a) (sym ev) ∙ sym (up_to_step v 12 12 s a (Budget a) (Budget a) x refl refl f)
+    counted : (x : Step ℕ) → x ≡ ranged v (12, a) (12, a) s a → up_to (budget_at h r) 12 12 s a ≡ x
+    counted x f = sym (f ∙ ranged_is v 12 12 s a ∙ ap (λ (k : ℕ). up_to k 12 12 s a) ev)
 
-    amount_refused : (x : Refusal) → UpTo (λ (y : Refusal) (z : Refusal). z ≡ y) v (Budget a) (Budget a) s a (Err x)
-        → releases h (suc left) least entries s next ≡ refuse (told x).0 (told x).1
+    amount_refused : (k p : ℕ) → refuse k p ≡ ranged v (12, a) (12, a) s a → releases h (suc left) least entries s next ≡ refuse k p
     unfolding releases
-    amount_refused x f = simp (sym e, counted (Err x) f)
+    amount_refused k p f = simp (sym e, counted (refuse k p) f)
 
-    pub one_more : (c b : ℕ) → UpTo (λ (y : Refusal) (z : Refusal). z ≡ y) v (Budget a) (Budget a) s a (Ok (c, b))
-        → releases h (suc left) least entries s next ≡ releases h left (r + 1) (set entries r c) s b
+    pub one_more : (c b : ℕ) → ok c b ≡ ranged v (12, a) (12, a) s a → releases h (suc left) least entries s next ≡ releases h left (r + 1) (set entries r c) s b
     unfolding releases
-    one_more c b f = simp (sym e, counted (Ok (c, b)) f)
+    one_more c b f = simp (sym e, counted (ok c b) f)
 
 -- after some releases, one of too large an amount refuses all
 module _ (h : Sheet) (s : List ℕ) (at count : ℕ) (l₀ entries : List ℕ) (next least left : ℕ) (so_far : releases h count 0 l₀ s at ≡ releases h left least entries s next) (pos : 0 < left) where
-  pub no_amount_lem : (r a : ℕ) → ok r a ≡ row h.count least s next → (v : ℕ) → v ≡ budget_at h r → (x : Refusal) → UpTo (λ (y : Refusal) (z : Refusal). z ≡ y) v (Budget a) (Budget a) s a (Err x)
-      → Landed (releases h count 0 l₀ s at) (Err x) entries
+  pub no_amount_lem : (r a : ℕ) → ok r a ≡ row h.count least s next → (v : ℕ) → v ≡ budget_at h r → (x : Refusal)
+      → refuse (told x).0 (told x).1 ≡ ranged v (12, a) (12, a) s a → Landed (releases h count 0 l₀ s at) (Err x) entries
   no_amount_lem r a e v ev x f =
       let one : left ≡ suc (left - 1) = omega (arith, pos) in
-      so_far ∙ ap (λ (k : ℕ). releases h k least entries s next) one ∙ amount_refused h s (left - 1) least entries next r a e v ev x f
+      so_far ∙ ap (λ (k : ℕ). releases h k least entries s next) one ∙ amount_refused h s (left - 1) least entries next r a e v ev (told x).0 (told x).1 f
 
 -- the ways out of `slot_at`
 module _ (h : Sheet) (l s : List ℕ) (at : ℕ) where
