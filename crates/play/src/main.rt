@@ -31,8 +31,8 @@ fn open_file<R: Files>(rt: &R, name: &[u8]) -> Result<R::File, Fault> {
 // The box of the sheet in a file.
 fn read_sheet(mut file: impl Read + Drop) -> Result<Player, Fault> {
     let mut bytes = dashboard::input_buffer();
-    let end = fill(&mut file, &mut bytes)?;
-    Player::of(&bytes[..end]).map_err(|refusal| Fault::Refused(File::Sheet, refusal, 0))
+    let filled = fill(&mut file, &mut bytes)?;
+    Player::of(&bytes[..filled.count]).map_err(|refusal| Fault::Refused(File::Sheet, refusal, 0))
 }
 
 // What a task gives that is done with the file that an argument names; where it fails, that is said.

@@ -1,6 +1,5 @@
 // A scenario's file, which is read from left to right through a buffer.
-ghost use Rattle.std.specs.Prelude.{◌≡◌, ◌≤◌, false, OnOk};
-ghost use Rattle.std.specs.Io.{WritesAtMost};
+ghost use Rattle.std.specs.Prelude.{◌≡◌, ◌≤◌, false, length, IfOk, OnOk};
 ghost use Rattle.play.specs.Windows.{Ahead};
 ghost use Rattle.play.specs.declared.source.TheConstants.{BUFFER_LONG};
 
@@ -14,20 +13,30 @@ use watch::File;
 // As many bytes as hold any slot ahead, and any path.
 pub(crate) const BUFFER_LONG: usize = 4096;
 
-// Reads until the buffer is full or the file ends, and answers how many bytes that is. `verdict` reads its input so too: the programs share no crate that reads.
+// What was read into a buffer: how many bytes, and whether the file ends after them.
+#[derive(Clone, Copy)]
+pub(crate) struct Filled {
+    pub(crate) count: usize,
+    pub(crate) ended: bool,
+}
+
+// Reads until the buffer is full or the file ends. `verdict` reads its input so too: the programs share no crate that reads.
 // No `for`, since a read says how many bytes came.
-pub(crate) fn fill(file: &mut impl Read, buffer: &mut [u8]) -> io::Result<usize>
-    ensures { WritesAtMost result buffer.new }
+pub(crate) fn fill(file: &mut impl Read, buffer: &mut [u8]) -> io::Result<Filled>
+    ensures { IfOk result (λ filled. (filled.count ≤ length buffer.new) × (filled.ended ≡ false → length buffer.new ≤ filled.count)) }
 {
-    let mut done = 0;
-    while done < buffer.len() {
-        let more = file.read(&mut buffer[done..])?;
+    let mut count = 0;
+    while count < buffer.len() {
+        let more = file.read(&mut buffer[count..])?;
         if more == 0 {
-            return Ok(done);
+            return Ok(Filled { count, ended: true });
         }
-        done += more;
+        count += more;
     }
-    Ok(done)
+    Ok(Filled {
+        count,
+        ended: false,
+    })
 }
 
 // The file, and the part of it that stands in the buffer.
@@ -49,7 +58,9 @@ pub(crate) struct Source<F> {
 
 impl<F: Read> Source<F> {
     // A file of which nothing is read yet.
-    pub(crate) fn of(file: F) -> Source<F> {
+    pub(crate) fn of(file: F) -> Source<F>
+        ensures { (result.offset ≡ 0) × (result.start ≡ 0) × (result.end ≡ 0) × (result.ended ≡ false) }
+    {
         Source {
             file,
             buffer: [0; BUFFER_LONG],
@@ -70,8 +81,8 @@ impl<F: Read> Source<F> {
         ensures { OnOk result ((self.new.start ≡ self.old.start) × (self.new.ended ≡ false → BUFFER_LONG ≤ self.new.end)) }
     {
         let more = fill(&mut self.file, &mut self.buffer[self.end..])?;
-        self.end += more;
-        self.ended = self.end < BUFFER_LONG;
+        self.end += more.count;
+        self.ended = more.ended;
         Ok(())
     }
 

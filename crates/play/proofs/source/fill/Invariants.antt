@@ -2,8 +2,8 @@
 use Rattle.basis.specs.Prelude.{◌≤◌, ◌-◌, ◌≡◌, length}
 use Rattle.play.proofs.source.fill.Given as goal
 
-abbrev pub invariant-loop-done : goal.invariant-loop-done
-invariant-loop-done g l = (l.done ≤ length l.buffer) × (length l.buffer ≡ length l.initial.buffer)
+abbrev pub invariant-loop-count : goal.invariant-loop-count
+invariant-loop-count g l = (l.count ≤ length l.buffer) × (length l.buffer ≡ length l.initial.buffer)
 
-abbrev pub decreases-loop-done : goal.decreases-loop-done
-decreases-loop-done g l = length l.buffer - l.done
+abbrev pub decreases-loop-count : goal.decreases-loop-count
+decreases-loop-count g l = length l.buffer - l.count
