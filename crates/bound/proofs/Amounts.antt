@@ -43,13 +43,13 @@ module _ (h : Sheet) (k : ℕ) where
       pub window_low : (row : Row) → row ≡ row_at h k → row.budget ≤ L.0
       window_low row er = rw er n.low
 
-      module _ (row : Row) (er : row ≡ row_at h k) (a : Duration) (ea : a.0 ≡ L.0 - row.budget) where
+      module _ (row : Row) (er : row ≡ row_at h k) (c a : Duration) (ec : c.0 ≡ row.budget) (ea : a.0 ≡ L.0 - c.0) where
         pub window_fits : (m : ℕ) → m ≤ widest_separation → Fits w64 (a.0 + m)
         window_fits m e = omega (arith, l.rows k b)
 
-        pub window_is : (w : Duration) → w.0 ≡ a.0 + 1 → w ≡ X h k L
+        pub window_is : (o w : Duration) → o.0 ≡ 1 → w.0 ≡ a.0 + o.0 → w ≡ X h k L
         unfolding X
-        window_is w e = rw (← er) (ap slots (omega arith))
+        window_is o w eo ew = rw (← er) (ap slots (omega arith))
 
       pub window_small : (w : Duration) → w ≡ X h k L → w.0 ≤ widest_separation
       unfolding X

@@ -86,8 +86,8 @@ module _ (h : Sheet) (R : ℕ → Duration) (k : ℕ) (r : Ready h R k) where
 
   -- ---- the loop over the rows above
 
-  pub start_at_budget : (a : Row) → a ≡ row_at h k → Starts h R k (slots a.budget)
-  start_at_budget a ea = rw ea (record { low = omega arith; fails = λ l c d. absurd (omega arith) })
+  pub start_at_budget : (a : Row) (c : Duration) → a ≡ row_at h k → c.0 ≡ a.budget → Starts h R k c
+  start_at_budget a c ea ec = let e : c.0 ≡ (row_at h k).budget = rw ea at ec in record { low = omega arith; fails = λ l low d. absurd (omega arith) }
 
   pub threads_small : (a : Row) → a ≡ row_at h k → a.threads ≤ most_processors
   threads_small a ea = rw ea (omega (arith, own_row h R k r))
@@ -104,19 +104,20 @@ module _ (h : Sheet) (R : ℕ → Duration) (k : ℕ) (r : Ready h R k) where
         go : (e : Bool) → ltb (row_at h k).threads (row_at h j).threads ≡ e → (f : Bool) → leb (row_at h j).budget (row_at h k).budget ≡ f
             → (g : Bool) → ltb h.processors ((row_at h j).threads + (row_at h k).threads) ≡ g
             → Starts h R k (pick e (C (row_at h k)) (pick f (plus (minus (R j) (C (row_at h j))) (C (row_at h k))) (pick g (R j) (C (row_at h k)))))
-        go true ee f ef g eg = start_at_budget (row_at h k) refl
+        go true ee f ef g eg = start_at_budget (row_at h k) (C (row_at h k)) refl refl
         go false ee true ef g eg = record { low = omega arith; fails = same_X_fails j b (ltb-false _ _ ee) (leb-true _ _ ef) }
         go false ee false ef true eg =
             let large : (row_at h k).budget < (row_at h j).budget = leb-false _ _ ef in
             record { low = omega (arith, r.low j b); fails = same_length_fails j b (ltb-false _ _ ee) large (ltb-true _ _ eg) }
-        go false ee false ef false eg = start_at_budget (row_at h k) refl
+        go false ee false ef false eg = start_at_budget (row_at h k) (C (row_at h k)) refl refl
 
   pub start_later : (a b c : Duration) → Starts h R k a → Starts h R k b → c.0 ≡ max a.0 b.0 → Starts h R k c
   start_later a b c sa sb e = record { low = omega arith; fails = λ l low d. ⊎_elim (λ s. sa.fails l low s) (λ s. sb.fails l low (omega arith)) (lt_or_le l a.0) }
 
 -- ---- one row above, as the code has it
 
-pub carried_is : (m : ℕ) (a o : Row) (v w y : Duration) → w.0 ≡ v.0 - o.budget → y.0 ≡ w.0 + a.budget → (g f e : Bool) → g ≡ ltb m (o.threads + a.threads) → f ≡ leb o.budget a.budget → e ≡ ltb a.threads o.threads
-    → (t u z : Duration) → t ≡ pick g v (slots a.budget) → u ≡ pick f y t → z ≡ pick e (slots a.budget) u → z ≡ carried_of m a o v
+pub carried_is : (m : ℕ) (a o : Row) (v c d w y : Duration) → c.0 ≡ a.budget → d.0 ≡ o.budget → w.0 ≡ v.0 - d.0 → y.0 ≡ w.0 + c.0
+    → (g f e : Bool) → g ≡ ltb m (o.threads + a.threads) → f ≡ leb o.budget a.budget → e ≡ ltb a.threads o.threads
+    → (t u z : Duration) → t ≡ pick g v c → u ≡ pick f y t → z ≡ pick e c u → z ≡ carried_of m a o v
 unfolding carried_of
-carried_is m a o v w y ew ey g f e eg ef ee t u z et eu ez = let es : y ≡ plus (minus v (C o)) (C a) = ap slots (omega arith) in cc
+carried_is m a o v c d w y ec ed ew ey g f e eg ef ee t u z et eu ez = let es : y ≡ plus (minus v (C o)) (C a) = ap slots (omega arith) in cc (ap slots ec)

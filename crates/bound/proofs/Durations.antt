@@ -60,9 +60,9 @@ pub rest_fits : (a p : ℕ) → 1 ≤ p → p ≤ widest_separation → Fits w64
 rest_fits a p l m = omega (arith, mod-lt a l)
 
 -- x
-pub span_is : (row : Row) (R L e r : Duration) → e.0 ≡ L.0 + R.0 → r.0 ≡ e.0 - row.budget → r ≡ x row R L
+pub span_is : (row : Row) (R L c e r : Duration) → c.0 ≡ row.budget → e.0 ≡ L.0 + R.0 → r.0 ≡ e.0 - c.0 → r ≡ x row R L
 unfolding x
-span_is row R L e r ee er = ap slots (omega arith)
+span_is row R L c e r ec ee er = ap slots (omega arith)
 
 pub spans : (row : Row) (R L s : Duration) → Above row R L → s ≡ x row R L → Spans row s
 unfolding x
@@ -72,24 +72,24 @@ pub span_small : (row : Row) (R L s : Duration) → Above row R L → s ≡ x ro
 span_small row R L s a e = (spans row R L s a e).at_most_span
 
 -- N and W
-module _ (row : Row) (s : Duration) (f : Spans row s) (n : ℕ) (en : n ≡ s.0 / row.separation) where
-  work_within : n * row.budget ≤ s.0
-  work_within = rw en (omega (arith, div-mul-le_self s.0 row.separation, mul-le-mul_left (s.0 / row.separation) f.at_most_budget))
+module _ (row : Row) (s c p : Duration) (f : Spans row s) (ec : c.0 ≡ row.budget) (ep : p.0 ≡ row.separation) (n : ℕ) (en : n ≡ s.0 / p.0) where
+  work_within : n * c.0 ≤ s.0
+  work_within = rw (en, ep, ec) (omega (arith, div-mul-le_self s.0 row.separation, mul-le-mul_left (s.0 / row.separation) f.at_most_budget))
 
-  pub jobs_fit : Fits w64 (n * row.budget)
+  pub jobs_fit : Fits w64 (n * c.0)
   jobs_fit = omega (arith, work_within)
 
-  module _ (j l : Duration) (ej : j.0 ≡ n * row.budget) where
-    pub work_fits : (z : ℕ) → l.0 ≡ min row.budget z → Fits w64 (j.0 + l.0)
+  module _ (j l : Duration) (ej : j.0 ≡ n * c.0) where
+    pub work_fits : (z : ℕ) → l.0 ≡ min c.0 z → Fits w64 (j.0 + l.0)
     work_fits z e = omega (arith, work_within)
 
-    pub work_is : (r w : Duration) → r.0 ≡ s.0 % row.separation → l.0 ≡ min row.budget r.0 → w.0 ≡ j.0 + l.0 → w ≡ W row s
+    pub work_is : (r w : Duration) → r.0 ≡ s.0 % p.0 → l.0 ≡ min c.0 r.0 → w.0 ≡ j.0 + l.0 → w ≡ W row s
     unfolding W
-    work_is r w er el ew = ap slots (rw (← en) (omega (arith, rw (← en) at (div-add-mod' s.0 row.separation))))
+    work_is r w er el ew = ap slots (rw (← ep, ← ec, ← en) (omega (arith, rw (← en) at (div-add-mod' s.0 p.0))))
 
   pub work_small : (W row s).0 ≤ 3 * widest_separation
   unfolding W
-  work_small = rw (← en) (omega (arith, work_within))
+  work_small = rw (← ep, ← ec, ← en) (omega (arith, work_within))
 
 -- the duration, and its amount
 module _ (row : Row) (R L X : Duration) where
@@ -103,11 +103,11 @@ module _ (row : Row) (R L X : Duration) where
   amount_most b a e l m = rw e (most_amount _ _ (omega arith) (omega arith))
 
 -- how long its duration keeps pace
-module _ (row : Row) (R L X s w ran job more : Duration) (a : Above row R L) (es : s ≡ x row R L) (ew : w ≡ W row s) (er : ran.0 ≡ s.0 % row.separation)
-    (ej : job.0 ≡ row.budget - ran.0) (em : more.0 ≡ w.0 - X.0) where
+module _ (row : Row) (R L X s w c p ran job more : Duration) (a : Above row R L) (es : s ≡ x row R L) (ew : w ≡ W row s) (ec : c.0 ≡ row.budget) (ep : p.0 ≡ row.separation)
+    (er : ran.0 ≡ s.0 % p.0) (ej : job.0 ≡ c.0 - ran.0) (em : more.0 ≡ w.0 - X.0) where
   pub stay_fits : Fits w64 (job.0 + more.0)
-  stay_fits = omega (arith, number ew, work_small row s (spans row R L s a es) (s.0 / row.separation) refl)
+  stay_fits = omega (arith, number ew, work_small row s c p (spans row R L s a es) ec ep (s.0 / p.0) refl)
 
   pub stay_is : (r : Duration) → r.0 ≡ job.0 + more.0 → r ≡ stay_of row R L X
   unfolding stay_of
-  stay_is r e = ap slots (rw (← es, ← ew) (omega arith))
+  stay_is r e = ap slots (rw (← es, ← ew, ← ep) (omega arith))

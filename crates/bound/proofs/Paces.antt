@@ -30,9 +30,9 @@ module _ (h : Sheet) (R : ℕ → Duration) (k : ℕ) (r : Ready h R k) (L : Dur
       let o : LegalRow h.processors (row_at h i) = row h R k r i b in
       rw (X_more d) (omega (arith, mul-le-mul_right (min (row_at h i).threads (q h k)) (duration_grows (row_at h i) (R i) L (X h k L) d o.some_separation (omega arith) (r.low i b) s)))
 
-  pub paces_none : Paces h R k L 0 (record { width = 0; stay = slots most_separation })
+  pub paces_none : (s : Duration) → s.0 ≡ most_separation → Paces h R k L 0 (record { width = 0; stay = s })
   unfolding amounts sum
-  paces_none = record { width = omega arith; stay = omega arith; grows = λ d l. omega arith }
+  paces_none s e = record { width = omega arith; stay = omega arith; grows = λ d l. omega arith }
 
   pub paces_more : (i b g : ℕ) (a : Row) (v w s : Duration) (p t : Pace) → t ≡ joined p g s → s ≡ stay_of a v L w → g ≡ min a.threads b → Paces h R k L i p → i < k → a ≡ row_at h i → v ≡ R i
       → w ≡ X h k L → b ≡ q h k → Paces h R k L (i + 1) t
@@ -68,10 +68,10 @@ pub join_fits : (n g w : ℕ) (b : Bool) → n ≤ widest_rows * most_processors
 join_fits n g w true few small e = omega arith
 join_fits n g w false few small e = omega arith
 
-pub join_more : (p : Pace) (g w : ℕ) (s u t : Duration) (b : Bool) → b ≡ ltb 0 s.0 → w ≡ pick b g 0 → u ≡ pick b s p.stay → t.0 ≡ min p.stay.0 u.0
+pub join_more : (p : Pace) (g w : ℕ) (n s u t : Duration) (b : Bool) → n.0 ≡ 0 → b ≡ ltb n.0 s.0 → w ≡ pick b g 0 → u ≡ pick b s p.stay → t.0 ≡ min p.stay.0 u.0
     → ◌≡◌ {A = Pace} (record { width = p.width + w; stay = t }) (joined p g s)
 unfolding joined
-join_more p g w s u t b eb ew eu et = rw (← eb) (go b ew eu) where
+join_more p g w n s u t b en eb ew eu et = rw (← (rw en at eb)) (go b ew eu) where
   go : (b : Bool) → w ≡ pick b g 0 → u ≡ pick b s p.stay → ◌≡◌ {A = Pace} (record { width = p.width + w; stay = t }) (pick b (record { width = p.width + g; stay = lesser p.stay s }) p)
   go true ew eu = let e : t ≡ lesser p.stay s = ap slots (omega (arith, number eu)) in λ i. record { width = p.width + ew i; stay = e i }
   go false ew eu =

@@ -62,13 +62,13 @@ module _ (row : Row) (R : Duration) (s : Stretch) (b : ℕ) (al : Along row R s 
         (omega arith))
 
   -- whether its present separation lasts
-  module _ (z ran w : Duration) (er : ran.0 ≡ z.0 % row.separation) (ew : w.0 ≡ s.to.0 - s.from.0) where
+  module _ (z p ran w : Duration) (ep : p.0 ≡ row.separation) (er : ran.0 ≡ z.0 % p.0) (ew : w.0 ≡ s.to.0 - s.from.0) where
     pub lasts_fits : Fits w64 (ran.0 + w.0)
-    lasts_fits = omega (arith, mod-lt z.0 some_separation)
+    lasts_fits = omega (arith, rw ep at er, mod-lt z.0 some_separation)
 
-    pub lasts_is : (e : Duration) (t : Bool) → t ≡ leb e.0 row.separation → z ≡ x row R s.from → e.0 ≡ ran.0 + w.0 → t ≡ lasts row R s
+    pub lasts_is : (e o : Duration) (t : Bool) → o.0 ≡ row.separation → t ≡ leb e.0 o.0 → z ≡ x row R s.from → e.0 ≡ ran.0 + w.0 → t ≡ lasts row R s
     unfolding lasts
-    lasts_is e t et ez ee = et ∙ rw (ee, er, ew, ez)
+    lasts_is e o t eo et ez ee = et ∙ rw (eo, ee, er, ep, ew, ez)
 
   -- the code's three choices
   module _ (n t : Amount) (p z o : FineAmount) (ep : p.0 ≡ 256 * n.0) (ez : z.0 ≡ 256 * t.0) (sn : n.0 ≤ widest_separation * most_processors) (st : t.0 ≤ widest_separation * most_processors) where

@@ -9,11 +9,11 @@ use Rattle.bound.specs.Inside.Parts.{Fine}
 
 -- ---- one row
 
-module _ (row : Row) (R L X s : Duration) (p f d : Fine) (es : s ≡ x row R L) (ep : p.0 ≡ 256 * (s.0 * row.budget) / row.separation) (ef : f.0 ≡ 256 * X.0)
+module _ (row : Row) (R L X s o : Duration) (p f d : Fine) (es : s ≡ x row R L) (eo : o.0 ≡ row.separation) (ep : p.0 ≡ 256 * (s.0 * row.budget) / o.0) (ef : f.0 ≡ 256 * X.0)
     (ed : d.0 ≡ min p.0 f.0) where
   share_is : d ≡ share_of row R L X
   unfolding share_of
-  share_is = ap parts (ed ∙ rw (ep, ef, es))
+  share_is = ap parts (ed ∙ rw (ep, eo, ef, es))
 
   pub share_amount_is : (b g : ℕ) (a : FineAmount) → g ≡ min row.threads b → a.0 ≡ d.0 * g → a ≡ on_fine (share_of row R L X) (min row.threads b)
   share_amount_is b g a eg ea = ap pieces (ea ∙ rw (share_is, eg))
@@ -101,8 +101,8 @@ module _ (h : Sheet) (R : ℕ → Duration) (k : ℕ) (r : Ready h R k) (L : Dur
 
 module _ (h : Sheet) (R : ℕ → Duration) (k : ℕ) (row : Row) (er : row ≡ row_at h k) where
   -- the deadline is a length
-  pub deadline_is_length : Ready h R k → Length h k (slots row.deadline)
-  deadline_is_length r = rw er (record { low = (own_row h R k r).at_most_budget; high = omega arith })
+  pub deadline_is_length : (d : Duration) → d.0 ≡ row.deadline → Ready h R k → Length h k d
+  deadline_is_length d ed r = omega (arith, own_row h R k r, rw er at ed)
 
   pub after_deadline_fits : (n : ℕ) → Ready h R k → n ≤ widest_separation → Fits w64 (row.deadline + n)
   after_deadline_fits n r l = rw er (omega (arith, own_row h R k r))

@@ -10,8 +10,8 @@ use Rattle.bound.proofs.Paces.{X_more}
 pub steep_whole : (over : Amount) (b : ℕ) (p : Pace) → b ≤ p.width → Steep over b p p.stay
 steep_whole over b p l = let e : b - p.width ≡ 0 = omega arith in record { within_stay = omega arith; within_over = rw e (omega arith) }
 
-pub steep_part : (over : Amount) (b n : ℕ) (p : Pace) (r : Duration) → n * (b - p.width) ≤ over.0 → r.0 ≡ min p.stay.0 n → Steep over b p r
-steep_part over b n p r l e = record { within_stay = omega arith; within_over = omega (arith, mul-le-mul_right {m = r.0} {n = n} (b - p.width) (omega arith)) }
+pub steep_part : (over : Amount) (b n : ℕ) (p : Pace) (f r : Duration) → n * (b - p.width) ≤ over.0 → f.0 ≡ n → r.0 ≡ min p.stay.0 f.0 → Steep over b p r
+steep_part over b n p f r l ef e = record { within_stay = omega arith; within_over = omega (arith, mul-le-mul_right {m = r.0} {n = n} (b - p.width) (omega arith)) }
 
 pub divides : (h : Sheet) (k b : ℕ) → b ≡ q h k → 1 ≤ b
 divides h k b e = omega (arith, q_some h k)
@@ -77,8 +77,8 @@ module _ (h : Sheet) (R : ℕ → Duration) (k : ℕ) (r : Ready h R k) (L : Dur
       next_fits = omega (arith, further_small, length_small h R k r L len)
 
       module _ (e : Duration) (ee : e.0 ≡ L.0 + f.0) where
-        pub one_more_fits : (m : ℕ) → m ≤ widest_separation → Fits w64 (e.0 + m)
-        one_more_fits m l = omega (arith, further_small, length_small h R k r L len)
+        pub one_more_fits : (m : Duration) (n : ℕ) → m.0 ≡ n → n ≤ widest_separation → Fits w64 (e.0 + m.0)
+        one_more_fits m n em l = omega (arith, further_small, length_small h R k r L len)
 
         pub next_skips : (z : Duration) → z.0 ≡ e.0 + 1 → Skips h R k L z
         next_skips z ez = record { further = omega arith; fails = λ l m i. let g : l ≡ L.0 + (l - L.0) = omega arith in rw g (by (l - L.0) (omega arith)) }

@@ -77,16 +77,16 @@ module _ (h : Sheet) (R : ℕ → Duration) (k : ℕ) (r : Ready h R k) (s : Str
 
 -- ---- a step over a stretch
 
-module _ (h : Sheet) (R : ℕ → Duration) (k : ℕ) (r : Ready h R k) (row : Row) (er : row ≡ row_at h k) where
-  pub deadline_small : row.deadline ≤ widest_separation
-  deadline_small = rw er (omega (arith, own_row h R k r))
+module _ (h : Sheet) (R : ℕ → Duration) (k : ℕ) (r : Ready h R k) (row : Row) (er : row ≡ row_at h k) (l : Duration) (el : l.0 ≡ row.deadline) where
+  pub deadline_small : l.0 ≤ widest_separation
+  deadline_small = omega (arith, own_row h R k r, rw er at el)
 
-  module _ (L d e : Duration) (len : Length h k L) (ee : e.0 ≡ L.0 + d.0) (m : L.0 + d.0 ≤ row.deadline) where
+  module _ (L d e : Duration) (len : Length h k L) (ee : e.0 ≡ L.0 + d.0) (m : L.0 + d.0 ≤ l.0) where
     pub end_is_length : Length h k e
-    end_is_length = record { low = omega arith; high = omega (arith, rw er at m) }
+    end_is_length = record { low = omega arith; high = omega (arith, rw er at el) }
 
     pub after_end_fits : (n : ℕ) → n ≤ widest_separation → Fits w64 (e.0 + n)
-    after_end_fits n l = omega (arith, deadline_small)
+    after_end_fits n s = omega (arith, deadline_small)
 
     pub twice_fits : Fits w64 (2 * d.0)
     twice_fits = omega (arith, deadline_small)

@@ -1,6 +1,6 @@
 -- Rows that are added from the top: none, one more, and what their sum tells of the test. Assumes nothing.
 use Rattle.basis.specs.Prelude.{ℕ, ◌+◌, ◌≤◌, ◌<◌, min, ◌≡◌, sym, ◌∙◌, Bool, true, leb, leb-true, le-ltb, ltb, arith}
-use Rattle.bound.proofs.Names.{most_separation, row_at, Row, Sheet, slots, on, q, X, duration_of, room, passes, Ready, Length, Adds, Fills, stay_of, joined, Duration, Amount, Pace, Added}
+use Rattle.bound.proofs.Names.{most_separation, row_at, Row, Sheet, on, q, X, duration_of, room, passes, Ready, Length, Adds, Fills, stay_of, joined, Duration, Amount, Pace, Added}
 use Rattle.bound.proofs.Durations.{number_of_lem}
 use Rattle.bound.proofs.Amounts.{room_by_q, first_rows_fail, more_rows_add, sum_none, sum_more}
 use Rattle.bound.proofs.Paces.{paces_none, paces_more}
@@ -8,8 +8,8 @@ use Rattle.bound.proofs.Paces.{paces_none, paces_more}
 -- ---- what is added
 
 module _ (h : Sheet) (R : ℕ → Duration) (k : ℕ) (r : Ready h R k) (L : Duration) (len : Length h k L) where
-  pub adds_none : (s : Amount) → s.0 ≡ 0 → Adds h R k L (record { sum = s; pace = record { width = 0; stay = slots most_separation }; rows = 0 })
-  adds_none s e = record { within = omega arith; sum = sum_none h R k r L s e; pace = paces_none h R k r L len }
+  pub adds_none : (s : Amount) (t : Duration) → s.0 ≡ 0 → t.0 ≡ most_separation → Adds h R k L (record { sum = s; pace = record { width = 0; stay = t }; rows = 0 })
+  adds_none s t e f = record { within = omega arith; sum = sum_none h R k r L s e; pace = paces_none h R k r L len t f }
 
   -- one row more
   pub adds_more : (d : Added) → Adds h R k L d → (a : Row) (v w s : Duration) (b g : ℕ) (m t : Amount) (p : Pace) → d.rows < k → a ≡ row_at h d.rows → v ≡ R d.rows → w ≡ X h k L

@@ -6,7 +6,7 @@ ghost use Rattle.bound.specs.Quantities.{widest_rows};
 ghost use Rattle.bound.specs.Inside.Ready.{Above};
 ghost use Rattle.bound.specs.Inside.Skipping.{stay_of, joined, Steep};
 
-use crate::quantity::{Amount, Duration, Quantity};
+use crate::quantity::{Amount, Duration};
 use crate::test::{span_of, work_of};
 use sheet::Row;
 
@@ -24,8 +24,8 @@ pub(crate) fn stay_of_row(row: Row, bound: Duration, length: Duration, X: Durati
 {
     let x = span_of(row, bound, length);
     let W = work_of(row, x);
-    let ran = x.left(Quantity(row.separation));
-    let job = Quantity(row.budget).minus(ran);
+    let ran = x.left(Duration::of(row.separation));
+    let job = Duration::of(row.budget).minus(ran);
     job.plus(W.minus(X))
 }
 
@@ -41,7 +41,7 @@ pub(crate) fn joined(pace: Pace, capped: u64, stay: Duration) -> Pace
     requires { (pace.width ≤ widest_rows * most_processors) × (capped ≤ most_processors) }
     ensures { result ≡ joined pace capped stay }
 {
-    let stays = Quantity(0) < stay;
+    let stays = Duration::of(0) < stay;
     let width = pace.width + taken(stays, capped);
     let shared = stay.where_so(stays, pace.stay);
     Pace {
@@ -58,5 +58,5 @@ pub(crate) fn steep(over: Amount, q: u64, pace: Pace) -> Duration
         return pace.stay;
     }
     let count = over.fills(q - pace.width);
-    pace.stay.lesser(Quantity(count))
+    pace.stay.lesser(Duration::of(count))
 }

@@ -10,7 +10,7 @@ ghost use Rattle.bound.specs.Inside.Parts.{part_of, reaches};
 
 // Slots, or where it is an amount slots times processors, of which each has so many parts.
 #[derive(Clone, Copy, PartialEq, Eq, PartialOrd, Ord)]
-pub struct Quantity<const AMOUNT: bool, const PARTS: u64>(pub(crate) u64);
+pub struct Quantity<const AMOUNT: bool, const PARTS: u64>(u64);
 
 // Slots.
 pub type Duration = Quantity<false, 1>;
@@ -94,6 +94,20 @@ impl<const PARTS: u64> Quantity<false, PARTS> {
 }
 
 impl Duration {
+    // So many slots.
+    pub(crate) fn of(count: u64) -> Duration
+        ensures { result.0 ≡ count }
+    {
+        Quantity(count)
+    }
+
+    // How many slots it has.
+    pub(crate) fn slots(self) -> u64
+        ensures { result ≡ self.0 }
+    {
+        self.0
+    }
+
     // It where so, else another: of two values that are both there the compiler takes one without a jump.
     pub(crate) fn where_so(self, so: bool, other: Duration) -> Duration
         ensures { result ≡ pick so self other }

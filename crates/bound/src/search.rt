@@ -8,7 +8,7 @@ ghost use Rattle.bound.specs.Inside.Ready.{held_in, Length};
 ghost use Rattle.bound.specs.Inside.Skipping.{Adds, Fills, Skips, Says};
 
 use crate::pace::steep;
-use crate::quantity::{Duration, FineAmount, Quantity};
+use crate::quantity::{Duration, FineAmount};
 use crate::results::RowResult;
 use crate::share::no_room;
 use crate::start::first_length;
@@ -40,8 +40,8 @@ fn next_length(turn: &Turn, length: Duration, added: Added) -> Duration
     let room = room_of(turn, length);
     let over = added.sum.minus(room);
     let count = over.fills(q);
-    let further = steep(over, q, added.pace).greater(Quantity(count));
-    length.plus(further).plus(Quantity(1))
+    let further = steep(over, q, added.pace).greater(Duration::of(count));
+    length.plus(further).plus(Duration::of(1))
 }
 
 // The trial of a length of row `k`: nothing where it passes, else the next length that can, and what its sum can spare, a guide of which nothing is promised.
@@ -75,25 +75,25 @@ fn leap(turn: &Turn, at: Pursuit, next: Duration, spare: FineAmount) -> Pursuit
     ensures { Skips (sheet_in turn.now.sheet.now) (held_in turn.now.results.now) turn.now.k at.length result.length }
 {
     let row = turn.row();
-    if row.deadline < next.0 {
+    if row.deadline < next.slots() {
         return Pursuit {
             length: next,
             calm: 0,
             ..at
         };
     }
-    let reach = reach_of(at.length, next, Quantity(row.deadline), at.guess);
+    let reach = reach_of(at.length, next, Duration::of(row.deadline), at.guess);
     let end = at.length.plus(reach);
     if all_fail(turn, at.length, end, spare) {
         return Pursuit {
-            length: end.plus(Quantity(1)),
+            length: end.plus(Duration::of(1)),
             guess: reach.times(2),
             calm: 0,
         };
     }
     Pursuit {
         length: next,
-        guess: Quantity(reach.0 / 2),
+        guess: Duration::of(reach.slots() / 2),
         calm: 0,
     }
 }
@@ -104,10 +104,10 @@ fn by_shares(turn: &Turn, at: Pursuit, next: Duration) -> Pursuit
     ensures { Skips (sheet_in turn.now.sheet.now) (held_in turn.now.results.now) turn.now.k at.length result.length }
 {
     let row = turn.row();
-    let deadline = Quantity(row.deadline);
+    let deadline = Duration::of(row.deadline);
     if no_room(turn, deadline) {
         return Pursuit {
-            length: deadline.plus(Quantity(1)),
+            length: deadline.plus(Duration::of(1)),
             calm: 0,
             ..at
         };
@@ -144,13 +144,13 @@ pub(crate) fn bound_of(turn: &Turn) -> RowResult
     let row = turn.row();
     let mut at = Pursuit {
         length: first_length(turn),
-        guess: Quantity(0),
+        guess: Duration::of(0),
         calm: CALM,
     };
     // It goes from length to length, and counts nothing.
-    while at.length.0 <= row.deadline {
+    while at.length.slots() <= row.deadline {
         let Some((next, spare)) = try_length(turn, at.length) else {
-            return RowResult::Bound(at.length.0);
+            return RowResult::Bound(at.length.slots());
         };
         at = further(turn, at, next, spare);
     }

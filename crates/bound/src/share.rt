@@ -8,7 +8,7 @@ ghost use Rattle.bound.specs.Inside.Parts.{on_fine};
 ghost use Rattle.bound.specs.Inside.Ready.{held_in, Length, Above};
 ghost use Rattle.bound.specs.Inside.Skipping.{share_of, Shares, AllFail};
 
-use crate::quantity::{Duration, FineAmount, Quantity};
+use crate::quantity::{Duration, FineAmount};
 use crate::test::{fewer, q_of, room_of, span_of, window_of};
 use crate::turn::Turn;
 use sheet::Row;
@@ -25,7 +25,7 @@ pub(crate) fn share_above(
     ensures { result ≡ on_fine (share_of row bound length X) (min row.threads q) }
 {
     let x = span_of(row, bound, length);
-    let part = x.part(row.budget, Quantity(row.separation));
+    let part = x.part(row.budget, Duration::of(row.separation));
     let share = part.lesser(X.fine());
     share.on(fewer(row.threads, q))
 }

@@ -6,7 +6,7 @@ ghost use Rattle.bound.specs.Test.{C};
 ghost use Rattle.bound.specs.Inside.Ready.{held_in, Above};
 ghost use Rattle.bound.specs.Inside.Skipping.{carried_of, Starts};
 
-use crate::quantity::{Duration, Quantity};
+use crate::quantity::Duration;
 use crate::turn::Turn;
 use sheet::{Row, processors};
 
@@ -15,8 +15,8 @@ fn carried(m: u64, row: Row, above: Row, bound: Duration) -> Duration
     requires { (Above above bound (C row)) × (row.threads ≤ most_processors) }
     ensures { result ≡ carried_of m row above bound }
 {
-    let budget = Quantity(row.budget);
-    let waits = bound.after(Quantity(above.budget));
+    let budget = Duration::of(row.budget);
+    let waits = bound.after(Duration::of(above.budget));
     let longer = waits.plus(budget);
     let together = bound.where_so(m < above.threads + row.threads, budget);
     let later = longer.where_so(above.budget <= row.budget, together);
@@ -29,7 +29,7 @@ pub(crate) fn first_length(turn: &Turn) -> Duration
 {
     let m = processors(turn.sheet);
     let row = turn.row();
-    let mut first = Quantity(row.budget);
+    let mut first = Duration::of(row.budget);
     for j in 0..turn.k {
         let (above, bound) = turn.above(j);
         let later = carried(m, row, above, bound);

@@ -5,7 +5,7 @@ ghost use Rattle.sheet.specs.Lists.{sheet_in};
 ghost use Rattle.bound.specs.Inside.Ready.{held_in, Length};
 ghost use Rattle.bound.specs.Inside.Skipping.{Stretches, Along, RowMeets, RowsMeet, lasts, AllFail};
 
-use crate::quantity::{Duration, FineAmount, Quantity};
+use crate::quantity::{Duration, FineAmount};
 use crate::share::share_above;
 use crate::test::{amount_above, q_of, room_of, span_of, window_of};
 use crate::turn::Turn;
@@ -34,9 +34,9 @@ fn lasts(row: Row, bound: Duration, s: Stretch, q: u64) -> bool
     ensures { result ≡ lasts row bound s }
 {
     let x = span_of(row, bound, s.from);
-    let ran = x.left(Quantity(row.separation));
+    let ran = x.left(Duration::of(row.separation));
     let end = ran.plus(s.to.after(s.from));
-    end <= Quantity(row.separation)
+    end <= Duration::of(row.separation)
 }
 
 // The ends of a row above whose present separation lasts: its own amounts.

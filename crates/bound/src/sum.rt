@@ -8,7 +8,7 @@ ghost use Rattle.bound.specs.Inside.Ready.{held_in, Length};
 ghost use Rattle.bound.specs.Inside.Skipping.{Adds, Fills};
 
 use crate::pace::{Pace, joined, stay_of_row};
-use crate::quantity::{Amount, Duration, Quantity};
+use crate::quantity::{Amount, Duration};
 use crate::test::{amount_above, fewer, q_of, room_of, window_of};
 use crate::turn::Turn;
 use basis::MOST_SEPARATION;
@@ -50,7 +50,7 @@ pub(crate) fn sum_above(turn: &Turn, length: Duration) -> Added
         sum: Amount::none(),
         pace: Pace {
             width: 0,
-            stay: Quantity(MOST_SEPARATION),
+            stay: Duration::of(MOST_SEPARATION),
         },
         rows: 0,
     };

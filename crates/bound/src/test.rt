@@ -6,7 +6,7 @@ ghost use Rattle.bound.specs.Quantities.{widest_separation, on};
 ghost use Rattle.bound.specs.Test.{q, X, x, W, duration_of, room};
 ghost use Rattle.bound.specs.Inside.Ready.{Length, Above, Spans};
 
-use crate::quantity::{Amount, Duration, Quantity};
+use crate::quantity::{Amount, Duration};
 use crate::turn::Turn;
 use sheet::{Row, processors};
 
@@ -31,8 +31,8 @@ pub(crate) fn window_of(turn: &Turn, length: Duration) -> Duration
     ensures { result ≡ X (sheet_in turn.now.sheet.now) turn.now.k length }
 {
     let row = turn.row();
-    let before = length.after(Quantity(row.budget));
-    before.plus(Quantity(1))
+    let before = length.after(Duration::of(row.budget));
+    before.plus(Duration::of(1))
 }
 
 // x, of a row above with this bound. The row, its bound, a length, X and q are handed on one by one, here and in the files on paces, shares, sums and stretches: with a struct
@@ -42,7 +42,7 @@ pub(crate) fn span_of(row: Row, bound: Duration, length: Duration) -> Duration
     ensures { result ≡ x row bound length }
 {
     let end = length.plus(bound);
-    end.after(Quantity(row.budget))
+    end.after(Duration::of(row.budget))
 }
 
 // W, of a row above in so many slots.
@@ -50,8 +50,8 @@ pub(crate) fn work_of(row: Row, x: Duration) -> Duration
     requires { Spans row x }
     ensures { result ≡ W row x }
 {
-    let budget = Quantity(row.budget);
-    let separation = Quantity(row.separation);
+    let budget = Duration::of(row.budget);
+    let separation = Duration::of(row.separation);
     let periods = x.rounds(separation);
     let jobs = budget.times(periods);
     let rest = x.left(separation);

@@ -4,7 +4,7 @@ ghost use Rattle.sheet.specs.Legal.{row_at};
 ghost use Rattle.sheet.specs.Lists.{sheet_in};
 ghost use Rattle.bound.specs.Inside.Ready.{held_in, Lent, Ready};
 
-use crate::quantity::{Duration, Quantity};
+use crate::quantity::Duration;
 use crate::row::row_inside;
 use sheet::Row;
 
@@ -31,6 +31,9 @@ impl<'a> Turn<'a> {
         requires { i < self.now.k }
         ensures { (result.0 ≡ row_at (sheet_in self.now.sheet.now) i) × (result.1 ≡ held_in self.now.results.now i) }
     {
-        (row_inside(self.sheet, i), Quantity(self.results[i * 2 + 1]))
+        (
+            row_inside(self.sheet, i),
+            Duration::of(self.results[i * 2 + 1]),
+        )
     }
 }

@@ -83,8 +83,8 @@ search_starts h R k L s =
     sym (least_skip (passes_at passes h R k) (L.0 - (row_at h k).budget) (row_at h k).budget L.0 ((row_at h k).deadline + 1) (omega arith) s.fails)
 
 module _ (h : Sheet) (R : ℕ → Duration) (k : ℕ) (row : Row) (er : row ≡ row_at h k) where
-  pub length_of_row : (L : Duration) → (row_at h k).budget ≤ L.0 → L.0 ≤ row.deadline → Length h k L
-  length_of_row L a b = record { low = a; high = rw er at b }
+  pub length_of_row : (L : Duration) (n : ℕ) → (row_at h k).budget ≤ L.0 → n ≤ row.deadline → n ≡ L.0 → Length h k L
+  length_of_row L n a b en = record { low = a; high = rw (er, en) at b }
 
   module _ (L : Duration) where
     told_passes : (t : Option (Duration × FineAmount)) → Says h R k L t → t ≡ None → passes h R k L ≡ true
@@ -95,15 +95,15 @@ module _ (h : Sheet) (R : ℕ → Duration) (k : ℕ) (row : Row) (er : row ≡ 
     told_next None n o s e = never (cc)
     told_next (Some m) n o s e = let z : m ≡ (n, o) = cc in rw z at s
 
-    pub search_less : (n : Duration) → Skips h R k L n → L.0 ≤ row.deadline → (row_at h k).deadline + 1 - n.0 < (row_at h k).deadline + 1 - L.0
-    search_less n s b = omega (arith, rw er at b)
+    pub search_less : (n : Duration) (m : ℕ) → Skips h R k L n → m ≤ row.deadline → m ≡ L.0 → (row_at h k).deadline + 1 - n.0 < (row_at h k).deadline + 1 - L.0
+    search_less n m s b em = omega (arith, rw er at b)
 
     module _ (i : least (passes_at passes h R k) L.0 ((row_at h k).deadline + 1 - L.0) ≡ bound_by passes h R k) where
-      pub search_found : (t : Option (Duration × FineAmount)) → Says h R k L t → t ≡ None → L.0 ≤ row.deadline → bound L.0 ≡ bound_by passes h R k
-      search_found t s e b = sym (least_hit (passes_at passes h R k) L.0 ((row_at h k).deadline + 1) (omega (arith, rw er at b)) (told_passes t s e)) ∙ i
+      pub search_found : (t : Option (Duration × FineAmount)) (n m : ℕ) → n ≡ L.0 → Says h R k L t → t ≡ None → m ≤ row.deadline → m ≡ L.0 → bound n ≡ bound_by passes h R k
+      search_found t n m en s e b em = rw en (sym (least_hit (passes_at passes h R k) L.0 ((row_at h k).deadline + 1) (omega (arith, rw er at b)) (told_passes t s e)) ∙ i)
 
       pub search_more : (n : Duration) → Skips h R k L n → least (passes_at passes h R k) n.0 ((row_at h k).deadline + 1 - n.0) ≡ bound_by passes h R k
       search_more n w = sym (least_skip (passes_at passes h R k) (n.0 - L.0) L.0 n.0 ((row_at h k).deadline + 1) (omega arith) w.fails) ∙ i
 
-      pub search_ends : row.deadline < L.0 → none ≡ bound_by passes h R k
-      search_ends b = sym (least_none (passes_at passes h R k) L.0 ((row_at h k).deadline + 1) (omega (arith, rw er at b))) ∙ i
+      pub search_ends : (n : ℕ) → row.deadline < n → n ≡ L.0 → none ≡ bound_by passes h R k
+      search_ends n b en = sym (least_none (passes_at passes h R k) L.0 ((row_at h k).deadline + 1) (omega (arith, rw er at b))) ∙ i

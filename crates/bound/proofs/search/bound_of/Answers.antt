@@ -3,8 +3,8 @@ use Rattle.basis.specs.Prelude.{rules, le_of_lt}
 use Rattle.bound.proofs.Inside.Lengths.{search_starts, length_of_row, search_less, told_next, search_found, search_more, search_ends}
 use Rattle.bound.proofs.search.bound_of.Goals as goal
 
-pub loop-at-init : goal.loop-at-init
-loop-at-init c = (search rules, search search_starts)
+pub loop-row-init : goal.loop-row-init
+loop-row-init c = (search rules, search search_starts)
 
 pub try_length-requires : goal.try_length-requires
 try_length-requires c = search length_of_row
@@ -15,11 +15,11 @@ returns-in_default c = search search_found
 pub further-at-requires : goal.further-at-requires
 further-at-requires c = (search length_of_row, search told_next)
 
-pub loop-at-smaller : goal.loop-at-smaller
-loop-at-smaller c = search (search_less, le_of_lt)
+pub loop-row-smaller : goal.loop-row-smaller
+loop-row-smaller c = search (search_less, le_of_lt)
 
-pub loop-at-preserved : goal.loop-at-preserved
-loop-at-preserved c = (search rules, search search_more)
+pub loop-row-preserved : goal.loop-row-preserved
+loop-row-preserved c = (search rules, search search_more)
 
 pub returns : goal.returns
 returns c = search search_ends

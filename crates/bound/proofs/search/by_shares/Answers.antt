@@ -10,4 +10,4 @@ pub plus-requires : goal.plus-requires
 plus-requires c = search (after_deadline_fits, rules)
 
 pub returns-then-no_room : goal.returns-then-no_room
-returns-then-no_room c = search past_deadline
+returns-then-no_room c = search (past_deadline, ← c.of-deadline.ensures, ← c.of.ensures)

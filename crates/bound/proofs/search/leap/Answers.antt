@@ -16,4 +16,4 @@ pub times-requires : goal.times-requires
 times-requires c = search twice_fits
 
 pub returns-then-all_fail : goal.returns-then-all_fail
-returns-then-all_fail c = search over_skips
+returns-then-all_fail c = search (over_skips, ← c.of-then-all_fail.ensures)

@@ -7,10 +7,10 @@ pub fills-count-requires : goal.fills-count-requires
 fills-count-requires c = search divides
 
 pub plus-requires : goal.plus-requires
-plus-requires c = search (next_fits, rules)
+plus-requires c = search (next_fits, rw c.of.ensures at c.greater-further.ensures, rules)
 
 pub plus-requires-2 : goal.plus-requires-2
-plus-requires-2 c = search (one_more_fits, rules)
+plus-requires-2 c = search (one_more_fits, rw c.of.ensures at c.greater-further.ensures, rules)
 
 pub returns : goal.returns
-returns c = search next_skips
+returns c = search (next_skips, rw c.of.ensures at c.greater-further.ensures, rw c.of-2.ensures at c.plus-2.ensures)
