@@ -48,15 +48,27 @@ pub(crate) fn put_record(list: &mut [u64], k: usize, s: RowState)
     list[at + 1] = s.job.since;
 }
 
-// Whether every number of a list is zero. It is no `all`: without a test in each turn the numbers are taken several at a time, and a slot by itself is faster by a tenth where rows are few.
-fn is_zero(list: &[u64]) -> bool
-    ensures { IsTrue result ↔ EachIndex list.now (λ k. slice_index list.now k ≡ 0) }
+// Whether every number of a part of a list is zero. It is no `all`: without a test in each turn the numbers are taken several at a time, and a slot by itself is faster by a tenth where rows are few.
+fn is_blank(part: &[u64]) -> bool
+    ensures { IsTrue result ↔ EachIndex part.now (λ k. slice_index part.now k ≡ 0) }
 {
     let mut bits = 0;
-    for x in list {
+    for x in part {
         bits |= *x;
     }
     bits == 0
+}
+
+// Whether every number of a list is zero: part after part, so that a long list is left soon after its first number that is not.
+fn is_zero(list: &[u64]) -> bool
+    ensures { IsTrue result ↔ EachIndex list.now (λ k. slice_index list.now k ≡ 0) }
+{
+    for part in list.chunks(STATE_LONG) {
+        if !is_blank(part) {
+            return false;
+        }
+    }
+    true
 }
 
 // Whether the state in a list is legal for a sheet: a list that ends before its last record is not.

@@ -1,8 +1,26 @@
 -- Whether every number of a list is zero from a place on. Assumes nothing.
-use Rattle.basis.specs.Prelude.{ℕ, ◌+◌, ◌-◌, ◌≤◌, ◌<◌, ◌≡◌, refl, sym, ap, ◌∙◌, Bool, true, false, List, ⊎_elim, length, get_or, drop, length-drop, get_or-drop, get_or-eq_default, arith, lt-ltb, le-ltb, eqb-true}
+use Rattle.basis.specs.Prelude.{ℕ, ◌+◌, ◌-◌, ◌≤◌, ◌<◌, ◌≡◌, refl, sym, ap, ◌∙◌, Bool, true, false, List, ◌++◌, ⊎_elim, length, get_or, drop, length-append, length-drop, get_or-append, get_or-append-add, get_or-drop, get_or-eq_default, arith, lt-ltb, le-ltb, eqb-true}
 use Rattle.basis.specs.Words.{all_of}
 use Rattle.basis.proofs.Inside.Words.{all_one_more}
 use Rattle.machine.proofs.Names.{lt_or_le, all_at, all_true, true_not_false, not_so, number_at, zero_at, zero_from}
+
+-- every number of a list is zero
+abbrev pub Blank : List ℕ → Type 0
+Blank l = (k : ℕ) → k < length l → get_or l k 0 ≡ 0
+
+-- a list is, just where its first part is and the rest
+module _ (l x r : List ℕ) (is : l ≡ x ++ r) where
+  pub blank_first : Blank l → Blank x
+  blank_first b k i = sym (rw is (get_or-append x r 0 k i)) ∙ b k (omega (arith, ap length is, length-append x r))
+
+  pub blank_rest : Blank l → Blank r
+  blank_rest b k i = sym (rw is (get_or-append-add x r k 0)) ∙ b (length x + k) (omega (arith, ap length is, length-append x r))
+
+  pub blank_both : Blank x → Blank r → Blank l
+  blank_both a b k i = ⊎_elim
+      (λ m. rw is (get_or-append x r 0 k m) ∙ a k m)
+      (λ m. let e : length x + (k - length x) ≡ k = omega arith in sym (ap (λ n. get_or l n 0) e) ∙ rw is (get_or-append-add x r (k - length x) 0) ∙ b (k - length x) (omega (arith, ap length is, length-append x r)))
+      (lt_or_le k (length x))
 
 -- a list whose numbers are all zero from a place on, and what it shows of each
 pub all_zero : (from : ℕ) (l : List ℕ) → ((i : ℕ) → i < length l → from ≤ i → number_at l i ≡ 0) → zero_from from l ≡ true

@@ -1,13 +1,9 @@
--- `is_zero` meets its promise. Assumes nothing.
-use Rattle.std.proofs.lemmas.Nat.{le_or_l, le_or_r}
-use Rattle.std.proofs.Common.{below_more}
-use Rattle.basis.specs.Prelude.{ℕ, arith, get_or}
+-- `is_zero` meets its promise: a part that is all zero is taken off. Assumes nothing.
+use Rattle.machine.proofs.Inside.Zeros.{Blank, blank_rest, blank_both}
 use Rattle.machine.proofs.places.is_zero.Goals as goal
 
-pub loop-x-preserved : goal.loop-x-preserved
-loop-x-preserved c =
-    let bits = c.loop-x.bits in
-    let x : ℕ = get_or c.args.list.now c.loop-x.x-index 0 in (
-      λ e. below_more _ _ (c.loop-x.invariant.0 (omega (arith, le_or_l bits x))) (omega (arith, le_or_r bits x)),
-      λ all. rw (c.loop-x.invariant.1 (λ k b. all k (omega arith)), all c.loop-x.x-index (omega arith)),
-    )
+pub loop-part-preserved : goal.loop-part-preserved
+loop-part-preserved c =
+    let steps = c.in-Some.ensures.steps in
+    let zero : Blank c.in-Some.part.now = c.is_blank.ensures.0 c.if-not-is_blank.false in
+    (λ b. c.loop-part.invariant.0 (blank_both _ _ _ steps.1.0 zero b), λ b. blank_rest _ _ _ steps.1.0 (c.loop-part.invariant.1 b))
