@@ -1,6 +1,7 @@
 -- Two answers that one promise allows are equal. Assumes nothing.
-use Rattle.std.specs.Prelude.{Result}
-use Rattle.basis.specs.Prelude.{◌≡◌, sym, ap, ◌∙◌, Bool}
+use Rattle.std.specs.Prelude.{Result, Ok, Err}
+use Rattle.std.specs.Result.{is_ok}
+use Rattle.basis.specs.Prelude.{◌≡◌, refl, sym, ap, ◌∙◌, Bool}
 use Rattle.basis.specs.Refusals.{Outcome, outcome, is_accepted}
 use Rattle.basis.specs.declared.refusal.Refusal.{Refusal}
 use Rattle.basis.proofs.Refusals.{outcome_one_to_one}
@@ -28,3 +29,8 @@ outcome_same x a b m n e f =
 -- `is_accepted`
 pub is_accepted_same : (r : Result (Unit {0}) Refusal) (a b : Bool) → a ≡ is_accepted (outcome r) → b ≡ is_accepted (outcome r) → a ≡ b
 is_accepted_same r = same (is_accepted (outcome r))
+
+-- and the kit's `is_ok` tells it
+pub is_ok_is_accepted : (r : Result (Unit {0}) Refusal) → is_ok r ≡ is_accepted (outcome r)
+is_ok_is_accepted (Ok u) = refl
+is_ok_is_accepted (Err e) = refl

@@ -1,6 +1,5 @@
 -- Stores one after another, and past the end. Assumes nothing.
-use borrow.Rule.Slice.PartMut.{put_mid}
-use Rattle.basis.specs.Prelude.{ℕ, append_assoc, min, drop-drop, length-drop, length-sets, length-take-le, take-append-drop, suc, ◌+◌, ◌-◌, ◌≤◌, ◌<◌, ◌≡◌, refl, sym, ap, ◌∙◌, List, [], ◌∷◌, ◌++◌, arith, length, length-set, add-zero, set, set_out, take, take_at, drop, sets, sets-eq}
+use Rattle.basis.specs.Prelude.{ℕ, suc, ◌+◌, ◌-◌, ◌≤◌, ◌<◌, ◌≡◌, refl, sym, ap, ap₂, ◌∙◌, List, [], ◌∷◌, ◌++◌, arith, length, length-set, get_or, add-zero, add-one, set, set_out, take, take_at, drop, drop-cons, drop_of_length-le, sets, sets-eq}
 
 pub sets_after : (l : List ℕ) (i : ℕ) (xs ys : List ℕ) → sets (sets l i xs) (i + length xs) ys ≡ sets l i (xs ++ ys)
 sets_after l i [] ys = ap (λ (k : ℕ). sets l k ys) (add-zero i)
@@ -19,19 +18,19 @@ sets_front l xs r =
     let z : 0 + length xs ≤ length l = omega arith in
     ap (take (length xs)) (sets-eq xs l 0 z) ∙ take_at xs (drop (0 + length xs) l) (length xs) refl
 
--- nothing is stored where nothing is left, or no room is
-sets_past : (l : List ℕ) (i : ℕ) (xs : List ℕ) → (0 < length xs → length l ≤ i) → sets l i xs ≡ l
-sets_past l i [] h = refl
-sets_past l i (x ∷ xs) h = sets_out l i (x ∷ xs) (h (omega arith))
+-- the loop of `put_bytes`, which has stored i bytes and has the others to store
+module _ (l₀ l : List ℕ) (at i : ℕ) (xs : List ℕ) (so_far : sets l₀ at xs ≡ sets l (at + i) (drop i xs)) where
+  pub put_more : i < length xs → sets l₀ at xs ≡ sets (set l (at + i) (get_or xs i 0)) (at + (i + 1)) (drop (i + 1) xs)
+  put_more h =
+      let next : suc (at + i) ≡ at + (i + 1) = omega arith in
+      so_far ∙ ap (sets l (at + i)) (drop-cons xs i 0 h)
+      ∙ ap₂ (λ (k : ℕ) (j : ℕ). sets (set l (at + i) (get_or xs i 0)) k (drop j xs)) next (sym (add-one i))
 
--- what `put_bytes` copies, as far as there is room, is all that is stored
-pub sets_room : (l : List ℕ) (at n : ℕ) (xs : List ℕ) → n ≡ min (length xs) (length l - at) → at ≤ length l → put_mid at (at + n - at) l (take n xs) ≡ sets l at xs
-sets_room l at n xs e h =
-    let k : length (take n xs) ≡ n = length-take-le n xs (omega arith) in
-    let fits : at + length (take n xs) ≤ length l = omega arith in
-    let same_size : length (sets l at (take n xs)) ≡ length l = length-sets l at (take n xs) in
-    let front : sets l at (take n xs) ≡ take at l ++ take n xs ++ drop (at + length (take n xs)) l = sets-eq (take n xs) l at fits in
-    let back : drop (at + n - at) (drop at l) ≡ drop (at + length (take n xs)) l = ap (λ (j : ℕ). drop j (drop at l)) (omega arith) ∙ drop-drop (length (take n xs)) at l in
-    ap (λ (z : List ℕ). take at l ++ (take n xs ++ z)) back ∙ sym (append_assoc (take at l) (take n xs) _) ∙ sym front
-    ∙ sym (sets_past (sets l at (take n xs)) (at + length (take n xs)) (drop n xs) (λ some. omega (arith, length-drop n xs)))
-    ∙ sets_after l at (take n xs) (drop n xs) ∙ ap (sets l at) (take-append-drop n xs)
+  pub put_full : (room : ℕ) → room ≡ length l₀ - at → length l ≡ length l₀ → room ≤ i → l ≡ sets l₀ at xs
+  put_full room e same h = sym (so_far ∙ sets_out l (at + i) (drop i xs) (omega arith))
+
+  pub put_whole : length xs ≤ i → l ≡ sets l₀ at xs
+  put_whole h = sym (so_far ∙ ap (sets l (at + i)) (drop_of_length-le xs h))
+
+pub put_none : (l : List ℕ) (at : ℕ) (xs : List ℕ) → sets l at xs ≡ sets l (at + 0) (drop 0 xs)
+put_none l at xs = ap (λ (k : ℕ). sets l k xs) (sym (add-zero at))
