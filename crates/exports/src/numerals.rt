@@ -33,6 +33,7 @@ pub extern "C" fn giachimu_number_up_to(
 ) -> u64
     ensures { ((result, place.new), (value.new, after.new)) ≡ up_to_on bytes.now at most (value.old, after.old) }
 {
+    // A match, since the error is a number and a place, which are told as they are.
     match numbers::read_up_to(bytes, at, most, 7, 8) {
         Ok((v, next)) => {
             *value = v;
