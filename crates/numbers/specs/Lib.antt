@@ -1,3 +1,4 @@
 pub mod Numbers
 pub mod Cases
 pub mod Wrong
+pub mod Inside

@@ -1,11 +1,10 @@
 -- A number: groups of seven bits, the lowest first, the top bit set where another follows, in the shortest form only.
-use Rattle.std.specs.Prelude.{Result, Ok, Err, ◌≡◌, ◌+◌, ◌-◌, ◌*◌, ◌/◌, ◌%◌, ◌∷◌}
+use Rattle.std.specs.Prelude.{Result, Ok, Err, ◌+◌, ◌-◌, ◌*◌, ◌/◌, ◌%◌, ◌∷◌}
 use Rattle.basis.specs.Prelude.{ℕ, zero, suc, List, [], length, ltb, leb, eqb}
 use Rattle.basis.specs.Limits.{most_groups}
 use Rattle.basis.specs.Words.{pick}
 use Rattle.basis.specs.Refusals.{told}
 use Rattle.basis.specs.Readers.{Step, ok, refuse, Reader, ◌>>=◌, give, refuse_at, here, byte}
-use Rattle.basis.specs.declared.refusal.Refusal.{Refusal}
 
 -- At most g groups more of a number whose first byte is at first, the last of them at least least: 2 where the bytes end, 3 where no group is left or the
 -- last is too small.
@@ -51,16 +50,6 @@ abbrev pub ranged : ℕ → ℕ × ℕ → ℕ × ℕ → Reader ℕ
 ranged most under over = do
   v ← number
   pick (eqb v 0) (refuse_at under.0 under.1) (pick (leb v most) (give v) (refuse_at over.0 over.1))
-
--- What is answered of a number that is read, with errors of any type into which refusals are made: its value in the range, an error where it is zero, and another where it is over;
--- where it is refused, an error that is made of the refusal by its number and place.
-abbrev pub InRange : {E : Type 0} → (Refusal → E → Type 0) → ℕ → E → E → Step ℕ → Result (ℕ × ℕ) E → Type 0
-InRange makes most under over (ok v next) r = r ≡ pick (eqb v 0) (Err under) (pick (leb v most) (Ok (v, next)) (Err over))
-InRange {E} makes most under over (refuse k p) r = (x : Refusal) × (e : E) × (told x ≡ (k, p)) × makes x e × (r ≡ Err e)
-
--- What reading it answers.
-abbrev pub UpTo : {E : Type 0} → (Refusal → E → Type 0) → ℕ → E → E → List ℕ → ℕ → Result (ℕ × ℕ) E → Type 0
-UpTo makes most under over s at r = InRange makes most under over (number s at) r
 
 -- The encoding of a value, in at most g groups.
 unfoldable pub spelt : ℕ → ℕ → List ℕ

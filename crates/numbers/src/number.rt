@@ -2,7 +2,8 @@
 ghost use Rattle.std.specs.Prelude.{◌≡◌};
 ghost use Rattle.basis.specs.Readers.{step};
 ghost use Rattle.basis.specs.Refusals.{told};
-ghost use Rattle.numbers.specs.Numbers.{number, up_to, ranged, step_as_told, UpTo};
+ghost use Rattle.numbers.specs.Numbers.{number, up_to, ranged, step_as_told};
+ghost use Rattle.numbers.specs.Inside.Ranges.{UpTo};
 
 use basis::{MOST_GROUPS, Refusal};
 

@@ -8,11 +8,8 @@ use Rattle.machine.proofs.Names.{lt_or_le, all_at, all_true, true_not_false, not
 abbrev pub Blank : List ℕ → Type 0
 Blank l = (k : ℕ) → k < length l → get_or l k 0 ≡ 0
 
--- a list is, just where its first part is and the rest
+-- where a list is, its rest is, and where its first part is and the rest, it is
 module _ (l x r : List ℕ) (is : l ≡ x ++ r) where
-  pub blank_first : Blank l → Blank x
-  blank_first b k i = sym (rw is (get_or-append x r 0 k i)) ∙ b k (omega (arith, ap length is, length-append x r))
-
   pub blank_rest : Blank l → Blank r
   blank_rest b k i = sym (rw is (get_or-append-add x r k 0)) ∙ b (length x + k) (omega (arith, ap length is, length-append x r))
 
@@ -39,7 +36,7 @@ module _ (from : ℕ) (l x : List ℕ) (is : x ≡ drop from l) where
   rest_at : (k : ℕ) → get_or x k 0 ≡ number_at l (from + k)
   rest_at k = rw is (get_or-drop from l k 0)
 
-  pub zero_rest : (r : Bool) → (r ≡ true → (k : ℕ) → k < length x → get_or x k 0 ≡ 0) → (((k : ℕ) → k < length x → get_or x k 0 ≡ 0) → r ≡ true) → r ≡ zero_from from l
+  pub zero_rest : (r : Bool) → (r ≡ true → Blank x) → (Blank x → r ≡ true) → r ≡ zero_from from l
   zero_rest true so back =
       sym (all_zero from l (λ i b a. let e : from + (i - from) ≡ i = omega arith in sym (ap (number_at l) e) ∙ sym (rest_at (i - from)) ∙ so refl (i - from) (omega (arith, rest_long))))
   zero_rest false so back = sym (not_so (zero_from from l) (λ e. true_not_false (sym (back (λ k b. rest_at k ∙ each_zero from l e (from + k) (omega arith))))))
